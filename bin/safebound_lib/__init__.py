@@ -1,3 +1,11 @@
 """The friendly command around the proved program: it explains, helps and finds things, and changes no answer."""
+import os
+import sys
 
 VERSION = "0.2"
+
+# The package `safebound` reads texts. It lies beside this folder where the command is installed, and in python/ of
+# the repository.
+_BESIDE = os.path.dirname(os.path.dirname(os.path.realpath(__file__)))
+_REPOSITORY = os.path.join(os.path.dirname(_BESIDE), "python")
+sys.path.insert(0, _BESIDE if os.path.isdir(os.path.join(_BESIDE, "safebound")) else _REPOSITORY)

@@ -5,14 +5,16 @@ import json
 from dataclasses import dataclass
 from typing import TYPE_CHECKING
 
+from safebound.plan_texts import read_audit, read_plan
+
 from . import program
 from .explain import Run, read
-from .plans import option_of, read_audit, read_plan
 from .query import found_of, references_of
 from .table import ACCURACY, BUDGET, COUNT, KEYS, REDUCE, USUAL_BUDGET
+from .words import option_of
 
 if TYPE_CHECKING:
-    from .plans import Plan
+    from safebound.plan_texts import PlanText
     from .query import Joined, Query, Test
     from .schema import Schema
     from .words import Line
@@ -41,7 +43,7 @@ class Condition:
     step: int
 
 
-def conditions_of(run: Run, plan: Plan) -> list[Condition]:
+def conditions_of(run: Run, plan: PlanText) -> list[Condition]:
     """The conditions of the query of a run, each with the first level or node of the plan at which it holds."""
     text, query, schema = read(run.query_file), run.query, run.schema
     steps = (
@@ -51,7 +53,7 @@ def conditions_of(run: Run, plan: Plan) -> list[Condition]:
     return [one_condition(text, query, schema, conjunct, steps, plan) for conjunct in query.conjuncts()]
 
 
-def as_json(run: Run, plan: Plan, rows: list[int] | None) -> dict[str, object]:
+def as_json(run: Run, plan: PlanText, rows: list[int] | None) -> dict[str, object]:
     query, conditions, step = run.query, conditions_of(run, plan), "node" if plan.is_tree else "level"
     return {
         "command": run.command,
@@ -85,7 +87,7 @@ def accuracy_in(file: str) -> int:
     return int(read(file).split(b"\n", 1)[0].rpartition(b" ")[2])
 
 
-def of_levels(plan: Plan) -> list[set[str]]:
+def of_levels(plan: PlanText) -> list[set[str]]:
     """The entries of each level."""
     order = [alias for alias, _ in plan.levels]
     return [set(order[:k + 1]) for k in range(len(order))]
@@ -95,7 +97,7 @@ def at_step(conditions: list[Condition], number: int) -> list[str]:
     return [c.text for c in conditions if c.step == number and len(c.entries) > 1]
 
 
-def levels_of(plan: Plan, rows: list[int] | None, conditions: list[Condition]) -> list[dict[str, object]]:
+def levels_of(plan: PlanText, rows: list[int] | None, conditions: list[Condition]) -> list[dict[str, object]]:
     return [
         {
             "level": k, "entry": alias, "bound": bound, **({"rows": rows[k - 1]} if rows else {}),
@@ -105,14 +107,14 @@ def levels_of(plan: Plan, rows: list[int] | None, conditions: list[Condition]) -
     ]
 
 
-def nodes_of(plan: Plan, rows: list[int] | None, conditions: list[Condition]) -> list[dict[str, object]]:
+def nodes_of(plan: PlanText, rows: list[int] | None, conditions: list[Condition]) -> list[dict[str, object]]:
     return [{"node": k, "left": node.left, "right": node.right, "entries": plan.leaves(k), "bound": node.bound,
              **({"rows": rows[k - len(plan.scans)]} if rows else {}), "conditions": at_step(conditions, k)}
             for k, node in enumerate(plan.nodes, len(plan.scans))]
 
 
 def one_condition(
-    text: bytes, query: Query, schema: Schema, conjunct: Joined | Test, steps: list[set[str]], plan: Plan
+    text: bytes, query: Query, schema: Schema, conjunct: Joined | Test, steps: list[set[str]], plan: PlanText
 ) -> Condition:
     named = {found_of(query, reference, schema)[0].name for reference in references_of(conjunct)}
     entries = [entry.name for entry in query.entries if entry.name in named]

@@ -6,8 +6,9 @@ from __future__ import annotations
 from dataclasses import dataclass, field
 from typing import Any, Dict, List, Tuple, TYPE_CHECKING
 
+from safebound.sql_texts import number_of, text_of, written_text
+
 from .query import Joined, Literal, Reference, equality, meant, references_of
-from .tokens import number_of
 
 if TYPE_CHECKING:
     from .query import Entry, Query, Test as Comparison
@@ -57,9 +58,9 @@ def read_pairs(text: str) -> Pairs:
     for line in text.splitlines():
         kind, *words = line.split(" ")
         if kind == "table":
-            table = text_of(words[0])
+            table = text_in(words[0])
         elif kind == "pair":
-            pair = found[table, text_of(words[0]), text_of(words[1])] = Pair()
+            pair = found[table, text_in(words[0]), text_in(words[1])] = Pair()
         elif kind == "frequent":
             pair.frequent[value_of(words[0])] = runs(words[1:])
         elif kind == "cut":
@@ -71,12 +72,12 @@ def read_pairs(text: str) -> Pairs:
     return found
 
 
-def text_of(word: str) -> str:
+def text_in(word: str) -> str:
     return bytes.fromhex(word[1:]).decode("utf-8", "replace")
 
 
 def value_of(word: str) -> Value:
-    return text_of(word) if word.startswith("x") else int(word)
+    return text_in(word) if word.startswith("x") else int(word)
 
 
 def runs(words: list[str]) -> Runs:
@@ -127,7 +128,7 @@ def test(left: Reference | Literal, operator: str, right: Reference | Literal) -
 
 def literal_value(literal: Literal) -> Value:
     source = "".join(token.source for token in literal.tokens)
-    return number_of(source) if literal.is_number else source[1:-1].replace("''", "'")
+    return number_of(source) if literal.is_number else text_of(source)
 
 
 @dataclass(frozen=True)
@@ -173,7 +174,7 @@ def said(one: Asked) -> str:
 
 
 def written(value: Value) -> str:
-    return str(value) if isinstance(value, int) else "'" + str(value).replace("'", "''") + "'"
+    return str(value) if isinstance(value, int) else written_text(str(value))
 
 
 def joined_columns(query: Query, schema: Schema, entry: Entry) -> list[str]:

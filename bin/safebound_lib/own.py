@@ -8,6 +8,8 @@ import sys
 import tempfile
 from typing import TYPE_CHECKING
 
+from safebound.plan_texts import PlanText, read_audit, read_plan
+
 from . import pages, places, program
 from .explain import Run, explained, not_connected, read
 from .explain.budgets import given, has, most_of, with_words
@@ -16,12 +18,11 @@ from .html_page import page
 from .lists import lists_of
 from .near import listed
 from .picture import draw
-from .plans import Plan, option_of, read_audit, read_plan
 from .query import read_query
 from .schema import read_schema
 from .shown import shown_of
 from .table import ACCURACY, BUDGET, COUNT, KEYS, OUTPUT, REDUCE, SHELLS, USUAL_BUDGET
-from .words import Misused, places as places_of
+from .words import Misused, option_of, places as places_of
 
 if TYPE_CHECKING:
     from .lists import Listed
@@ -124,12 +125,12 @@ def picture(path: str, line: Line) -> int:
     return save(drawn(run, shown_of(run, plan, rows, budget), to), to, run) or status
 
 
-def refused(run: Run, fault: Fault | None) -> Plan | None:
+def refused(run: Run, fault: Fault | None) -> PlanText | None:
     """The plan that a budget refuses, where the greatest budget lets it be seen, or nothing."""
     if not fault or fault.kind != "budget" or fault.least > most_of(run):
         return None
     plan = with_words(run, given(run, fault.least))
-    return plan if isinstance(plan, Plan) else None
+    return plan if isinstance(plan, PlanText) else None
 
 
 def drawn(run: Run, shown: Shown, to: str) -> str:

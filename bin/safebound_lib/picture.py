@@ -15,7 +15,7 @@ from typing import TYPE_CHECKING
 from .spot import plain
 
 if TYPE_CHECKING:
-    from .plans import Plan
+    from safebound.plan_texts import PlanText
     from .shown import Shown
 
 TOP, HEIGHT, LEFT, RIGHT = 92, 240, 100, 24
@@ -184,7 +184,7 @@ def draw_step(picture: Picture, at: int, left: float, bound: int) -> None:
         picture.bar(left + 8, BAR - 16, shown.rows[at], TRUE, f"{name}: {shown.rows[at]:,} rows", to)
 
 
-def depths(plan: Plan) -> list[int]:
+def depths(plan: PlanText) -> list[int]:
     """How far each node stands above the leaves below it."""
     found = [0] * len(plan.scans)
     for node in plan.nodes:
@@ -192,7 +192,7 @@ def depths(plan: Plan) -> list[int]:
     return found
 
 
-def in_order(plan: Plan, number: int) -> list[int]:
+def in_order(plan: PlanText, number: int) -> list[int]:
     """The numbers of a node and of all below it: those on its left, its own, those on its right."""
     if number < len(plan.scans):
         return [number]

@@ -5,8 +5,10 @@ from dataclasses import dataclass, field
 from collections.abc import Callable
 from typing import TYPE_CHECKING, cast
 
+from safebound.sql_texts import LEAST_NUMBER, MOST_NUMBER, number_of
+
 from .grammar import Reader, Wrong
-from .tokens import LEAST_NUMBER, MOST_NUMBER, number_of, tokens_of
+from .tokens import tokens_of
 
 if TYPE_CHECKING:
     from .schema import Column, Schema, Table

@@ -7,6 +7,8 @@ import re
 import sys
 from collections.abc import Iterator
 
+from safebound.sql_texts import folded
+
 # A field in quotes, what ends a field, and what ends a line.
 CLOSED = re.compile(r'"(?:[^"]|"")*"(?!")')
 FIELD_END = re.compile(r"[,\r\n]|$(?![\r\n])")
@@ -74,10 +76,5 @@ def end_of(pattern: re.Pattern[str], text: str, at: int) -> int:
     return found.end() if found else len(text)
 
 
-def same(name: str) -> str:
-    """A name as headers are compared: ASCII letters of either case are the same."""
-    return "".join(c.upper() if c.isascii() else c for c in name)
-
-
 def column_place(header: list[str], name: str) -> int:
-    return [same(field) for field in header].index(same(name))
+    return [folded(field) for field in header].index(folded(name))

@@ -5,8 +5,10 @@ from dataclasses import dataclass, field
 from collections.abc import Callable
 from typing import TYPE_CHECKING
 
+from safebound.sql_texts import number_of
+
 from .grammar import Reader, Wrong
-from .tokens import number_of, tokens_of
+from .tokens import tokens_of
 
 if TYPE_CHECKING:
     from .tokens import Token

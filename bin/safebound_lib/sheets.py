@@ -7,17 +7,18 @@ from dataclasses import dataclass, field
 from functools import cached_property
 from typing import Optional
 
+from safebound.sql_texts import LEAST_NUMBER, MOST_NUMBER, MOST_TABLE_BYTES, folded, written_name
+
 from .convert import SEPARATORS, encoding_of, packed
 from .decimals import of_decimals
 from .explain.tables import all_differ, closed_late, number_expected, quoted as marked
 from .near import listed
-from .records import left_open, records, same
+from .records import left_open, records
 from .spot import plain
 from .terminal import saying
-from .tokens import LEAST_NUMBER, MOST_NUMBER, RESERVED
 
-MOST_BYTES, MOST_COLUMNS = 67_108_864, 64
-WORD, TABLE_NAME = re.compile(r"[A-Za-z][A-Za-z0-9_]*"), re.compile(r"[A-Za-z0-9_]+")
+MOST_COLUMNS = 64
+TABLE_NAME = re.compile(r"[A-Za-z0-9_]+")
 # A number that loses nothing when it is printed as one: no leading zeros, no sign +.
 NUMBER = re.compile(r"0|-?[1-9][0-9]*")
 LIKE_A_VALUE = re.compile(r"[+-]?[0-9][0-9.,:/ -]*|\d{4}-\d{2}-\d{2}.*")
@@ -77,13 +78,6 @@ class Sheet:
     def is_key(self, column: Column) -> bool:
         """Whether a column repeats nothing. Of fewer than two rows that says nothing."""
         return self.rows > 1 and len(column.values) == self.rows
-
-
-def written(name: str) -> str:
-    """A name as schema and query write it: a plain word in upper case, any other in double quotes as it is."""
-    if WORD.fullmatch(name) and name.upper() not in RESERVED:
-        return name.upper()
-    return '"' + name.replace('"', '""') + '"'
 
 
 def few(some: int, of: int) -> bool:
@@ -192,16 +186,16 @@ def table_name(file: str, word: str) -> str:
             "The file's name is no table's name, which has letters from A to Z, digits and _ alone. Rename it, as to"
             f" {better}.csv"
         )
-    return written(stem.upper())
+    return written_name(stem.upper())
 
 
 def bytes_of(file: str, word: str) -> bytes:
     try:
         with open(file, "rb") as f:
-            data = f.read(MOST_BYTES + 1)
+            data = f.read(MOST_TABLE_BYTES + 1)
     except OSError as fault:
         raise NoTable(f"It can't be read: {fault.strerror}.") from None
-    if len(data) > MOST_BYTES:
+    if len(data) > MOST_TABLE_BYTES:
         raise NoTable(
             "It is longer than 64 MiB, which is the most for a table. Leave out columns and rows that no query needs."
         )
@@ -272,14 +266,14 @@ def is_header(names: list[str]) -> bool:
 
 def add_columns(sheet: Sheet, header: list[str]) -> None:
     """The columns that can be declared, and sentences on the others, which a run passes over."""
-    folded = [same(name) for name in header]
+    keys = [folded(name) for name in header]
     unnamed = [str(place + 1) for place, name in enumerate(header) if not name]
-    twice = list(dict.fromkeys(name for place, name in enumerate(header) if name and folded.count(folded[place]) > 1))
+    twice = list(dict.fromkeys(name for place, name in enumerate(header) if name and keys.count(keys[place]) > 1))
     padded = [name for name in header if name != name.strip()]
     strange = [name for name in header if any(ord(c) < 32 or "\udc80" <= c <= "\udcff" for c in name)]
     for place, name in enumerate(header):
-        if name and name not in strange and folded.count(folded[place]) == 1:
-            sheet.columns.append(Column(written(name), place))
+        if name and name not in strange and keys.count(keys[place]) == 1:
+            sheet.columns.append(Column(written_name(name), place))
     if padded:
         sheet.says.append(
             "In the header"

@@ -7,7 +7,7 @@ import os
 from dataclasses import dataclass, field
 from typing import TYPE_CHECKING
 
-from .plans import Plan
+from safebound.plan_texts import PlanText
 
 if TYPE_CHECKING:
     from .explain import Run
@@ -21,7 +21,7 @@ class Shown:
     node where they hold.
     """
     title: str
-    plan: Plan
+    plan: PlanText
     rows: list[int] | None = None
     budget: int | None = None
     tables: dict[str, str] = field(default_factory=dict)
@@ -82,7 +82,7 @@ class Shown:
         ]
 
 
-def shown_of(run: Run, plan: Plan, rows: list[int] | None, budget: int | None) -> Shown:
+def shown_of(run: Run, plan: PlanText, rows: list[int] | None, budget: int | None) -> Shown:
     """What is shown of a plan whose texts are those of a run."""
     from .json_plan import conditions_of
     own: dict[str, list[str]] = {}
@@ -96,7 +96,7 @@ def shown_of(run: Run, plan: Plan, rows: list[int] | None, budget: int | None) -
     return Shown(title_of(os.path.basename(run.query_file), plan, budget), plan, rows, budget, tables, own, at)
 
 
-def title_of(file: str, plan: Plan, budget: int | None) -> str:
+def title_of(file: str, plan: PlanText, budget: int | None) -> str:
     shape, step, most = (
         ("join tree", "node", max(plan.bounds)) if plan.is_tree else ("order", "level", max(plan.bounds))
     )

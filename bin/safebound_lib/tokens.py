@@ -4,19 +4,14 @@ from __future__ import annotations
 import re
 from dataclasses import dataclass
 
+from safebound.sql_texts import RESERVED, name_of
+
 MARK = b"\xef\xbb\xbf"
-RESERVED = frozenset("""
-ALL AND ANY AS ASC BETWEEN BIGINT BY CASE CAST CHAR CHARACTER CHECK CONSTRAINT CREATE CROSS DEFAULT DELETE DESC
-DISTINCT EXCEPT EXISTS FOREIGN FROM FULL GROUP HAVING IN INNER INT INTEGER INTERSECT IS JOIN LEFT LIKE NATURAL NOT
-NULL ON OR ORDER OUTER PRIMARY REFERENCES RIGHT SELECT SET SMALLINT TABLE UNION UNIQUE UPDATE USING VALUES VARCHAR
-VARYING WHERE
-""".split())
 BETWEEN_TOKENS = re.compile(rb"(?:[ \t\r\n]+|--[^\n]*)*")
 TOKEN = re.compile(
     rb"(?P<word>[A-Za-z][A-Za-z0-9_]*)|(?P<quoted>\"(?:[^\"]|\"\")+\"(?!\"))|(?P<number>[0-9]+)"
     rb"|(?P<text>'(?:[^']|'')*'(?!'))|(?P<symbol><>|<=|>=|[=<>(),.;*+-])", re.DOTALL)
 CONTROL = re.compile(rb"[\x00-\x1f]")
-LEAST_NUMBER, MOST_NUMBER = -2**63, 2**63 - 1
 
 
 @dataclass(frozen=True)
@@ -39,7 +34,7 @@ class Token:
     @property
     def name(self) -> str:
         """The name that the token is: a word folded, a quoted one as written."""
-        return self.source[1:-1].replace('""', '"') if self.kind == "quoted" else self.source.upper()
+        return name_of(self.source)
 
     def is_one(self, *sources: str) -> bool:
         """Whether it is one of these words or symbols."""
@@ -66,10 +61,3 @@ def tokens_of(text: bytes) -> list[Token]:
 
 def shown(data: bytes) -> str:
     return data.decode("utf-8", "replace")
-
-
-def number_of(source: str) -> int:
-    """The number that a sign and digits are; past forty digits one that no range holds."""
-    digits = source.lstrip("+-0")
-    value = int(digits or 0) if len(digits) <= 40 else 10**40
-    return -value if source.startswith("-") else value

@@ -90,3 +90,17 @@ def places(words: list[str]) -> list[str]:
         elif not word.startswith("-") or word == "-":
             found.append(word)
     return found
+
+
+def option_of(words: list[str], option: str) -> str | None:
+    """The value of an option among the words of a command, or nothing."""
+    left = list(words)
+    while left:
+        word = left.pop(0)
+        if word == "--":
+            return None
+        if word == option:
+            return left[0] if left else None
+        if word.startswith(option + "="):
+            return word[len(option) + 1:]
+    return None

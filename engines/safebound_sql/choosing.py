@@ -8,6 +8,7 @@ from __future__ import annotations
 
 from typing import Iterator
 
+from .dialect import Dialect
 from .reading import Tokens
 from .tokens import Token, closing, part_of_name, written
 
@@ -25,15 +26,15 @@ AGGREGATES = ("COUNT", "SUM", "AVG", "TOTAL", "MIN", "MAX", *IN_ORDER)
 BEHIND_GROUPS = ("HAVING", "WINDOW", "ORDER", "LIMIT", "UNION", "INTERSECT", "EXCEPT")
 
 
-def choosing(pieces: Tokens, plain_words: tuple[str, ...], takes_bare_columns: bool) -> Iterator[tuple[Token, str]]:
+def choosing(pieces: Tokens, dialect: Dialect) -> Iterator[tuple[Token, str]]:
     """Where and by what words a query chooses some of its rows. In SQLite it may by a column beside GROUP BY too."""
     for at, token in enumerate(pieces):
         if token.kind != "word" or part_of_name(pieces, at):
             continue
-        what = _chosen_by(pieces, at, plain_words)
+        what = _chosen_by(pieces, at, dialect.plain_words)
         if what:
             yield token, what
-    if takes_bare_columns:
+    if dialect.takes_bare_columns:
         yield from _bare_columns(pieces)
 
 

@@ -9,15 +9,14 @@ import os
 import sys
 from typing import Callable, NoReturn, Sequence
 
-from . import block_plans, output, stops
-from .dialects import DIALECTS, Unreached
+from . import block_plans, output, sqlite, stops
 from .engine import Engine
 from .export import exported
 from .faults import AboveBound, Fault, Refused, Unreadable, Usage
 from .kept import Kept
 from .levels import MOST_BUDGET, Plan
 from .planner import Planner
-from .sqlite import Sqlite
+from .unreached import DIALECTS, unreached
 
 ABOUT = {
     "plan": "the best order, each level's bound, and what the engine expects",
@@ -29,6 +28,7 @@ ABOUT = {
     "export": "the query's tables as files for safebound_cli",
 }
 NO_ROOM_FOR_OUTPUT = 10
+NO_BLOCKS_COUNTED = "nothing is counted: --count is for queries of one block, whose joins are inner ones"
 
 
 class Words(argparse.ArgumentParser):
@@ -106,6 +106,10 @@ def _plan_words(command: argparse.ArgumentParser, name: str) -> None:
         command.add_argument(
             "--kept", metavar="FILE", help="kept counts, for entries without conditions; no semi-joins"
         )
+    command.add_argument(
+        "--count", action="store_true",
+        help="of PostgreSQL: also count each level's choices of rows, without joining them; a bound is then the least",
+    )
     if name in ("plan", "sql"):
         command.add_argument("--counts", metavar="FILE", help="the answer of the counting statement, as CSV")
 
@@ -123,17 +127,19 @@ def _engine(given: argparse.Namespace) -> Engine:
         raise Usage("--dialect needs --counts FILE, the answer to what `counts` prints")
     if getattr(given, "keep", None) or getattr(given, "kept", None):
         raise Usage("counts are kept by --db, of an engine that is reached")
-    return Unreached(dialect, text_of(given.schema))
+    if getattr(given, "count", False):
+        raise Usage("--count is for --db, of an engine that is reached")
+    return unreached(dialect, text_of(given.schema))
 
 
 def opened(db: str, timeout: int | None) -> Engine:
     kind, _, rest = db.partition(":")
     if kind in ("postgresql", "postgres"):
-        from .postgres import Postgres  # psycopg takes a while to load
+        from . import postgres  # psycopg takes a while to load
 
-        return Postgres(db, timeout)
+        return postgres.opened(db, timeout)
     if kind == "sqlite" and rest:
-        return Sqlite(rest, timeout)
+        return sqlite.opened(rest, timeout)
     raise Usage(f"--db is postgresql://.. or sqlite:FILE, not {db!r}")
 
 
@@ -151,7 +157,9 @@ def text_of(file: str) -> str:
 def _planned(given: argparse.Namespace, planner: Planner) -> None:
     """The commands that need a plan."""
     kept = getattr(given, "kept", None)
-    if kept:
+    if given.count:
+        plan = planner.plan_by_counting(given.accuracy, given.budget, given.tree)
+    elif kept:
         plan = planner.plan_by_kept(given.accuracy, given.budget, given.tree, Kept(kept))
     else:
         plan = planner.plan(given.accuracy, given.budget, given.tree, getattr(given, "counts", None))
@@ -162,7 +170,7 @@ def _planned(given: argparse.Namespace, planner: Planner) -> None:
     planner.expect(plan)
     true_rows = planner.true_rows(plan) if given.command == "audit" else None
     if getattr(given, "json", False):
-        sys.stdout.write(output.document(plan, planner.engine, planner.sql(plan), true_rows))
+        sys.stdout.write(output.document(plan, planner.settings, planner.sql(plan), true_rows))
     else:
         _show(given, planner, plan, true_rows)
     for number, (level, rows) in enumerate(zip(plan.levels, true_rows or ()), 1):
@@ -171,7 +179,7 @@ def _planned(given: argparse.Namespace, planner: Planner) -> None:
 
 
 def _show(given: argparse.Namespace, planner: Planner, plan: Plan, true_rows: list[int] | None) -> None:
-    shown = output.table(plan, planner.engine, true_rows)
+    shown = output.table(plan, planner.engine.dialect.title, true_rows)
     if given.command == "plan" and given.dialect:
         shown = "".join(f"-- {line}\n" for line in shown.splitlines()) + planner.script(plan)
     (sys.stderr if given.command == "run" else sys.stdout).write(shown)
@@ -213,14 +221,15 @@ def _in_blocks(given: argparse.Namespace, engine: Engine, text: str) -> None:
     if given.command == "audit":
         planner.true_rows()
     plans = list(planner.plans.values())
+    notes = [NO_BLOCKS_COUNTED] if given.count else []
     if getattr(given, "json", False):
-        sys.stdout.write(output.blocks_document(plans, unbounded, engine, planner.sql()))
+        sys.stdout.write(output.blocks_document(plans, unbounded, notes, planner.settings, planner.sql()))
     else:
-        (sys.stderr if given.command == "run" else sys.stdout).write(output.blocks_table(plans, unbounded))
+        (sys.stderr if given.command == "run" else sys.stdout).write(output.blocks_table(plans, unbounded, notes))
     if given.command == "run":
-        engine.keep_order()
+        engine.connection.keep_order()
         with planner.progress.doing("joining") as end:
-            for part in engine.csv(planner.sql(), given.null):
+            for part in engine.connection.csv(planner.sql(), given.null):
                 end()
                 sys.stdout.write(part)
     for plan in plans:
@@ -233,11 +242,16 @@ def done(given: argparse.Namespace) -> None:
     text = text_of(given.query) if given.command != "append" else ""
     if getattr(given, "kept", None) and getattr(given, "counts", None):
         raise Usage("either --kept or --counts")
+    count = getattr(given, "count", False)
+    if count and (getattr(given, "kept", None) or getattr(given, "counts", None)):
+        raise Usage("--count counts the rows of now: either it, or --kept or --counts")
     engine = _engine(given)
     try:
+        if count and not engine.dialect.counts_exactly:
+            raise Usage(f"--count is for PostgreSQL: {engine.dialect.title} has no exact numbers past 2^63")
         if given.command == "append":
             return _appended(given, engine)
-        if engine.knows_blocks and block_plans.several(text, engine):
+        if engine.dialect.knows_blocks and block_plans.several(text, engine):
             _in_blocks(given, engine, text)
             return sys.stdout.flush()
         planner = Planner(engine, text, not (getattr(given, "no_reduce", False) or getattr(given, "kept", None)))
@@ -253,7 +267,7 @@ def done(given: argparse.Namespace) -> None:
             _planned(given, planner)
         sys.stdout.flush()
     finally:
-        engine.close()
+        engine.connection.close()
 
 
 def main(arguments: Sequence[str] | None = None) -> int:

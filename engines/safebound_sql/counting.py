@@ -8,7 +8,9 @@ import csv
 from dataclasses import dataclass
 from typing import Collection, Iterable
 
-from .engine import Engine
+from safebound.sql_texts import written_text
+
+from .dialect import Dialect
 from .faults import Unreadable, WrongCounts
 from .query import Column, Query, Row
 from .reducing import own_conditions
@@ -33,7 +35,7 @@ def prefix_for(texts: Iterable[str]) -> str:
     return prefix
 
 
-def counting(query: Query, engine: Engine, prefix: str, reduce: bool, known: Collection[int] = ()) -> str:
+def counting(query: Query, dialect: Dialect, prefix: str, reduce: bool, known: Collection[int] = ()) -> str:
     """The statement. Its rows are (entry, column, degree, keys): so many values of the column stand in `degree` rows
     each.
 
@@ -44,31 +46,27 @@ def counting(query: Query, engine: Engine, prefix: str, reduce: bool, known: Col
     texts: list[tuple[str, str]] = []
     sources = {entry.number: Source(entry, own_conditions(entry)) for entry in query.entries}
     if reduce:
-        texts, sources = rows_to_count(query, engine, columns, prefix)
-    selects = [text for number, source in sources.items() for text in histograms(source, columns[number], engine)]
-    return engine.with_parts(texts, "\nUNION ALL ".join(selects))
+        texts, sources = rows_to_count(query, dialect, columns, prefix)
+    selects = [text for number, source in sources.items() for text in histograms(source, columns[number], dialect)]
+    return dialect.with_parts(texts, "\nUNION ALL ".join(selects))
 
 
-def histograms(source: Source, columns: list[Column], engine: Engine) -> list[str]:
+def histograms(source: Source, columns: list[Column], dialect: Dialect) -> list[str]:
     """What a counting statement asks of one entry."""
-    name = _text(source.entry.name)
+    name = written_text(source.entry.name)
     degree, rows = source.total()
-    total = _line(engine, name, "''", degree, "1", rows)
-    return [total] + [_histogram(name, column, engine, source) for column in columns]
+    total = _line(dialect, name, "''", degree, "1", rows)
+    return [total] + [_histogram(name, column, dialect, source) for column in columns]
 
 
-def _line(engine: Engine, entry: str, column: str, degree: str, keys: str, rows: str) -> str:
-    values = ", ".join(f"{value} AS {engine.quote(name)}" for value, name in zip((entry, column, degree, keys), HEADER))
-    return f"SELECT {values} {rows}"
+def _line(dialect: Dialect, entry: str, column: str, degree: str, keys: str, rows: str) -> str:
+    values = zip((entry, column, degree, keys), HEADER)
+    return f"SELECT {', '.join(f'{value} AS {dialect.quote(name)}' for value, name in values)} {rows}"
 
 
-def _histogram(entry: str, column: Column, engine: Engine, source: Source) -> str:
-    degrees = f"FROM ({source.degrees(column, engine)}) AS degrees GROUP BY d"
-    return _line(engine, entry, _text(column.name), "d", "COUNT(*)", degrees)
-
-
-def _text(name: str) -> str:
-    return "'" + name.replace("'", "''") + "'"
+def _histogram(entry: str, column: Column, dialect: Dialect, source: Source) -> str:
+    degrees = f"FROM ({source.degrees(column, dialect)}) AS degrees GROUP BY d"
+    return _line(dialect, entry, written_text(column.name), "d", "COUNT(*)", degrees)
 
 
 def counts_of(query: Query, rows: Iterable[Row]) -> Counts:

@@ -5,10 +5,15 @@ safebound_cli has whole numbers and texts, no NULL, and conditions of comparison
 
 from __future__ import annotations
 
+import contextlib
 import csv
 import os
 import re
 from typing import Iterator
+
+from safebound.sql_texts import (
+    MOST_CHARACTERS, MOST_NUMBER, MOST_ROWS, MOST_TABLE_BYTES, folded, written_name,
+)
 
 from .engine import Engine
 from .faults import Refused, Unreadable
@@ -18,31 +23,14 @@ from .query import Column, Entry, Named, Row
 from .reading import Tokens
 from .tokens import Token
 
-MOST_ROWS = 4_000_000
-MOST_BYTES = 67_108_864
-MOST_CHARACTERS = 1_000_000
-
-RESERVED = frozenset(
-    "ALL AND ANY AS ASC BETWEEN BIGINT BY CASE CAST CHAR CHARACTER CHECK CONSTRAINT CREATE CROSS DEFAULT DELETE DESC"
-    " DISTINCT EXCEPT EXISTS FOREIGN FROM FULL GROUP HAVING IN INNER INT INTEGER INTERSECT IS JOIN LEFT LIKE NATURAL"
-    " NOT NULL ON OR ORDER OUTER PRIMARY REFERENCES RIGHT SELECT SET SMALLINT TABLE UNION UNIQUE UPDATE USING VALUES"
-    " VARCHAR VARYING WHERE".split()
-)
 CONNECTING = ("AND", "OR", "NOT", "BETWEEN", "IN", "(", ")", ",", "+", "-", "=", "<>", "<", "<=", ">", ">=")
 SPELLED = {"==": "=", "!=": "<>"}
 ORDERING = ("<", "<=", ">", ">=", "BETWEEN")
 
 
-def upper(name: str) -> str:
-    return "".join(c.upper() if c.isascii() else c for c in name)
-
-
 def spelled(name: str) -> str:
     """The name as safebound_cli reads it. It folds words to upper case, so all names are in upper case."""
-    name = upper(name)
-    if re.fullmatch(r"[A-Z][A-Z0-9_]*", name) and name not in RESERVED:
-        return name
-    return '"' + name.replace('"', '""') + '"'
+    return written_name(folded(name))
 
 
 class Export:
@@ -50,7 +38,8 @@ class Export:
 
     def __init__(self, meaning: Meaning, engine: Engine, folder: str, progress: Progress) -> None:
         self.statement, self.names, self.query = meaning.statement, meaning.names, meaning.query
-        self.engine, self.folder, self.progress = engine, folder, progress
+        self.dialect, self.catalog, self.connection = engine.dialect, engine.catalog, engine.connection
+        self.folder, self.progress = folder, progress
         self.used: dict[int, set[Column]] = {entry.number: set() for entry in self.query.entries}
         self.types: dict[Named, str] = {}
 
@@ -68,14 +57,16 @@ class Export:
 
     def _files(self, text: str, tables: dict[str, list[Entry]]) -> None:
         """Writes all files, or leaves none."""
-        try:
+        with contextlib.ExitStack() as undo:
+            undo.callback(self._empty)
             schema = [self._table(name, entries) for name, entries in tables.items()]
             self._file("schema.sql", ";\n".join(schema) + ";\n")
             self._file("query.sql", text)
-        except BaseException:
-            for file in os.listdir(self.folder):
-                os.unlink(os.path.join(self.folder, file))
-            raise
+            undo.pop_all()
+
+    def _empty(self) -> None:
+        for file in os.listdir(self.folder):
+            os.unlink(os.path.join(self.folder, file))
 
     def _file(self, name: str, text: str) -> None:
         with open(os.path.join(self.folder, name), "w", encoding="utf-8", newline="") as file:
@@ -110,7 +101,7 @@ class Export:
         if named is None:
             raise self._refuse(piece[0])
         column = self._column(named)
-        yield f"{column} AS {spelled(self.names.key(rest[0]))}" if rest else column
+        yield f"{column} AS {spelled(self.dialect.key_of(rest[0]))}" if rest else column
 
     def _condition(self, piece: Tokens) -> Iterator[str]:
         """The condition again. That a column is NOT NULL goes without saying, since no exported value is NULL."""
@@ -133,7 +124,7 @@ class Export:
         text = SPELLED.get(token.text, token.text.upper())
         if token.kind in ("word", "mark", "operator") and text in CONNECTING:
             return text, 1
-        if token.kind == "number" and token.text.isdigit() and int(token.text) < 2**63:
+        if token.kind == "number" and token.text.isdigit() and int(token.text) <= MOST_NUMBER:
             return token.text, 1
         if token.kind == "text" and token.text[0] == "'":
             return token.text, 1
@@ -145,7 +136,7 @@ class Export:
 
     def _refuse_order_of_texts(self, piece: Tokens) -> None:
         for named in self.names.named(piece):
-            if not self.engine.whole_numbers(named.column) and not self.engine.plain_order(named.column):
+            if not self.catalog.whole_numbers(named.column) and not self.catalog.plain_order(named.column):
                 why = "safebound_cli orders texts by code points, and the column doesn't"
                 raise self.statement.refuse(piece[0], why, named.column.name)
 
@@ -154,7 +145,7 @@ class Export:
         return f"{spelled(self.query.entries[named.entry].name)}.{spelled(named.column.name)}"
 
     def _name_of(self, entry: Entry) -> str:
-        name = self.names.key(self.statement.sources[entry.number].table[-1])
+        name = self.dialect.key_of(self.statement.sources[entry.number].table[-1])
         if not re.fullmatch(r"[A-Za-z0-9_]+", name):
             raise self.statement.refuse(self.statement.sources[entry.number].table[-1], "a file can't be named so")
         return spelled(name)
@@ -176,16 +167,16 @@ class Export:
         columns = [column for column in entries[0].about.by_key.values() if column in used] or list(
             entries[0].about.columns[:1]
         )
-        if len({upper(column.name) for column in columns}) < len(columns):
+        if len({folded(column.name) for column in columns}) < len(columns):
             raise Refused(f"columns of {name} differ in upper and lower case alone, which safebound_cli takes for one")
         for column in columns:
-            if not self.engine.exports(column):
+            if not self.catalog.exports(column):
                 raise Refused(f"{name}.{column.name}: safebound_cli has no {column.type}")
         met = set.intersection(*(set(self.query.joined(entry.number)) for entry in entries))
-        values = ", ".join(self.engine.quote(column.name) for column in columns)
-        present = " AND ".join(f"{self.engine.quote(column.name)} IS NOT NULL" for column in columns if column in met)
+        values = ", ".join(self.dialect.quote(column.name) for column in columns)
+        present = " AND ".join(f"{self.dialect.quote(column.name)} IS NOT NULL" for column in columns if column in met)
         with self.progress.doing(f"writing {name}"):
-            rows = self.engine.stream(
+            rows = self.connection.stream(
                 f"SELECT {values} FROM {entries[0].table}" + (f" WHERE {present}" if present else "")
             )
             kinds = self._records(name.strip('"').lower() + ".csv", columns, rows)
@@ -194,20 +185,20 @@ class Export:
 
     def _records(self, file: str, columns: list[Column], rows: Iterator[Row]) -> list[str]:
         """Writes the rows, and finds the columns' types."""
-        kinds: list[type] = [int if self.engine.whole_numbers(column) else str for column in columns]
+        kinds: list[type] = [int if self.catalog.whole_numbers(column) else str for column in columns]
         longest = [1] * len(columns)
         next(rows)
         with open(os.path.join(self.folder, file), "w", encoding="utf-8", newline="") as out:
             writer = csv.writer(out)
-            writer.writerow([upper(column.name) for column in columns])
+            writer.writerow([folded(column.name) for column in columns])
             for number, row in enumerate(rows, 1):
                 _check(file, number, columns, row, kinds)
                 longest = [
                     max(most, len(value)) if isinstance(value, str) else most for most, value in zip(longest, row)
                 ]
                 writer.writerow(row)
-            if out.tell() > MOST_BYTES:
-                raise Refused(f"{file} has more than {MOST_BYTES} bytes")
+            if out.tell() > MOST_TABLE_BYTES:
+                raise Refused(f"{file} has more than {MOST_TABLE_BYTES} bytes")
         if max(longest) > MOST_CHARACTERS:
             raise Refused(f"{file} has a text of more than {MOST_CHARACTERS} characters")
         return ["INTEGER" if kind is int else f"VARCHAR({most})" for kind, most in zip(kinds, longest)]

@@ -13,10 +13,12 @@ import os
 from dataclasses import dataclass, field
 from typing import Any, Dict, Iterable, List, Tuple
 
+import safebound
+
 from .counting import counts_among, histograms
 from .engine import Engine
-from .faults import Missing, Unreadable, WrongCounts
-from .levels import library
+from .faults import Unreadable, WrongCounts
+from .levels import library_faults
 from .meaning import Meaning
 from .query import Column, Entry, Query, Row
 from .reducing import own_conditions
@@ -117,9 +119,9 @@ class Kept:
         parts = [
             part
             for identity, entry in entries.items()
-            for part in histograms(Source(_called(entry, identity), []), columns[identity], engine)
+            for part in histograms(Source(_called(entry, identity), []), columns[identity], engine.dialect)
         ]
-        counts = counts_among(columns, engine.rows("\nUNION ALL ".join(parts)))
+        counts = counts_among(columns, engine.connection.rows("\nUNION ALL ".join(parts)))
         for identity, entry in entries.items():
             self._forget(identity)
             kept = self.tables[identity] = KeptTable(entry.table, now(), counts.rows[identity])
@@ -145,8 +147,8 @@ class Kept:
             raise WrongCounts(f"{self.file} has no counts of {table} as it is; keep them anew")
         conditions = own_conditions(entry) + list(map(str, query.constants))
         whole, new = Source(_called(entry, "whole"), []), Source(_called(entry, "new"), conditions)
-        parts = histograms(whole, [], engine) + histograms(new, columns, engine)
-        counts = counts_among({"whole": [], "new": columns}, engine.rows("\nUNION ALL ".join(parts)))
+        parts = histograms(whole, [], engine.dialect) + histograms(new, columns, engine.dialect)
+        counts = counts_among({"whole": [], "new": columns}, engine.connection.rows("\nUNION ALL ".join(parts)))
         if kept.rows + counts.rows["new"] != counts.rows["whole"]:
             told = (
                 f"{kept.rows} rows are kept and {counts.rows['new']} come to them, but {table} has"
@@ -167,13 +169,8 @@ def _appended(old: Runs, new: Runs) -> Runs:
     """The library's rank-wise sum: it holds whichever of the values repeat."""
     if not (old and new):
         return old or new
-    proved = library()
-    try:
-        return [(run.degree, run.keys) for run in proved.append(old, new)]
-    except proved.LibraryNotFound as error:
-        raise Missing(str(error)) from None
-    except proved.WrongValue as error:
-        raise WrongCounts(str(error)) from None
+    with library_faults():
+        return [(run.degree, run.keys) for run in safebound.append(old, new)]
 
 
 def _table(about: Dict[str, Any]) -> KeptTable:

@@ -2,16 +2,15 @@
 
 from __future__ import annotations
 
-import importlib
-import sys
+import contextlib
 from dataclasses import dataclass, field
-from pathlib import Path
-from types import ModuleType
-from typing import Any, Dict, Tuple, Union
+from typing import Dict, Iterator, Tuple, Union
+
+import safebound
 
 from .counting import Counts
 from .faults import Missing, NoBound, PastBudget, WrongCounts
-from .query import Named, Query
+from .query import Named, Query, Text
 
 MOST_BUDGET = 2**59
 
@@ -20,16 +19,20 @@ Shape = Union[int, "tuple[Shape, Shape]"]
 # A column of an entry, two that are equal, and lists as the library takes them.
 Of = Tuple[str, str]
 Equal = Tuple[Of, Of]
-Lists = Dict[Of, Any]
+Lists = Dict[Of, safebound.Runs]
 
 
 @dataclass
 class Level:
-    """A part of the plan: the entries that are joined in it, its bound, and what the engine expects, where it says."""
+    """A part of the plan: the entries that are joined in it, its bound, and what the engine expects, where it says.
+
+    `counted` says by what the bound was counted, where it was.
+    """
 
     shape: Shape
     bound: int
     expected: int | None = None
+    counted: str | None = None
 
     @property
     def factor(self) -> float | None:
@@ -42,7 +45,8 @@ class Plan:
     """A plan: the shape of its joins, and its levels from the first to that of all entries.
 
     `kept` has the entries whose counts are kept ones, with their time; `changed` those whose kept counts weren't taken,
-    since there were so many rows then and are so many now.
+    since there were so many rows then and are so many now. `tested` are conditions that counted bounds keep to though
+    others don't, and `notes` says what isn't counted.
     """
 
     query: Query
@@ -52,6 +56,13 @@ class Plan:
     tree: bool
     kept: dict[str, str] = field(default_factory=dict)
     changed: dict[str, tuple[int, int]] = field(default_factory=dict)
+    tested: frozenset[Text] = frozenset()
+    notes: list[str] = field(default_factory=list)
+
+    @property
+    def unused(self) -> list[tuple[Text, str]]:
+        """The conditions on several entries that no bound keeps to, and why."""
+        return [(text, why) for text, why in self.query.no_edges if text not in self.tested]
 
     @property
     def cost(self) -> int:
@@ -63,16 +74,19 @@ def entries_of(shape: Shape) -> list[int]:
     return [shape] if isinstance(shape, int) else entries_of(shape[0]) + entries_of(shape[1])
 
 
-def library() -> ModuleType:
-    """The package safebound: an installed one, or that of this repository."""
+@contextlib.contextmanager
+def library_faults(budget: int = MOST_BUDGET) -> Iterator[None]:
+    """Makes faults of what the library raises."""
     try:
-        return importlib.import_module("safebound")
-    except ImportError:
-        sys.path.append(str(Path(__file__).resolve().parents[2] / "python"))
-        try:
-            return importlib.import_module("safebound")
-        except ImportError as error:
-            raise Missing(f"the library isn't there: make library, or pip install ./python ({error})") from None
+        yield
+    except safebound.BudgetExceeded as error:
+        raise PastBudget(budget, error.least) from None
+    except safebound.PastBits:
+        raise NoBound from None
+    except safebound.LibraryNotFound as error:
+        raise Missing(str(error)) from None
+    except safebound.WrongValue as error:
+        raise WrongCounts(str(error)) from None
 
 
 def planned(query: Query, counts: Counts, accuracy: int, budget: int, tree: bool) -> Plan:
@@ -82,9 +96,8 @@ def planned(query: Query, counts: Counts, accuracy: int, budget: int, tree: bool
         PastBudget: the best one has a part above the budget.
         NoBound: each one has a part without a bound.
     """
-    proved = library()
-    try:
-        known = proved.Query(
+    with library_faults(budget):
+        known = safebound.Query(
             [entry.name for entry in query.entries], equalities_of(query), counts.rows, lists_of(counts, accuracy)
         )
         levels = (
@@ -92,22 +105,14 @@ def planned(query: Query, counts: Counts, accuracy: int, budget: int, tree: bool
             if tree
             else _levels(query, known.best_order(budget))
         )
-    except proved.BudgetExceeded as error:
-        raise PastBudget(budget, error.least) from None
-    except proved.PastBits:
-        raise NoBound from None
-    except proved.LibraryNotFound as error:
-        raise Missing(str(error)) from None
-    except proved.WrongValue as error:
-        raise WrongCounts(str(error)) from None
     return Plan(query, counts, levels[-1].shape, levels, tree)
 
 
 def lists_of(counts: Counts, accuracy: int) -> Lists:
     """The list of each counted column, as the library takes it."""
-    proved = library()
     return {
-        column: proved.compress(runs, accuracy) if runs else proved.NO_VALUES for column, runs in counts.runs.items()
+        column: safebound.compress(runs, accuracy) if runs else safebound.NO_VALUES
+        for column, runs in counts.runs.items()
     }
 
 
@@ -120,7 +125,7 @@ def equalities_of(query: Query) -> list[Equal]:
     return [(of(equality.left), of(equality.right)) for equality in query.equalities]
 
 
-def _levels(query: Query, order: Any) -> list[Level]:
+def _levels(query: Query, order: safebound.Order) -> list[Level]:
     numbers = {entry.name: entry.number for entry in query.entries}
     levels: list[Level] = []
     for name, bound in zip(order.entries, order.levels):
@@ -129,7 +134,7 @@ def _levels(query: Query, order: Any) -> list[Level]:
     return levels
 
 
-def _levels_of_tree(query: Query, tree: Any, counts: Counts) -> list[Level]:
+def _levels_of_tree(query: Query, tree: safebound.Tree, counts: Counts) -> list[Level]:
     """The joins of a tree; of an entry alone its rows."""
     if not tree.joins:
         return [Level(0, counts.rows[query.entries[0].name])]

@@ -7,7 +7,7 @@ from typing import Iterator
 from .engine import Engine
 from .choosing import choosing
 from .names import Names, alias_of, subqueries
-from .query import MOST_EQUALITIES, Condition, Equality, Named, Query, Reference, Text
+from .query import Condition, Named, Query, Reference, Text
 from .reading import Statement, Tokens, at_commas, read
 from .tokens import Token, closing, part_of_name, tokens, written
 
@@ -16,16 +16,16 @@ from .tokens import Token, closing, part_of_name, tokens, written
 UNGROUPED = ("json", "xml", "point", "line", "lseg", "box", "path", "polygon", "circle")
 
 
-def refuse_fickle(statement: Statement, pieces: Tokens, engine: Engine) -> None:
+def refuse_volatile(statement: Statement, pieces: Tokens, engine: Engine) -> None:
     """Refuses what may answer anew at each call: functions, operators, and views that use them."""
     asked = _calls(pieces, engine)
-    for name, why in engine.fickle(set(asked)).items():
+    for name, why in engine.catalog.volatile(set(asked)).items():
         raise statement.refuse(asked[name], why)
     for at, token in enumerate(pieces):
-        if engine.asks_for_now(pieces, at):
-            raise statement.refuse(token, engine.why_now)
+        if engine.dialect.reads_clock(pieces, at):
+            raise statement.refuse(token, engine.dialect.why_clock)
     tables = _tables(pieces)
-    for name, why in _fickle_views(set(tables), engine):
+    for name, why in _volatile_views(set(tables), engine):
         raise statement.refuse(tables[name], why, name)
 
 
@@ -36,10 +36,10 @@ def _calls(pieces: Tokens, engine: Engine) -> dict[str, Token]:
     for at, token in enumerate(pieces):
         dot = "." if at and pieces[at - 1].says(".") else ""
         called = token.names and at + 1 < len(pieces) and pieces[at + 1].says("(")
-        if called or token.kind == "operator" or token.says(*engine.calls_without_parentheses):
-            found.setdefault(dot + engine.spelled(token), token)
-        elif engine.columns_may_be_calls and dot and token.names:
-            found.setdefault(".." + engine.spelled(token), token)
+        if called or token.kind == "operator" or token.says(*engine.dialect.calls_without_parentheses):
+            found.setdefault(dot + engine.dialect.key_of(token), token)
+        elif engine.dialect.columns_may_be_calls and dot and token.names:
+            found.setdefault(".." + engine.dialect.key_of(token), token)
     return found
 
 
@@ -56,30 +56,30 @@ def _tables(pieces: Tokens) -> dict[str, Token]:
     return found
 
 
-def _fickle_views(names: set[str], engine: Engine) -> Iterator[tuple[str, str]]:
+def _volatile_views(names: set[str], engine: Engine) -> Iterator[tuple[str, str]]:
     """Tables and views that have, themselves or by what is below them, what may answer anew; and what it is."""
     above = {name: name for name in names}
     todo = set(names)
     while todo:
         below: set[str] = set()
-        yield from ((above[name], why) for name, why in engine.without_snapshot(todo).items())
-        for name, what, text in engine.view_texts(todo):
-            pieces = tokens(text, engine.rules)
-            yield from ((above[name], f"{what} has {why}") for why in _fickle_parts(pieces, engine))
+        yield from ((above[name], why) for name, why in engine.catalog.without_snapshot(todo).items())
+        for name, what, text in engine.catalog.view_texts(todo):
+            pieces = tokens(text, engine.dialect.rules)
+            yield from ((above[name], f"{what} has {why}") for why in _volatile_parts(pieces, engine))
             new = set(_tables(pieces)) - set(above)
             above.update((other, above[name]) for other in new)
             below |= new
         todo = below
 
 
-def _fickle_parts(pieces: Tokens, engine: Engine) -> Iterator[str]:
-    for what, why in engine.fickle(set(_calls(pieces, engine))).items():
+def _volatile_parts(pieces: Tokens, engine: Engine) -> Iterator[str]:
+    for what, why in engine.catalog.volatile(set(_calls(pieces, engine))).items():
         yield f"{what.lstrip('.')}: {why}"
-    for token, what in choosing(pieces, engine.plain_words, engine.takes_bare_columns):
+    for token, what in choosing(pieces, engine.dialect):
         yield f"{what}, so its rows may be others at each call; make a table of it, and name that"
     for at, token in enumerate(pieces):
-        if engine.asks_for_now(pieces, at, below=True):
-            yield f"{token.text}: {engine.why_now}"
+        if engine.dialect.reads_clock(pieces, at, below=True):
+            yield f"{token.text}: {engine.dialect.why_clock}"
 
 
 class Meaning:
@@ -91,13 +91,13 @@ class Meaning:
     """
 
     def __init__(self, text: str, engine: Engine) -> None:
-        pieces = tokens(text, engine.rules)
-        self.engine = engine
-        self.statement = read(text, list(pieces), engine.comma_binds_less, engine.plain_words)
-        refuse_fickle(self.statement, pieces, engine)
+        pieces = tokens(text, engine.dialect.rules)
+        self.dialect, self.catalog = engine.dialect, engine.catalog
+        self.statement = read(text, list(pieces), engine.dialect)
+        refuse_volatile(self.statement, pieces, engine)
         self.names = Names(self.statement, engine)
         alone = text.rstrip().rstrip(";")
-        engine.takes(alone)
+        engine.catalog.takes(alone)
         self.outputs_names = self._names_of_outputs(alone)
         self.query = Query(self.names.entries)
         self._understand(pieces)
@@ -121,21 +121,21 @@ class Meaning:
         statement = self.statement
         for piece in (*statement.outputs, *statement.conditions, statement.distinct, statement.above):
             for start, end in subqueries(piece):
-                for token, _ in self.engine.columns_asked_for_now(piece[start:end]):
-                    raise statement.refuse(token, self.engine.why_now)
-            for token, column in self.engine.columns_asked_for_now(piece):
+                for token, _ in self.dialect.clock_arguments(piece[start:end]):
+                    raise statement.refuse(token, self.dialect.why_clock)
+            for token, column in self.dialect.clock_arguments(piece):
                 named = self.names.side(column)
-                if named is None or self.engine.says_now(self.query.entries[named.entry].table, named.column.name):
-                    raise statement.refuse(token, self.engine.why_now)
+                if named is None or self.catalog.holds_now(self.query.entries[named.entry].table, named.column.name):
+                    raise statement.refuse(token, self.dialect.why_clock)
 
     def _names_of_outputs(self, text: str) -> set[str]:
         """The names by which SQLite may take an output in a condition."""
-        if not self.engine.outputs_in_conditions:
+        if not self.dialect.outputs_in_conditions:
             return set()
-        told = self.engine.output_names(text)
+        told = self.catalog.output_names(text)
         if told is not None:
-            return {self.engine.key(name, True) for name in told}
-        return {self.names.key(alias) for output in self.statement.outputs if (alias := alias_of(output))}
+            return {self.dialect.key(name, True) for name in told}
+        return {self.dialect.key_of(alias) for output in self.statement.outputs if (alias := alias_of(output))}
 
     def _with_columns_of_keys(self, above: Tokens) -> Tokens:
         """Where a primary key is grouped by, its table's other columns that are named are too: a part has no keys to
@@ -143,7 +143,7 @@ class Meaning:
         groups = _groups(above)
         if groups is None or not any(entry.about.key for entry in self.query.entries):
             return above
-        outputs = {self.names.key(alias): piece for piece in self.statement.outputs if (alias := alias_of(piece))}
+        outputs = {self.dialect.key_of(alias): piece for piece in self.statement.outputs if (alias := alias_of(piece))}
         grouped = {
             named for piece in at_commas(above[groups.start : groups.stop]) if (named := self._grouped(piece, outputs))
         }
@@ -161,7 +161,7 @@ class Meaning:
                 about.key
                 and {Named(other.entry, about.by_key[name]) for name in about.key if name in about.by_key} <= grouped
             ):
-                more += tokens(f", {self.names.qualified(other)}", self.engine.rules)
+                more += tokens(f", {self.names.qualified(other)}", self.dialect.rules)
         return above[: groups.stop] + more + above[groups.stop :]
 
     def _grouped(self, piece: Tokens, outputs: dict[str, Tokens]) -> Named | None:
@@ -169,7 +169,7 @@ class Meaning:
         named = self.names.side(piece)
         if named or len(piece) != 1:
             return named
-        output = outputs.get(self.names.key(piece[0])) if piece[0].names else None
+        output = outputs.get(self.dialect.key_of(piece[0])) if piece[0].names else None
         if (
             piece[0].kind == "number"
             and piece[0].text.isdigit()
@@ -187,7 +187,7 @@ class Meaning:
         names, query = self.names, self.query
         if not names.usings:
             return
-        if self.engine.keeps_using:
+        if self.dialect.keeps_using:
             frame = self.statement.frame
             query.frame = list(_frame(frame))
             query.named_above |= {side for equality in names.usings for side in equality}
@@ -195,7 +195,7 @@ class Meaning:
         outputs = [piece for piece in self.statement.outputs if names.star(piece) is None]
         above = [*outputs, self.statement.distinct, self.statement.above]
         bare = names.named_bare(above)
-        query.renamed = {named for named in names.merged_away if self.engine.key(named.column.name, True) in bare}
+        query.renamed = {named for named in names.merged_away if self.dialect.key(named.column.name, True) in bare}
         for token, named in names.with_tables(above):
             if named in query.renamed:
                 why = (
@@ -207,7 +207,7 @@ class Meaning:
     def _condition(self, piece: Tokens) -> None:
         self.names.check_subqueries(piece)
         self.names.check_outputs_names(piece, self.outputs_names)
-        sides, text = self._sides(piece), self.names.spelled(piece)
+        sides, text = self.names.equated(piece), self.names.spelled(piece)
         if sides:
             return self._equality(*sides, text)
         named = self.names.named(piece)
@@ -220,29 +220,13 @@ class Meaning:
             names = ", ".join(self.query.entries[number].name for number in sorted(entries))
             self.query.no_edges.append((text, f"it may name columns of {names}, and is tested when these are joined"))
 
-    def _sides(self, piece: Tokens) -> tuple[Named, Named] | None:
-        """The two columns, where the condition is an equality of columns of two entries and nothing else."""
-        for at, token in enumerate(piece):
-            if token.kind == "operator" and token.text in self.engine.equals:
-                one, other = self.names.side(piece[:at]), self.names.side(piece[at + 1 :])
-                if one and other and one.entry != other.entry:
-                    return one, other
-        return None
-
     def _equality(self, one: Named, other: Named, text: Text) -> None:
         query = self.query
         query.conditions.append(Condition(text, frozenset((one.entry, other.entry))))
         query.needed |= {one, other}
-        if one.column.kind is None or one.column.kind != other.column.kind:
-            query.no_edges.append(
-                (text, f"{one.column.type} and {other.column.type} aren't compared as they are grouped")
-            )
-        elif Equality(one, other) in query.equalities or Equality(other, one) in query.equalities:
-            return
-        elif len(query.equalities) == MOST_EQUALITIES:
-            query.no_edges.append((text, f"{MOST_EQUALITIES} others come before it"))
-        else:
-            query.equalities.append(Equality(one, other))
+        why = query.take_equality(one, other)
+        if why:
+            query.no_edges.append((text, why))
 
     def _reference(self, named: Named) -> Reference:
         return Reference(named, self.names.qualified(named))

@@ -63,7 +63,7 @@ class Names:
 
     def __init__(self, statement: Statement, engine: Engine) -> None:
         self.statement = statement
-        self.engine = engine
+        self.dialect, self.catalog = engine.dialect, engine.catalog
         self.entries: list[Entry] = []
         self.merged: dict[str, Named] = {}
         self.merged_away: set[Named] = set()
@@ -76,29 +76,25 @@ class Names:
         statement.distinct, statement.above = map(self._without_schemas, (statement.distinct, statement.above))
         self.columns = self._merge()
 
-    def key(self, token: Token) -> str:
-        quoted = token.kind in ("quoted", "text")
-        return self.engine.key(unquoted(token) if quoted else token.text, quoted)
-
     def _enter(self, source: Source) -> None:
         number = len(self.entries)
         if number == MOST_ENTRIES:
             raise self.statement.refuse(source.alias, f"a query has at most {MOST_ENTRIES} entries")
-        name = self.key(source.alias)
+        name = self.dialect.key_of(source.alias)
         if any(name == entry.name for entry in self.entries):
             raise self.statement.refuse(source.alias, "two entries have this alias")
         table = self._text_of(source)
         about = self._about(source)
         if about is None:
             raise self.statement.refuse(source.table[0], "there is no such table or view", table)
-        alias = self.engine.quote(unquoted(source.alias)) if source.alias.kind == "text" else source.alias.text
+        alias = self.dialect.quote(unquoted(source.alias)) if source.alias.kind == "text" else source.alias.text
         self.entries.append(Entry(number, name, alias, table, about))
 
     def _text_of(self, source: Source) -> str:
         return written(source.table)
 
     def _about(self, source: Source) -> Table | None:
-        return self.engine.table(source.table)
+        return self.catalog.table(source.table)
 
     def _without_schemas(self, piece: Tokens) -> Tokens:
         """The tokens with schema.entry.column as entry.column: the entry may be a part, which is of no schema."""
@@ -110,8 +106,8 @@ class Names:
             if (
                 end - at >= 4
                 and at not in inside
-                and self.engine.schemas_in_names
-                and self.key(piece[end - 2]) in self.by_alias
+                and self.dialect.schemas_in_names
+                and self.dialect.key_of(piece[end - 2]) in self.by_alias
             ):
                 first, at = piece[at], end - 2
                 kept.append(piece[at]._replace(gap=first.gap))
@@ -133,9 +129,9 @@ class Names:
                 columns += own
                 continue
             merged = [self._merged(token, using.left, entry.number) for token in using.names]
-            gone = self.merged_away.union(merged if self.engine.merged_columns_first else ())
+            gone = self.merged_away.union(merged if self.dialect.merged_columns_first else ())
             own = [named for named in own if named not in gone]
-            if self.engine.merged_columns_first:
+            if self.dialect.merged_columns_first:
                 before = [named for named in columns if named.entry not in using.left]
                 block = [named for named in columns if named.entry in using.left and named not in gone]
                 columns = before + merged + block + own
@@ -145,7 +141,7 @@ class Names:
 
     def _merged(self, token: Token, left: range, right: int) -> Named:
         """One name of USING: an equality of the only column of that name on the left with the one on the right."""
-        key = self.key(token)
+        key = self.dialect.key_of(token)
         sides = [
             [named for number in numbers if (named := self._at(number, key)) and named not in self.merged_away]
             for numbers in (left, [right])
@@ -153,7 +149,7 @@ class Names:
         if any(len(side) != 1 for side in sides):
             raise self.statement.refuse(token, "USING needs one such column on each side")
         one, other = sides[0][0], sides[1][0]
-        side = self.engine.merged_side(one.column, other.column)
+        side = self.catalog.merged_side(one.column, other.column)
         if side is None:
             why = f"it merges {one.column.type} and {other.column.type} into one; write the equality with ON"
             raise self.statement.refuse(token, why)
@@ -171,14 +167,14 @@ class Names:
     def star(self, piece: Tokens) -> list[Named] | None:
         """The columns of an output that is a star, of all entries or of one; None where it is no star."""
         if len(piece) == 1 and piece[0].says("*"):
-            if self.usings and not self.engine.star_over_using:
+            if self.usings and not self.dialect.star_over_using:
                 raise self.statement.refuse(
                     piece[0], "write out which columns, since engines order those of USING in their own way"
                 )
             return self.columns
         if len(piece) != 3 or not (piece[0].names and piece[1].says(".") and piece[2].says("*")):
             return None
-        number = self.by_alias.get(self.key(piece[0]))
+        number = self.by_alias.get(self.dialect.key_of(piece[0]))
         if number is None:
             raise self.statement.refuse(piece[0], "no entry of FROM is called so")
         return [Named(number, column) for column in self.entries[number].about.columns]
@@ -199,7 +195,7 @@ class Names:
             behind = piece[at + 1 : at + 3]
             if len(behind) == 2 and behind[0].says(".") and (token.names or token.kind == "text"):
                 self._no_star(piece, at)
-                if self.key(token) in self.by_alias:
+                if self.dialect.key_of(token) in self.by_alias:
                     yield Place(at, 3, frozenset([self._qualified(token, behind[1])]))
             elif token.names and not self._is_a_word(piece, at):
                 found = self._bare(token, piece, at)
@@ -210,12 +206,12 @@ class Names:
         """What a token of a subquery may name of this query. It may as well be of an entry of its own."""
         token, behind = piece[at], piece[at + 1 : at + 3]
         if len(behind) == 2 and behind[0].says("."):
-            number = self.by_alias.get(self.key(token)) if token.names else None
+            number = self.by_alias.get(self.dialect.key_of(token)) if token.names else None
             if number is None:
                 return
             if behind[1].says("*"):
                 yield Place(at, 3, frozenset(Named(number, column) for column in self.entries[number].about.columns))
-            elif behind[1].names and (named := self._at(number, self.key(behind[1]))):
+            elif behind[1].names and (named := self._at(number, self.dialect.key_of(behind[1]))):
                 yield Place(at, 3, frozenset([named]))
         elif token.names and not self._is_a_word(piece, at) and self._columns_called(token):
             yield Place(at, 1, self._columns_called(token))
@@ -225,7 +221,8 @@ class Names:
         token, behind, before = piece[at], piece[at + 1 : at + 2], piece[max(at - 2, 0) : at]
         if behind and behind[0].says("("):
             return True
-        if token.kind == "word" and ((behind and behind[0].kind == "text") or self.key(token) in self.engine.reserved):
+        before_a_text = behind and behind[0].kind == "text"
+        if token.kind == "word" and (before_a_text or self.dialect.key_of(token) in self.dialect.reserved):
             return True
         part = len(before) == 2 and before[0].says("EXTRACT") and behind and behind[0].says("FROM")
         return bool(part or (len(before) == 2 and before[0].says("INTERVAL") and before[1].kind in ("text", "number")))
@@ -235,19 +232,19 @@ class Names:
             raise self.statement.refuse(piece[at], "a star stands alone, as a whole output", written(piece))
 
     def _qualified(self, qualifier: Token, token: Token) -> Named:
-        number = self.by_alias.get(self.key(qualifier))
+        number = self.by_alias.get(self.dialect.key_of(qualifier))
         if number is None:
             raise self.statement.refuse(
                 qualifier, f"no entry of FROM is called {qualifier.text}", f"{qualifier.text}.{token.text}"
             )
-        named = self._at(number, self.key(token)) if token.names or token.kind == "text" else None
+        named = self._at(number, self.dialect.key_of(token)) if token.names or token.kind == "text" else None
         if named is None:
             raise self.statement.refuse(qualifier, "the table has no such column", f"{qualifier.text}.{token.text}")
         return named
 
     def _columns_called(self, token: Token) -> frozenset[Named]:
         """The columns that a name without a table may be: the one into which USING merged all, or one of each entry."""
-        key = self.key(token)
+        key = self.dialect.key_of(token)
         if key in self.merged:
             return frozenset([self.merged[key]])
         found = (self._at(entry.number, key) for entry in self.entries)
@@ -255,7 +252,7 @@ class Names:
 
     def _bare(self, token: Token, piece: Tokens, at: int) -> frozenset[Named]:
         found = self._columns_called(token)
-        if not found and self.key(token) in self.by_alias and alias_of(piece[: at + 1]) is not token:
+        if not found and self.dialect.key_of(token) in self.by_alias and alias_of(piece[: at + 1]) is not token:
             raise self.statement.refuse(token, "a whole row isn't a value here; name its columns")
         return found
 
@@ -265,6 +262,15 @@ class Names:
             piece = piece[1:-1]
         place = next(self.places(piece), None) if len(piece) in (1, 3) else None
         return min(place.columns) if place and place.size == len(piece) and len(place.columns) == 1 else None
+
+    def equated(self, piece: Tokens) -> tuple[Named, Named] | None:
+        """The two columns, where the condition is an equality of columns of two entries and nothing else."""
+        for at, token in enumerate(piece):
+            if token.kind == "operator" and token.text in self.dialect.equals:
+                one, other = self.side(piece[:at]), self.side(piece[at + 1 :])
+                if one and other and one.entry != other.entry:
+                    return one, other
+        return None
 
     def spelled(self, piece: Tokens) -> Text:
         """The tokens as text that knows where it names columns. What USING merged is named with its entry."""
@@ -279,7 +285,7 @@ class Names:
                 parts.append(gap_between(piece[at - 1], piece[at]))
             if place:
                 [named] = place.columns
-                merged = size == 1 and self.key(piece[at]) in self.merged
+                merged = size == 1 and self.dialect.key_of(piece[at]) in self.merged
                 parts.append(Reference(named, self.qualified(named) if merged else text))
             else:
                 parts.append(text)
@@ -287,13 +293,12 @@ class Names:
         return Text(tuple(parts))
 
     def qualified(self, named: Named) -> str:
-        return f"{self.entries[named.entry].alias}.{self.engine.quote(named.column.name)}"
+        return f"{self.entries[named.entry].alias}.{self.dialect.quote(named.column.name)}"
 
     def named_bare(self, pieces: list[Tokens]) -> set[str]:
         """The keys of the merged columns that the tokens name without a table, and those that they name with one."""
-        return {self.key(piece[place.at]) for piece in pieces for place in self.places(piece) if place.size == 1} & set(
-            self.merged
-        )
+        bare = [piece[place.at] for piece in pieces for place in self.places(piece) if place.size == 1]
+        return set(map(self.dialect.key_of, bare)) & set(self.merged)
 
     def with_tables(self, pieces: list[Tokens]) -> Iterator[tuple[Token, Named]]:
         """The columns that the tokens name with their entry, and where."""
@@ -309,7 +314,7 @@ class Names:
             bare = token.names and at not in inside and not part_of_name(piece, at)
             if (
                 bare
-                and self.key(token) in outputs
+                and self.dialect.key_of(token) in outputs
                 and not self._is_a_word(piece, at)
                 and not self._columns_called(token)
             ):
@@ -319,10 +324,10 @@ class Names:
         """Refuses a subquery that names an entry of the query, or that may choose other rows at each call."""
         for start, end in subqueries(piece):
             inner = piece[start + 1 : end - 1]
-            for token, what in choosing(inner, self.engine.plain_words, self.engine.takes_bare_columns):
+            for token, what in choosing(inner, self.dialect):
                 why = "which rows a subquery takes may change from call to call; make a table of it"
                 raise self.statement.refuse(token, why, f"{what} of a subquery")
-            told = self.engine.stands_alone(inner)
+            told = self.catalog.stands_alone(inner)
             if told:
                 raise self.statement.refuse(
                     piece[start], f"only subqueries that stand alone are read ({told})", "the subquery"

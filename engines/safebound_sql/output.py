@@ -5,15 +5,14 @@ from __future__ import annotations
 import json
 from typing import Iterable
 
-from .block_plans import BlockPlan
-from .engine import Engine
+from .block_bounds import BlockPlan
 from .levels import Level, Plan, Shape, entries_of
 from .query import Named, Query
 
 
-def table(plan: Plan, engine: Engine, true_rows: list[int] | None = None) -> str:
+def table(plan: Plan, title: str, true_rows: list[int] | None = None) -> str:
     """The plan as lines: a level each, and what is worth knowing below them."""
-    heads = ["level", "joined", "of", "scan", "bound", f"{engine.title} expects", "factor"]
+    heads = ["level", "joined", "of", "scan", "bound", f"{title} expects", "factor"]
     rows = [_row(plan, number, level) for number, level in enumerate(plan.levels, 1)]
     if all(level.expected is None for level in plan.levels):
         heads, rows = heads[:5], [row[:5] for row in rows]
@@ -30,11 +29,12 @@ def table(plan: Plan, engine: Engine, true_rows: list[int] | None = None) -> str
         )
     lines.append(f"budget {plan.cost} would do")
     lines += _of_kept(plan)
-    lines += [f"not used for bounds: {text} ({why})" for text, why in plan.query.no_edges]
+    lines += plan.notes
+    lines += [f"not used for bounds: {text} ({why})" for text, why in plan.unused]
     return "\n".join(lines) + "\n"
 
 
-def blocks_table(plans: Iterable[BlockPlan], unbounded: list[str]) -> str:
+def blocks_table(plans: Iterable[BlockPlan], unbounded: list[str], notes: list[str]) -> str:
     """The plans of all blocks, and what isn't bounded."""
     lines: list[str] = []
     cost = 0
@@ -54,10 +54,12 @@ def blocks_table(plans: Iterable[BlockPlan], unbounded: list[str]) -> str:
         lines += [f"{plan.core.called}{most}", *_aligned([heads] + rows), *plan.notes, ""]
         cost = max(cost, plan.cost)
     lines += [f"not bounded: {why}" for why in unbounded]
-    return "\n".join(lines + [f"budget {cost} would do"]) + "\n"
+    return "\n".join([*lines, f"budget {cost} would do", *notes]) + "\n"
 
 
-def blocks_document(plans: Iterable[BlockPlan], unbounded: list[str], engine: Engine, sql: str) -> str:
+def blocks_document(
+    plans: Iterable[BlockPlan], unbounded: list[str], notes: list[str], settings: tuple[str, ...], sql: str
+) -> str:
     """The same as JSON."""
     told = {
         "blocks": [
@@ -77,8 +79,9 @@ def blocks_document(plans: Iterable[BlockPlan], unbounded: list[str], engine: En
             if plan.levels
         ],
         "not bounded": unbounded,
+        "notes": notes,
         "least budget": max((plan.cost for plan in plans), default=0),
-        "setting": engine.keeps_order,
+        "setting": "; ".join(settings),
         "sql": sql,
     }
     return json.dumps(told, indent=2, ensure_ascii=False) + "\n"
@@ -129,7 +132,7 @@ def _aligned(rows: list[list[str]]) -> list[str]:
     return ["  ".join(side(cell, width) for side, cell, width in zip(sides, row, widths)).rstrip() for row in rows]
 
 
-def document(plan: Plan, engine: Engine, sql: str, true_rows: list[int] | None = None) -> str:
+def document(plan: Plan, settings: tuple[str, ...], sql: str, true_rows: list[int] | None = None) -> str:
     """The plan as JSON."""
     query = plan.query
     levels = [_level(query, level) for level in plan.levels]
@@ -145,14 +148,15 @@ def document(plan: Plan, engine: Engine, sql: str, true_rows: list[int] | None =
         ],
         "equalities": [[_column(query, side) for side in equality] for equality in query.equalities],
         "conditions": [str(condition.text) for condition in query.conditions],
-        "not used for bounds": [{"condition": str(text), "why": why} for text, why in query.no_edges],
+        "not used for bounds": [{"condition": str(text), "why": why} for text, why in plan.unused],
         "order": [query.entries[number].name for number in entries_of(plan.shape)],
         "tree": _shape(query, plan.shape) if plan.tree else None,
         "levels": levels,
         "least budget": plan.cost,
+        "notes": plan.notes,
         "kept": plan.kept,
         "counted anew": list(plan.changed),
-        "setting": engine.keeps_order,
+        "setting": "; ".join(settings),
         "sql": sql,
     }
     return json.dumps(told, indent=2, ensure_ascii=False) + "\n"
@@ -160,7 +164,10 @@ def document(plan: Plan, engine: Engine, sql: str, true_rows: list[int] | None =
 
 def _level(query: Query, level: Level) -> dict[str, object]:
     names = [query.entries[number].name for number in entries_of(level.shape)]
-    return {"entries": names, "bound": level.bound, "expected": level.expected, "factor": level.factor}
+    return {
+        "entries": names, "bound": level.bound, "counted by": level.counted, "expected": level.expected,
+        "factor": level.factor,
+    }
 
 
 def _column(query: Query, named: Named) -> dict[str, str]:

@@ -7,11 +7,13 @@ import re
 from collections import Counter
 from typing import Collection, Iterator, TextIO
 
+from .counted import Lowering
 from .counting import Counts, counting, counts_of, counts_of_file, prefix_for
+from .dialect import as_script
 from .engine import Engine
-from .faults import EngineFault
+from .faults import EngineFault, PastBudget
 from .kept import Kept
-from .levels import Plan, planned
+from .levels import MOST_BUDGET, Plan, planned
 from .meaning import Meaning
 from .progress import Progress
 from .query import Row
@@ -52,25 +54,26 @@ class Planner:
         self.progress = progress or Progress()
         self.meaning = Meaning(text, engine)
         self.query = self.meaning.query
-        engine.joins(entry.about for entry in self.query.entries)
+        engine.connection.prepare_joins(entry.about for entry in self.query.entries)
         self.prefix = prefix_for([text])
         self.note = self._fits()
         self.reduce = self.reduce and not self.note
-        self.writer = Writer(self.query, engine, self.prefix, self.reduce)
+        self.writer = Writer(self.query, engine.dialect, self.prefix, self.reduce)
 
     def _fits(self) -> str | None:
         """Why semi-joins are left out: where parts aren't kept, the statement would read a table too often."""
-        if not self.reduce or self.engine.most_scans is None:
+        dialect = self.engine.dialect
+        if not self.reduce or dialect.most_scans is None:
             return None
         table, times = scans(self.counting, self.prefix).most_common(1)[0]
-        if times <= self.engine.most_scans:
+        if times <= dialect.most_scans:
             return None
-        why = f"{self.engine.title} computes a part again wherever it is named, and would read {table} {times} times"
+        why = f"{dialect.title} computes a part again wherever it is named, and would read {table} {times} times"
         return f"{why}; so this counts under own conditions alone, as with --no-reduce, and so do plan and sql"
 
     @property
     def counting(self) -> str:
-        return counting(self.query, self.engine, self.prefix, self.reduce)
+        return counting(self.query, self.engine.dialect, self.prefix, self.reduce)
 
     def plan(self, accuracy: int, budget: int, tree: bool, counts_file: str | None = None) -> Plan:
         """Counts and plans."""
@@ -79,6 +82,15 @@ class Planner:
         else:
             counts = counts_of(self.query, self._counted(()))
         return self.planned(counts, accuracy, budget, tree)
+
+    def plan_by_counting(self, accuracy: int, budget: int, tree: bool) -> Plan:
+        """Counts and plans, and lowers the bounds of the plan's levels to what is counted of them."""
+        plan = self.plan(accuracy, MOST_BUDGET, tree)
+        with self.progress.doing(f"counting the choices of rows of {len(plan.levels)} levels"):
+            Lowering(plan, self.engine, self.prefix, self.reduce).lower()
+        if plan.cost > budget:
+            raise PastBudget(budget, plan.cost)
+        return plan
 
     def plan_by_kept(self, accuracy: int, budget: int, tree: bool, kept: Kept) -> Plan:
         """Plans by kept counts where these are of as many rows as there are now, and counts the other entries."""
@@ -104,14 +116,15 @@ class Planner:
         with self.progress.doing(f"counting the rows of {len(self.query.entries) - len(known)} entries"), _explained(
             f"while counting, {told}"
         ):
-            return self.engine.rows(counting(self.query, self.engine, self.prefix, self.reduce, known))
+            statement = counting(self.query, self.engine.dialect, self.prefix, self.reduce, known)
+            return self.engine.connection.rows(statement)
 
     def planned(self, counts: Counts, accuracy: int, budget: int, tree: bool) -> Plan:
         return planned(self.query, counts, accuracy, budget, tree)
 
     def check(self, plan: Plan) -> None:
         """Has the engine look at the planned query before anybody is told that it is admitted."""
-        why = self.engine.complaint(self.sql(plan))
+        why = self.engine.catalog.complaint(self.sql(plan))
         if why:
             hint = (
                 "try --no-reduce, by which the tables themselves are joined"
@@ -123,28 +136,33 @@ class Planner:
     def expect(self, plan: Plan) -> None:
         """Asks the engine what it expects of each level."""
         for level in plan.levels:
-            level.expected = self.engine.expected(self.writer.plainly(level.shape))
+            level.expected = self.engine.catalog.expected(self.writer.plainly(level.shape))
+
+    @property
+    def settings(self) -> tuple[str, ...]:
+        """What keeps the joins in their order."""
+        return self.engine.dialect.settings_for(entry.about for entry in self.query.entries)
 
     def sql(self, plan: Plan) -> str:
         return self.writer.query_in_order(plan)
 
     def script(self, plan: Plan) -> str:
         """The same with the settings before it that make the engine keep the order."""
-        setting = f"{self.engine.keeps_order};\n" if self.engine.keeps_order else ""
-        return f"{setting}{self.sql(plan)};\n"
+        return as_script(*self.settings, self.sql(plan))
 
     def true_rows(self, plan: Plan) -> list[int]:
-        self.engine.keep_order()
+        self.engine.connection.keep_order()
         with self.progress.doing(f"counting the rows of {len(plan.levels)} levels"):
-            found = {number: rows for number, rows in self.engine.rows(self.writer.true_rows(plan.levels))}
+            answer = self.engine.connection.rows(self.writer.true_rows(plan.levels))
+        found = {number: rows for number, rows in answer}
         return [found[number] for number in range(1, len(plan.levels) + 1)]
 
     def run(self, plan: Plan, out: TextIO, null: str = "") -> None:
         """Writes the rows. From the first one on nothing else is written."""
-        self.engine.keep_order()
+        self.engine.connection.keep_order()
         told = "in the planned order, which may come to rows that the query itself never reaches"
         told += "; --no-reduce tests conditions later" if self.reduce else ""
         with self.progress.doing("joining") as end, _explained(told):
-            for part in self.engine.csv(self.sql(plan), null):
+            for part in self.engine.connection.csv(self.sql(plan), null):
                 end()
                 out.write(part)

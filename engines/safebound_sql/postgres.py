@@ -7,10 +7,14 @@ import codecs
 import contextlib
 import functools
 import json
-from typing import Any, Iterable, Iterator, Sequence
+from dataclasses import dataclass, replace
+from typing import Any, Iterable, Iterator, Mapping, Sequence
 
-from .engine import Engine, one_line, with_names
-from .faults import EngineFault, Missing, Refused
+from safebound.sql_texts import written_text
+
+from .dialect import Dialect
+from .engine import Catalog, Connection, Engine, one_line, with_names
+from .faults import EngineFault, Fault, Missing, Refused
 from .query import Column, Row, Spread, Table
 from .tokens import POSTGRES, Token, written
 
@@ -42,7 +46,7 @@ ORDER BY a.attnum
 
 # Functions and operators by their names: bare ones that are visible, those of a schema, and those of a row, which are
 # written as columns. Some call themselves STABLE and tell of the session or of what goes on now.
-FICKLE = """
+VOLATILE = """
 WITH named AS (
     SELECT proname AS name, p.* FROM pg_proc p
     WHERE proname = ANY(%(bare)s) AND pg_function_is_visible(oid) OR proname = ANY(%(qualified)s)
@@ -120,6 +124,8 @@ WHY_SETTINGS = (
     "it tells the session's settings, which aren't the same while the query is counted and while it is joined"
 )
 
+WHY_ACTIVITY = "it tells of what goes on now, and not of the snapshot"
+
 TYPES = "SELECT t, format_type(t, NULL) FROM unnest(%s::oid[]) AS t"
 
 COMMON = """
@@ -136,188 +142,195 @@ FROM pg_class c JOIN pg_namespace n ON n.oid = relnamespace WHERE c.oid = to_reg
 """
 
 
-class Postgres(Engine):
-    dialect = "postgres"
-    title = "PostgreSQL"
-    rules = POSTGRES
-    comma_binds_less = True
-    merged_columns_first = True
-    keeps_order = "SET join_collapse_limit = 1"
-    join_word = "JOIN"
-    keeps_using = True
-    columns_may_be_calls = True
+# PostgreSQL expects ten values of an array that goes along, and would join by nested loops what it expects few rows of.
+# Where there is no other way it still does, at a cost for which it would compile the statement.
+NO_NESTED_LOOPS, NO_COMPILING = "enable_nestloop = off", "jit = off"
+FOR_SEVERAL_SERVERS = (NO_NESTED_LOOPS, NO_COMPILING)
+IN_ORDER = ("join_collapse_limit = 1",)
 
-    def __init__(self, url: str, timeout: int | None) -> None:
-        if psycopg is None:
-            raise Missing("PostgreSQL is asked through psycopg 3: run engines/setup, or install python3-psycopg")
-        try:
-            self.connection = psycopg.connect(url, client_encoding="utf8")
-            self.connection.isolation_level = psycopg.IsolationLevel.REPEATABLE_READ
-            self.connection.read_only = True
-            if timeout:
-                self.connection.execute(f"SET LOCAL statement_timeout = {timeout * 1000}")
-            plain, encoding = self._value("SHOW standard_conforming_strings"), self._value("SHOW server_encoding")
-            words = self.connection.execute("SELECT word FROM pg_get_keywords() WHERE catcode IN ('R', 'T')").fetchall()
-            before = self.connection.execute(BEFORE_CATALOG).fetchall()
-        except psycopg.Error as error:
-            raise EngineFault(one_line(error)) from None
-        if plain != "on":
-            raise EngineFault("standard_conforming_strings is off, so texts are read in another way than here")
-        if encoding == "SQL_ASCII":
-            raise Refused("the database's encoding is SQL_ASCII, in which texts are bytes of no known characters")
-        if before:
-            why = (
-                "has functions or operators that are found before PostgreSQL's own; set search_path with pg_catalog"
-                " first"
-            )
-            raise Refused(f"the schema {before[0][0]} {why}")
-        self.reserved = frozenset(word for (word,) in words)
+# Equal values of these types are the same to every function: "char", bigint, boolean, bytea, date, integer, name, oid,
+# smallint, text, time and timestamp with and without a zone, uuid, varchar. 1.0 and 1.00 are equal as numeric, and are
+# two texts; of a declared scale they are the same, and so are texts of a declared length.
+SAME_WHEN_EQUAL = (18, 20, 16, 17, 1082, 23, 19, 26, 21, 25, 1083, 1266, 1114, 1184, 2950, 1043)
 
-    def _value(self, sql: str) -> Any:
-        """The one value of an answer."""
-        [[value]] = self.connection.execute(sql).fetchall()
-        return value
 
-    @contextlib.contextmanager
-    def _told(self) -> Iterator[None]:
-        try:
-            yield
-        except psycopg.Error as error:
-            raise EngineFault(one_line(error), isinstance(error, psycopg.DataError)) from None
+@dataclass(frozen=True)
+class PostgresDialect(Dialect):
+    def settings_for(self, tables: Iterable[Table]) -> tuple[str, ...]:
+        more = FOR_SEVERAL_SERVERS if any(table.spread for table in tables) else ()
+        return self.settings + tuple(f"SET {setting}" for setting in more)
 
-    def asks_for_now(self, pieces: list[Token], at: int, below: bool = False) -> bool:
+    def reads_clock(self, pieces: list[Token], at: int, below: bool = False) -> bool:
         """now() is one time for the whole transaction, and this function calls itself STABLE too."""
-        return pieces[at].names and self.spelled(pieces[at]) == "statement_timestamp"
+        return pieces[at].names and self.key_of(pieces[at]) == "statement_timestamp"
 
-    def table(self, name: list[Token]) -> Table | None:
-        with self._told(), self.connection.transaction():
-            found = self.connection.execute(TABLE, [written(name)]).fetchone()
-            if found is None:
-                return None
-            columns = tuple(Column(*row) for row in self.connection.execute(COLUMNS, found[:1]))
-            spread = self._spread(found[0])
-        return Table(
-            columns, {column.name: column for column in columns}, f"{self.cluster} {found[1]}", spread, tuple(found[2])
-        )
-
-    def _spread(self, table: int) -> Spread | None:
-        found = self.connection.execute(SPREAD, {"table": table}).fetchone()
-        return Spread(tuple(found[0]), found[1]) if found else None
-
-    def joins(self, tables: Iterable[Table]) -> None:
-        """PostgreSQL takes the values that go along for ten, and would join by nested loops what it takes for few rows.
-
-        Where there is no other way it still does, at a price that it would compile the statement for.
-        """
-        if any(table.spread for table in tables):
-            with self._told():
-                self.connection.execute("SET LOCAL enable_nestloop = off; SET LOCAL jit = off")
-            self.keeps_order = f"{Postgres.keeps_order}; SET enable_nestloop = off; SET jit = off"
-
-    def described(self, sql: str) -> list[Column]:
-        """Nothing is run for it. A text's collation isn't told, so that texts have no kind."""
-        with self._told(), self.connection.transaction():
-            answer = self.connection.execute(f"SELECT q.* FROM (SELECT 1) AS one LEFT JOIN ({sql}\n) AS q ON false")
-            columns = [(column.name, column.type_code) for column in answer.description or ()]
-            codes = [[code for _, code in columns]]
-            kinds = {code: kind for code, kind in self.connection.execute(KINDS, codes)}
-            types = {code: name for code, name in self.connection.execute(TYPES, codes)}
-        return [Column(name, types[code], kinds.get(code)) for name, code in columns]
-
-    def makes_rows(self, pieces: list[Token]) -> bool:
-        called = [self.spelled(token) for token, behind in zip(pieces, pieces[1:]) if token.names and behind.says("(")]
-        return bool(self.rows_given("SELECT FROM pg_proc WHERE proretset AND proname = ANY(%s) LIMIT 1", [called]))
-
-    def rows_given(self, sql: str, given: Sequence[object]) -> list[Row]:
-        with self._told():
-            return self.connection.execute(sql, given).fetchall()
-
-    def merged_side(self, left: Column, right: Column) -> int | None:
-        """The column that isn't converted to the type of both is taken, the left one where neither is."""
-        if left.type == right.type:
-            return 0
-        common, *own = self.rows(COMMON.format(left.type, right.type))[0]
-        plain = [common == mine and "(" not in column.type for mine, column in zip(own, (left, right))]
-        return 0 if plain[0] else 1 if plain[1] else 0 if common == own[0] else None
-
-    def sent(self, value: str, column: Column, rows: str) -> str:
+    def remote_in(self, value: str, column: Column, rows: str) -> str:
         """postgres_fdw sends no conversion of an array, and texts of any length are compared as texts without a
         length."""
         name = self.quote(column.name)
         values = f"CAST({name} AS TEXT)" if column.type.startswith("character varying") else name
         return f"{value} = ANY(ARRAY(SELECT {values} FROM {rows}))"
 
+
+DIALECT = PostgresDialect(
+    name="postgres",
+    title="PostgreSQL",
+    rules=POSTGRES,
+    keeps_using=True,
+    columns_may_be_calls=True,
+    counts_exactly=True,
+    settings=tuple(f"SET {setting}" for setting in IN_ORDER),
+)
+
+
+class PostgresConnection(Connection):
+    def __init__(self, url: str, timeout: int | None) -> None:
+        if psycopg is None:
+            raise Missing("PostgreSQL is asked through psycopg 3: run engines/setup, or install python3-psycopg")
+        with told():
+            self.connection = psycopg.connect(url, client_encoding="utf8")
+            self.connection.isolation_level = psycopg.IsolationLevel.REPEATABLE_READ
+            self.connection.read_only = True
+            if timeout:
+                self.connection.execute(f"SET LOCAL statement_timeout = {timeout * 1000}")
+
+    def value(self, sql: str) -> Any:
+        """The one value of an answer."""
+        [[value]] = self.rows(sql)
+        return value
+
+    def rows(self, sql: str, given: Sequence[object] | Mapping[str, object] | None = None) -> list[Row]:
+        with told():
+            return self.connection.execute(sql, given).fetchall()
+
+    def counted(self, sql: str, large: bool) -> list[Row]:
+        """Of large parts each is hashed, for however few rows PostgreSQL takes it. Nothing is compiled."""
+        with told(), self.connection.transaction(force_rollback=True):
+            self._set((NO_NESTED_LOOPS, NO_COMPILING) if large else (NO_COMPILING,))
+            return self.connection.execute(sql).fetchall()
+
+    def stream(self, sql: str) -> Iterator[Row]:
+        with told(), self.connection.cursor("safebound") as cursor:
+            cursor.execute(sql)
+            yield from with_names(cursor, [column.name for column in cursor.description or ()])
+
+    def csv(self, sql: str, null: str = "") -> Iterator[str]:
+        decoder = codecs.getincrementaldecoder(self.connection.info.encoding)()
+        with told(), self.connection.cursor() as cursor:
+            with cursor.copy(f"COPY ({sql}) TO STDOUT (FORMAT csv, HEADER, NULL {written_text(null)})") as answer:
+                for block in answer:
+                    yield decoder.decode(bytes(block))
+
+    def prepare_joins(self, tables: Iterable[Table]) -> None:
+        if any(table.spread for table in tables):
+            self._set(FOR_SEVERAL_SERVERS)
+
+    def keep_order(self) -> None:
+        self._set(IN_ORDER)
+
+    def _set(self, settings: tuple[str, ...]) -> None:
+        """Until the transaction ends."""
+        with told():
+            self.connection.execute("; ".join(f"SET LOCAL {setting}" for setting in settings))
+
+    def close(self) -> None:
+        if self.connection.info.transaction_status == psycopg.pq.TransactionStatus.ACTIVE:
+            self.connection.cancel()
+        self.connection.close()
+
+
+class PostgresCatalog(Catalog):
+    def __init__(self, connection: PostgresConnection, dialect: Dialect) -> None:
+        self.connection, self.dialect = connection, dialect
+
+    @contextlib.contextmanager
+    def _apart(self) -> Iterator[psycopg.Connection[Row]]:
+        """The connection within a savepoint, so that a statement that fails leaves the transaction as it was."""
+        with told(), self.connection.connection.transaction():
+            yield self.connection.connection
+
+    def table(self, name: list[Token]) -> Table | None:
+        with self._apart() as connection:
+            found = connection.execute(TABLE, [written(name)]).fetchone()
+            if found is None:
+                return None
+            columns = tuple(Column(*row) for row in connection.execute(COLUMNS, found[:1]))
+            spread = connection.execute(SPREAD, {"table": found[0]}).fetchone()
+        return Table(
+            columns, {column.name: column for column in columns}, f"{self.cluster} {found[1]}",
+            Spread(tuple(spread[0]), spread[1]) if spread else None, tuple(found[2]),
+        )
+
+    def described(self, sql: str) -> list[Column]:
+        """Nothing is run for it. A text's collation isn't told, so that texts have no kind."""
+        with self._apart() as connection:
+            answer = connection.execute(f"SELECT q.* FROM (SELECT 1) AS one LEFT JOIN ({sql}\n) AS q ON false")
+            columns = [(column.name, column.type_code) for column in answer.description or ()]
+            codes = [[code for _, code in columns]]
+            kinds = {code: kind for code, kind in connection.execute(KINDS, codes)}
+            types = {code: name for code, name in connection.execute(TYPES, codes)}
+        return [Column(name, types[code], kinds.get(code)) for name, code in columns]
+
+    def returns_sets(self, pieces: list[Token]) -> bool:
+        called = [
+            self.dialect.key_of(token) for token, behind in zip(pieces, pieces[1:]) if token.names and behind.says("(")
+        ]
+        asked = "SELECT FROM pg_proc WHERE proretset AND proname = ANY(%s) LIMIT 1"
+        return bool(self.connection.rows(asked, [called]))
+
+    def merged_side(self, left: Column, right: Column) -> int | None:
+        """The column that isn't converted to the type of both is taken, the left one where neither is."""
+        if left.type == right.type:
+            return 0
+        common, *own = self.connection.rows(COMMON.format(left.type, right.type))[0]
+        plain = [common == mine and "(" not in column.type for mine, column in zip(own, (left, right))]
+        return 0 if plain[0] else 1 if plain[1] else 0 if common == own[0] else None
+
     @functools.cached_property
     def cluster(self) -> str:
         """What tells this server's data from another's, where this user may ask."""
         may = "SELECT has_function_privilege('pg_control_system()', 'execute')"
         ask = "SELECT system_identifier::text FROM pg_control_system()"
-        return str(self._value(ask)) if self._value(may) else "a server"
+        return str(self.connection.value(ask)) if self.connection.value(may) else "a server"
 
-    def fickle(self, names: set[str]) -> dict[str, str]:
+    def volatile(self, names: set[str]) -> dict[str, str]:
         dots = {name: len(name) - len(name.lstrip(".")) for name in names}
         given = {
             kind: [name[count:] for name in names if dots[name] == count]
             for count, kind in enumerate(("bare", "qualified", "attributes"))
         }
-        with self._told():
-            found = self.connection.execute(FICKLE, given).fetchall()
-        why = {}
-        for name, volatile, settings in found:
-            now = "it tells of what goes on now, and not of the snapshot"
-            why[name] = self.why_fickle if volatile else WHY_SETTINGS if settings else now
+        why = {
+            name: self.dialect.why_volatile if volatile else WHY_SETTINGS if settings else WHY_ACTIVITY
+            for name, volatile, settings in self.connection.rows(VOLATILE, given)
+        }
         return {name: why[name.lstrip(".")] for name in sorted(names) if name.lstrip(".") in why}
 
     def view_texts(self, names: set[str]) -> list[tuple[str, str, str]]:
-        with self._told():
-            found = self.connection.execute(VIEWS, {"names": sorted(names)}).fetchall()
+        found = self.connection.rows(VIEWS, {"names": sorted(names)})
         return [(name, what, text) for name, what, text in found]
 
     def without_snapshot(self, names: set[str]) -> dict[str, str]:
-        with self._told():
-            found = self.connection.execute(WITHOUT_SNAPSHOT, [sorted(names)]).fetchall()
+        found = self.connection.rows(WITHOUT_SNAPSHOT, [sorted(names)])
         why = "whose rows may be others in each statement; make a table of it, and name that"
         return {name: f"it has rows of {wrapper}, {why}" for name, wrapper in found}
 
     def takes(self, sql: str) -> None:
         self._explain(sql)
 
-    def complaint(self, sql: str) -> str | None:
-        try:
-            self._explain(sql)
-        except EngineFault as fault:
-            return str(fault)
-        return None
-
     def expected(self, sql: str) -> int | None:
         return int(self._explain(sql)["Plan Rows"])
 
     def _explain(self, sql: str) -> dict[str, Any]:
-        with self._told(), self.connection.transaction():
-            answer = self._value(f"EXPLAIN (FORMAT JSON) {sql}")
+        with self._apart():
+            answer = self.connection.value(f"EXPLAIN (FORMAT JSON) {sql}")
         told: dict[str, Any] = (answer if isinstance(answer, list) else json.loads(answer))[0]["Plan"]
         return told
 
-    def keep_order(self) -> None:
-        with self._told():
-            self.connection.execute("SET LOCAL join_collapse_limit = 1")
-
-    def rows(self, sql: str) -> list[Row]:
-        with self._told():
-            return self.connection.execute(sql).fetchall()
-
-    def stream(self, sql: str) -> Iterator[Row]:
-        with self._told(), self.connection.cursor("safebound") as cursor:
-            cursor.execute(sql)
-            yield from with_names(cursor, [column.name for column in cursor.description or ()])
-
-    def csv(self, sql: str, null: str = "") -> Iterator[str]:
-        told = "'" + null.replace("'", "''") + "'"
-        decoder = codecs.getincrementaldecoder(self.connection.info.encoding)()
-        with self._told(), self.connection.cursor() as cursor:
-            with cursor.copy(f"COPY ({sql}) TO STDOUT (FORMAT csv, HEADER, NULL {told})") as answer:
-                for block in answer:
-                    yield decoder.decode(bytes(block))
+    def same_when_equal(self, column: Column) -> bool:
+        if column.kind is None or (_collation(column) and self._folds(column)):
+            return False
+        number = int(str(column.kind).split()[0])
+        return number in SAME_WHEN_EQUAL or column.type.startswith(("numeric(", "character("))
 
     def exports(self, column: Column) -> bool:
         return self.whole_numbers(column) or (self._is_text(column) and not self._folds(column))
@@ -329,19 +342,47 @@ class Postgres(Engine):
         return column.type == "text" or column.type.startswith("character varying")
 
     def _folds(self, column: Column) -> bool:
-        [[exact]] = self.rows(f"SELECT collisdeterministic FROM pg_collation WHERE oid = {_collation(column)}")
-        return not exact
+        exact = f"SELECT collisdeterministic FROM pg_collation WHERE oid = {_collation(column)}"
+        return not self.connection.value(exact)
 
     def plain_order(self, column: Column) -> bool:
         plain = f"SELECT FROM pg_collation WHERE oid = {_collation(column)} AND collname IN ('C', 'POSIX')"
-        return bool(self.rows(plain))
+        return bool(self.connection.rows(plain))
 
-    def close(self) -> None:
-        if self.connection.info.transaction_status == psycopg.pq.TransactionStatus.ACTIVE:
-            self.connection.cancel()
-        self.connection.close()
+
+@contextlib.contextmanager
+def told() -> Iterator[None]:
+    """Makes a fault of what psycopg raises."""
+    try:
+        yield
+    except psycopg.Error as error:
+        raise EngineFault(one_line(error), isinstance(error, psycopg.DataError)) from None
 
 
 def _collation(column: Column) -> int:
     """The number of a column's collation, which is the second word of its kind."""
     return int(str(column.kind).split()[1])
+
+
+def opened(url: str, timeout: int | None) -> Engine:
+    """A server whose texts and names are read as they are here."""
+    connection = PostgresConnection(url, timeout)
+    try:
+        _refuse_other_readings(connection)
+        words = connection.rows("SELECT word FROM pg_get_keywords() WHERE catcode IN ('R', 'T')")
+    except Fault:
+        connection.close()
+        raise
+    dialect = replace(DIALECT, reserved=frozenset(word for (word,) in words))
+    return Engine(dialect, PostgresCatalog(connection, dialect), connection)
+
+
+def _refuse_other_readings(connection: PostgresConnection) -> None:
+    if connection.value("SHOW standard_conforming_strings") != "on":
+        raise EngineFault("standard_conforming_strings is off, so texts are read in another way than here")
+    if connection.value("SHOW server_encoding") == "SQL_ASCII":
+        raise Refused("the database's encoding is SQL_ASCII, in which texts are bytes of no known characters")
+    before = connection.rows(BEFORE_CATALOG)
+    if before:
+        why = "has functions or operators that are found before PostgreSQL's own; set search_path with pg_catalog first"
+        raise Refused(f"the schema {before[0][0]} {why}")

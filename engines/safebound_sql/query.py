@@ -119,6 +119,17 @@ class Query:
     no_edges: list[tuple[Text, str]] = field(default_factory=list)
     needed: set[Named] = field(default_factory=set)
 
+    def take_equality(self, one: Named, other: Named) -> str | None:
+        """Takes an equality for the bounds, once. Answers why not, where it is none that they can use."""
+        if one.column.kind is None or one.column.kind != other.column.kind:
+            return f"{one.column.type} and {other.column.type} aren't compared as they are grouped"
+        if Equality(one, other) in self.equalities or Equality(other, one) in self.equalities:
+            return None
+        if len(self.equalities) == MOST_EQUALITIES:
+            return f"{MOST_EQUALITIES} others come before it"
+        self.equalities.append(Equality(one, other))
+        return None
+
     def joined(self, entry: int) -> list[Column]:
         """The columns of an entry that equalities name, in the order of the table."""
         named = {side.column for equality in self.equalities for side in equality if side.entry == entry}

@@ -10,6 +10,7 @@ from __future__ import annotations
 from dataclasses import dataclass, field
 from typing import Iterator
 
+from .dialect import Dialect
 from .faults import Refused
 from .tokens import Token, closing, part_of_name, place
 
@@ -138,14 +139,12 @@ def _end_of_case(pieces: Tokens, start: int) -> int:
 class Reader:
     """Reads one statement from its first token to its last."""
 
-    def __init__(
-        self, text: str, pieces: Tokens, comma_binds_less: bool, plain_words: tuple[str, ...], in_blocks: bool = False
-    ) -> None:
+    def __init__(self, text: str, pieces: Tokens, dialect: Dialect, in_blocks: bool = False) -> None:
         self.statement = Statement(text)
         self.pieces = pieces
         self.at = 0
-        self.comma_binds_less = comma_binds_less
-        self.plain_words = plain_words
+        self.comma_binds_less = dialect.comma_binds_less
+        self.plain_words = dialect.plain_words
         self.in_blocks = in_blocks
         self.holes: list[tuple[int, int, int | None]] = []
 
@@ -382,12 +381,6 @@ def at_commas(pieces: Tokens) -> Iterator[Tokens]:
     yield part
 
 
-def read(
-    text: str, pieces: Tokens, comma_binds_less: bool, plain_words: tuple[str, ...] = (), in_blocks: bool = False
-) -> Statement:
-    """The parts of the query. In PostgreSQL a comma binds less than JOIN; in SQLite both bind alike.
-
-    `plain_words` are names to the engine, where others have keywords. `in_blocks` it may have outer joins and queries
-    in FROM.
-    """
-    return Reader(text, pieces, comma_binds_less, plain_words, in_blocks).read()
+def read(text: str, pieces: Tokens, dialect: Dialect, in_blocks: bool = False) -> Statement:
+    """The parts of the query. `in_blocks` it may have outer joins and queries in FROM."""
+    return Reader(text, pieces, dialect, in_blocks).read()

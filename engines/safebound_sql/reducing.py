@@ -11,7 +11,7 @@ import re
 from dataclasses import dataclass, field
 from typing import Dict, Iterable, List, Tuple
 
-from .engine import Engine
+from .dialect import Dialect
 from .query import Column, Entry, Query
 
 
@@ -37,12 +37,12 @@ class Parts:
             self.sizes[entry] = size
         return kept
 
-    def add(self, entry: Entry, engine: Engine, columns: list[Column], conditions: list[str], prefix: str) -> None:
+    def add(self, entry: Entry, dialect: Dialect, columns: list[Column], conditions: list[str], prefix: str) -> None:
         """A new part with these columns of an entry's rows, as far as the conditions are true."""
         name = f"{prefix}{len(self.texts) + 1}"
         outputs = (
-            ", ".join(f"{entry.alias}.{engine.quote(column.name)}" for column in columns)
-            or f"1 AS {engine.quote(prefix)}"
+            ", ".join(f"{entry.alias}.{dialect.quote(column.name)}" for column in columns)
+            or f"1 AS {dialect.quote(prefix)}"
         )
         rows = self.rows.get(entry.number, entry.table)
         self.texts.append((name, f"SELECT {outputs} FROM {rows} AS {entry.alias}{where(conditions)}"))
@@ -103,31 +103,31 @@ def steps(query: Query) -> Iterable[tuple[int, list[int]]]:
         yield from around_a_cycle(joined, reached) if closes_a_cycle(joined, reached) else along_a_tree(reached)
 
 
-def reduced(query: Query, engine: Engine, columns: dict[int, list[Column]], prefix: str) -> Parts:
+def reduced(query: Query, dialect: Dialect, columns: dict[int, list[Column]], prefix: str) -> Parts:
     """The entries' reduced rows with these of their columns."""
     joined, parts = partners(query), Parts()
     for entry, others in steps(query):
         first = entry not in parts.rows
         conditions = own_conditions(query.entries[entry]) if first else []
-        others = parts.within(entry, others, engine.most_parts_of_a_part)
+        others = parts.within(entry, others, dialect.most_parts_of_a_part)
         for other in others:
-            conditions.append(semi_join(query, engine, entry, other, joined[entry][other], parts.rows[other]))
+            conditions.append(semi_join(query, dialect, entry, other, joined[entry][other], parts.rows[other]))
         if first or others:
-            parts.add(query.entries[entry], engine, columns[entry], conditions, prefix)
+            parts.add(query.entries[entry], dialect, columns[entry], conditions, prefix)
     return parts
 
 
 def semi_join(
-    query: Query, engine: Engine, entry: int, other: int, pairs: list[tuple[Column, Column]], rows: str
+    query: Query, dialect: Dialect, entry: int, other: int, pairs: list[tuple[Column, Column]], rows: str
 ) -> str:
     """By IN, for which SQLite makes an index once, and PostgreSQL a hash. Not every engine takes several columns
     there."""
     mine, yours = query.entries[entry].alias, query.entries[other].alias
-    if len(pairs) > 1 and not engine.takes_rows_in:
-        meet = [f"{yours}.{engine.quote(right.name)} = {mine}.{engine.quote(left.name)}" for left, right in pairs]
+    if len(pairs) > 1 and not dialect.takes_rows_in:
+        meet = [f"{yours}.{dialect.quote(right.name)} = {mine}.{dialect.quote(left.name)}" for left, right in pairs]
         return f"EXISTS (SELECT 1 FROM {rows} AS {yours}{where(meet)})"
-    left = ", ".join(f"{mine}.{engine.quote(column.name)}" for column, _ in pairs)
-    right = ", ".join(f"{yours}.{engine.quote(column.name)}" for _, column in pairs)
+    left = ", ".join(f"{mine}.{dialect.quote(column.name)}" for column, _ in pairs)
+    right = ", ".join(f"{yours}.{dialect.quote(column.name)}" for _, column in pairs)
     return f"{left if len(pairs) == 1 else f'({left})'} IN (SELECT {right} FROM {rows} AS {yours})"
 
 

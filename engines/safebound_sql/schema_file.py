@@ -25,12 +25,14 @@ EQUAL_AS_GROUPED = re.compile(r"DATE|BOOLEAN|BOOL|UUID|CHAR\(\d+\)|(BIG)?NUMERIC
 class Keys(Protocol):
     """How an engine finds names."""
 
-    rules: re.Pattern[str]
+    @property
+    def rules(self) -> re.Pattern[str]:
+        """What its tokens are."""
 
     def table_key(self, name: Tokens) -> tuple[str, ...]:
         """By what a table is found."""
 
-    def name_key(self, token: Token) -> str:
+    def key_of(self, token: Token) -> str:
         """By what a column is found."""
 
 
@@ -47,12 +49,12 @@ def kind_of(declared: str) -> Hashable | None:
     return name if EQUAL_AS_GROUPED.fullmatch(name) else None
 
 
-def declared(text: str, engine: Keys) -> dict[tuple[str, ...], Table]:
+def declared(text: str, dialect: Keys) -> dict[tuple[str, ...], Table]:
     """The tables of the text, by what the engine finds them by."""
     found: dict[tuple[str, ...], Table] = {}
-    for pieces in _statements(tokens(text, engine.rules)):
-        name, columns = _table(text, pieces, engine)
-        key = engine.table_key(name)
+    for pieces in _statements(tokens(text, dialect.rules)):
+        name, columns = _table(text, pieces, dialect)
+        key = dialect.table_key(name)
         if key in found:
             raise _wrong(text, name[0], "this table is declared twice")
         found[key] = columns
@@ -75,7 +77,7 @@ def _statements(pieces: Tokens) -> Iterator[Tokens]:
         yield statement
 
 
-def _table(text: str, pieces: Tokens, engine: Keys) -> tuple[Tokens, Table]:
+def _table(text: str, pieces: Tokens, dialect: Keys) -> tuple[Tokens, Table]:
     """The name of a CREATE TABLE, and its columns."""
     at = 1
     while at < len(pieces) and pieces[at].says(*BEFORE_TABLE):
@@ -94,7 +96,7 @@ def _table(text: str, pieces: Tokens, engine: Keys) -> tuple[Tokens, Table]:
     name, end = pieces[start:at], closing(pieces, at)
     if not name or end >= len(pieces) or not all(token.names or token.says(".") for token in name):
         raise _wrong(text, pieces[0], "a table has a name, and columns in parentheses")
-    table = _columns(text, pieces[at + 1 : end], engine)
+    table = _columns(text, pieces[at + 1 : end], dialect)
     return name, _of_unknown_kinds(table) if any("COLLAT" in token.text.upper() for token in pieces[end:]) else table
 
 
@@ -104,14 +106,14 @@ def _of_unknown_kinds(table: Table) -> Table:
     return Table(tuple(columns.values()), columns)
 
 
-def _columns(text: str, pieces: Tokens, engine: Keys) -> Table:
+def _columns(text: str, pieces: Tokens, dialect: Keys) -> Table:
     columns: dict[str, Column] = {}
     for item in _items(pieces):
         if not item or item[0].says("LIKE"):
             raise _wrong(text, (item or pieces or [Token("mark", "(", 0, "")])[0], "a column has a name and a type")
         if item[0].kind == "word" and item[0].says(*NO_COLUMN):
             continue
-        column = _column(text, item, engine)
+        column = _column(text, item, dialect)
         if column.name in columns:
             raise _wrong(text, item[0], "this column is declared twice")
         columns[column.name] = column
@@ -136,7 +138,7 @@ def _items(pieces: Tokens) -> Iterator[Tokens]:
     yield item
 
 
-def _column(text: str, item: Tokens, engine: Keys) -> Column:
+def _column(text: str, item: Tokens, dialect: Keys) -> Column:
     """A column; one with a collation of its own meets nothing, since what it is grouped by isn't known."""
     end = next(
         (at for at, token in enumerate(item) if at and token.kind == "word" and token.says(*BEHIND_TYPE)), len(item)
@@ -144,4 +146,4 @@ def _column(text: str, item: Tokens, engine: Keys) -> Column:
     if not item[0].names or end < 2:
         raise _wrong(text, item[0], "a column has a name and a type")
     kind = None if any(token.says("COLLATE") for token in item[end:]) else kind_of(written(item[1:end]))
-    return Column(engine.name_key(item[0]), written(item[1:end]), kind)
+    return Column(dialect.key_of(item[0]), written(item[1:end]), kind)

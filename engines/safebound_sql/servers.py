@@ -11,7 +11,7 @@ from __future__ import annotations
 from dataclasses import dataclass
 from typing import Iterable
 
-from .engine import Engine
+from .dialect import Dialect
 from .query import Column, Entry, Query
 from .reducing import (
     Joined, Parts, along_a_tree, around_a_cycle, closes_a_cycle, components, own_conditions, partners, reduced,
@@ -34,12 +34,12 @@ class Source:
         counts = " UNION ALL ".join(f"SELECT COUNT(*) AS n {self._rows(table)}" for table in self._tables())
         return "CAST(SUM(n) AS BIGINT)", f"FROM ({counts}) AS servers"
 
-    def degrees(self, column: Column, engine: Engine) -> str:
+    def degrees(self, column: Column, dialect: Dialect) -> str:
         """How many rows each value of the column has: those of all servers, unless each value is on one alone.
 
         COUNT of the column, not of rows: where it is NULL the degree is 0.
         """
-        value = f"{self.entry.alias}.{engine.quote(column.name)}"
+        value = f"{self.entry.alias}.{dialect.quote(column.name)}"
         spread = self.entry.about.spread
         if len(self._tables()) == 1 or spread is None or spread.by == column.name:
             return f"SELECT COUNT({value}) AS d {self._rows(self.part or self.entry.table)}{self._groups(value)}"
@@ -49,9 +49,9 @@ class Source:
         )
         return f"SELECT CAST(SUM(n) AS BIGINT) AS d FROM ({counts}) AS servers GROUP BY v"
 
-    def values(self, columns: list[Column], engine: Engine) -> str:
+    def values(self, columns: list[Column], dialect: Dialect) -> str:
         """The values of these columns, from each server once."""
-        values = ", ".join(f"{self.entry.alias}.{engine.quote(column.name)}" for column in columns)
+        values = ", ".join(f"{self.entry.alias}.{dialect.quote(column.name)}" for column in columns)
         return " UNION ALL ".join(
             f"SELECT {values} {self._rows(table)}{self._groups(values)}" for table in self._tables()
         )
@@ -74,8 +74,8 @@ class Limits:
     """For each entry what its rows have to satisfy: its own conditions, and that its values are among those that are
     left of its partners. `texts` are the parts of a statement with these values."""
 
-    def __init__(self, query: Query, engine: Engine, prefix: str) -> None:
-        self.query, self.engine, self.prefix = query, engine, prefix
+    def __init__(self, query: Query, dialect: Dialect, prefix: str) -> None:
+        self.query, self.dialect, self.prefix = query, dialect, prefix
         self.names: dict[str, str] = {}
         self.among: dict[int, dict[int, list[str]]] = {entry.number: {} for entry in query.entries}
         joined = partners(query)
@@ -95,14 +95,15 @@ class Limits:
 
     def _among(self, entry: int, other: int, pairs: list[tuple[Column, Column]]) -> list[str]:
         source = Source(self.query.entries[other], self.of(other))
-        text = source.values(list(dict.fromkeys(right for _, right in pairs)), self.engine)
+        text = source.values(list(dict.fromkeys(right for _, right in pairs)), self.dialect)
         values = self.names.setdefault(text, f"{self.prefix}{len(self.names) + 1}")
-        exact = semi_join(self.query, self.engine, entry, other, pairs, values)
+        exact = semi_join(self.query, self.dialect, entry, other, pairs, values)
         if not self.query.entries[entry].about.spread:
             return [exact]
         mine = self.query.entries[entry].alias
-        sent = [self.engine.sent(f"{mine}.{self.engine.quote(left.name)}", right, values) for left, right in pairs]
-        return sent if len(sent) == 1 else sent + [exact]
+        dialect = self.dialect
+        tested = [dialect.remote_in(f"{mine}.{dialect.quote(left.name)}", right, values) for left, right in pairs]
+        return tested if len(tested) == 1 else tested + [exact]
 
 
 def steps_elsewhere(query: Query, joined: Joined) -> Iterable[tuple[int, list[int]]]:
@@ -131,13 +132,13 @@ def lies_elsewhere(query: Query) -> bool:
 
 
 def rows_to_count(
-    query: Query, engine: Engine, columns: dict[int, list[Column]], prefix: str
+    query: Query, dialect: Dialect, columns: dict[int, list[Column]], prefix: str
 ) -> tuple[list[tuple[str, str]], dict[int, Source]]:
     """Parts of a statement, and where by them each entry's reduced rows are."""
     if lies_elsewhere(query):
-        limits = Limits(query, engine, prefix)
+        limits = Limits(query, dialect, prefix)
         return limits.texts, {entry.number: Source(entry, limits.of(entry.number)) for entry in query.entries}
-    parts = reduced(query, engine, columns, prefix)
+    parts = reduced(query, dialect, columns, prefix)
     return parts.texts, {
         entry.number: Source(
             entry, [] if entry.number in parts.rows else own_conditions(entry), parts.rows.get(entry.number)
@@ -146,13 +147,13 @@ def rows_to_count(
     }
 
 
-def rows_to_join(query: Query, engine: Engine, columns: dict[int, list[Column]], prefix: str) -> Parts:
+def rows_to_join(query: Query, dialect: Dialect, columns: dict[int, list[Column]], prefix: str) -> Parts:
     """The rows that were counted, with these of their columns."""
     if not lies_elsewhere(query):
-        return reduced(query, engine, columns, prefix)
-    limits = Limits(query, engine, prefix)
+        return reduced(query, dialect, columns, prefix)
+    limits = Limits(query, dialect, prefix)
     parts = Parts(limits.texts)
     for entry in query.entries:
         if limits.among[entry.number]:
-            parts.add(entry, engine, columns[entry.number], limits.of(entry.number), prefix)
+            parts.add(entry, dialect, columns[entry.number], limits.of(entry.number), prefix)
     return parts

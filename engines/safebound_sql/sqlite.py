@@ -7,11 +7,13 @@ import os
 import re
 import sqlite3
 import time
+from dataclasses import dataclass
 from pathlib import Path
-from typing import Iterator
+from typing import Iterator, Sequence
 
 from . import stops
-from .engine import Engine, one_line, with_names
+from .dialect import Dialect
+from .engine import Catalog, Connection, Engine, one_line, with_names
 from .faults import EngineFault
 from .query import Column, Row, Table
 from .reading import at_commas
@@ -22,29 +24,67 @@ TIMES = ("date", "time", "datetime", "julianday", "unixepoch", "strftime", "time
 A_DATE = re.compile(r"'(\d{4}-\d\d-\d\d)?[T ]*(\d\d:\d\d(:\d\d(\.\d+)?)?)? *(Z|[+-]\d\d:\d\d)?'")
 ROW_NUMBERS = ("rowid", "oid", "_rowid_")
 
+TABLE = """
+SELECT schema, type, wr, strict, name FROM pragma_table_list
+WHERE name = ? COLLATE NOCASE AND (?2 IS NULL OR schema = ?2 COLLATE NOCASE)
+ORDER BY schema <> 'temp', schema <> 'main' LIMIT 1
+"""
+COLUMNS = "SELECT name, type, hidden FROM pragma_table_xinfo(?, ?) ORDER BY cid"
+VOLATILE = f"SELECT name FROM pragma_function_list WHERE type = 's' AND NOT flags & {DETERMINISTIC}"
 
-class Sqlite(Engine):
-    dialect = "sqlite"
-    title = "SQLite"
-    rules = SQLITE
-    comma_binds_less = False
-    merged_columns_first = False
-    equals = ("=", "==")
-    calls_without_parentheses = ("CURRENT_DATE", "CURRENT_TIME", "CURRENT_TIMESTAMP")
-    keeps_order = ""
+
+@dataclass(frozen=True)
+class SqliteDialect(Dialect):
+    def key(self, name: str, quoted: bool) -> str:
+        return super().key(name, False)
+
+    def reads_clock(self, pieces: list[Token], at: int, below: bool = False) -> bool:
+        """date() and its like, of anything but a literal date. What a column says is looked at where it is known
+        whose it is."""
+        dates = self._dates(pieces, at)
+        if dates is None:
+            return False
+        return not dates or not all(_is_date(date) or (not below and _may_be_column(date)) for date in dates)
+
+    def _dates(self, pieces: list[Token], at: int) -> list[list[Token]] | None:
+        """What a date function that is called there gets as dates; None where none is."""
+        called = pieces[at].names and at + 1 < len(pieces) and pieces[at + 1].says("(")
+        function = self.key_of(pieces[at]) if called else ""
+        if function not in TIMES:
+            return None
+        given = [part for part in at_commas(pieces[at + 2 : closing(pieces, at + 1)]) if part]
+        return given[1:2] if function == "strftime" else given[:2] if function == "timediff" else given[:1]
+
+    def clock_arguments(self, pieces: list[Token]) -> Iterator[tuple[Token, list[Token]]]:
+        for at, token in enumerate(pieces):
+            yield from ((token, date) for date in self._dates(pieces, at) or () if not _is_date(date))
+
+
+# CROSS JOIN keeps the order, so that no setting has to.
+DIALECT = SqliteDialect(
+    name="sqlite",
+    title="SQLite",
+    rules=SQLITE,
+    comma_binds_less=False,
+    merged_columns_first=False,
+    equals=("=", "=="),
+    calls_without_parentheses=("CURRENT_DATE", "CURRENT_TIME", "CURRENT_TIMESTAMP"),
     # SQLite reads a part again wherever it is named, and so the parts that it names in turn.
-    most_parts_of_a_part = 200
-    join_word = "CROSS JOIN"
-    keeps_trees = False
-    outputs_in_conditions = True
-    plain_words = ("OFFSET", "WINDOW", "FETCH")
-    takes_bare_columns = True
-    why_now = (
+    most_parts_of_a_part=200,
+    join_word="CROSS JOIN",
+    keeps_trees=False,
+    outputs_in_conditions=True,
+    plain_words=("OFFSET", "WINDOW", "FETCH"),
+    takes_bare_columns=True,
+    why_clock=(
         "SQLite's date functions may ask for the time, unless they get a date as it is, or a column that never says"
         " 'now'"
-    )
-    reserved = frozenset(("null", "current_date", "current_time", "current_timestamp"))
+    ),
+    reserved=frozenset(("null", "current_date", "current_time", "current_timestamp")),
+)
 
+
+class SqliteConnection(Connection):
     def __init__(self, file: str, timeout: int | None) -> None:
         path = self.path = Path(file).resolve()
         if not path.is_file():
@@ -82,6 +122,7 @@ class Sqlite(Engine):
 
     @contextlib.contextmanager
     def _told(self) -> Iterator[None]:
+        """Starts the time of a statement, and makes a fault of what sqlite3 raises."""
         self.ends = time.monotonic() + self.timeout if self.timeout else None
         try:
             yield
@@ -95,147 +136,14 @@ class Sqlite(Engine):
                 "the file was written to while it was read, in a folder in which SQLite can't make its log"
             )
 
-    def key(self, name: str, quoted: bool) -> str:
-        return super().key(name, False)
-
-    def spelled(self, token: Token) -> str:
-        return self.key(unquoted(token) if token.kind == "quoted" else token.text, False)
-
-    def asks_for_now(self, pieces: list[Token], at: int, below: bool = False) -> bool:
-        """date() and its like, of anything but a literal date. What a column says is looked at where it is known
-        whose it is."""
-        dates = self._dates(pieces, at)
-        if dates is None:
-            return False
-        return not dates or not all(_is_date(date) or (not below and _may_be_column(date)) for date in dates)
-
-    def _dates(self, pieces: list[Token], at: int) -> list[list[Token]] | None:
-        """What a date function that is called there gets as dates; None where none is."""
-        called = pieces[at].names and at + 1 < len(pieces) and pieces[at + 1].says("(")
-        function = self.spelled(pieces[at]) if called else ""
-        if function not in TIMES:
-            return None
-        given = [part for part in at_commas(pieces[at + 2 : closing(pieces, at + 1)]) if part]
-        return given[1:2] if function == "strftime" else given[:2] if function == "timediff" else given[:1]
-
-    def columns_asked_for_now(self, pieces: list[Token]) -> Iterator[tuple[Token, list[Token]]]:
-        for at, token in enumerate(pieces):
-            yield from ((token, date) for date in self._dates(pieces, at) or () if not _is_date(date))
-
-    def says_now(self, table: str, column: str) -> bool:
-        name = self.quote(column)
-        sql = f"SELECT EXISTS (SELECT 1 FROM {table} WHERE CAST({name} AS TEXT) = 'now' COLLATE NOCASE)"
-        return bool(self.rows(sql)[0][0])
-
-    def table(self, name: list[Token]) -> Table | None:
-        parts = [unquoted(token) if token.kind == "quoted" else token.text for token in name if token.names]
-        if len(parts) > 2:
-            return None
-        schema = parts[0] if len(parts) == 2 else None
+    def rows(self, sql: str, given: Sequence[str | None] = ()) -> list[Row]:
         with self._told():
-            kind = self.connection.execute(
-                (
-                    "SELECT schema, type, wr, strict, name FROM pragma_table_list WHERE name = ? COLLATE NOCASE AND (?2"
-                    " IS NULL OR schema = ?2 COLLATE NOCASE) ORDER BY schema <> 'temp', schema <> 'main' LIMIT 1"
-                ),
-                (parts[-1], schema),
-            ).fetchone()
-            if kind is None:
-                return None
-            listed = self.connection.execute(
-                "SELECT name, type, hidden FROM pragma_table_xinfo(?, ?) ORDER BY cid", (parts[-1], kind[0])
-            ).fetchall()
-        where = f"{self.quote(kind[0])}.{self.quote(parts[-1])}"
-        found = [
-            (self._column(where, name, declared, kind[1] == "table", kind[3]), hidden)
-            for name, declared, hidden in listed
-        ]
-        by_key = {self.key(column.name, True): column for column, _ in found}
-        if kind[1] == "table" and not kind[2]:
-            for other in ROW_NUMBERS:
-                by_key.setdefault(other, Column(other, "INTEGER", ("INTEGER", "BINARY")))
-        identity = f"{self.path} {kind[0]} {kind[4]}#{self._schema_version(kind[0])}"
-        return Table(tuple(column for column, hidden in found if hidden != 1), by_key, identity)
+            return self.connection.execute(sql, given).fetchall()
 
-    def _schema_version(self, schema: str) -> int:
-        """Another number after each change of a schema: a table has none of its own."""
+    def names(self, sql: str) -> list[str]:
+        """The names of the statement's columns."""
         with self._told():
-            return int(self.connection.execute(f"PRAGMA {self.quote(schema)}.schema_version").fetchone()[0])
-
-    def _column(self, table: str, name: str, declared: str, of_table: bool, strict: bool) -> Column:
-        """A column. What those of views and virtual tables are compared by isn't known."""
-        collation = self._collation(table, name) if of_table else None
-        kind = (affinity(declared, strict), collation) if collation else None
-        return Column(name, declared or "no type", kind)
-
-    def _collation(self, table: str, name: str) -> str | None:
-        """A column's collation, found by whether 'a' equals 'A' or 'a ' by it: UNION compares by its first part's."""
-        with self._told():
-            values = f"SELECT {self.quote(name)} FROM {table} WHERE 0 UNION SELECT 'a' UNION SELECT ?"
-            try:
-                case, space = (
-                    self.connection.execute(f"SELECT count(*) FROM ({values})", (other,)).fetchone()[0]
-                    for other in ("A", "a ")
-                )
-            except sqlite3.OperationalError:  # a collation that this program doesn't have
-                return None
-        return {(2, 2): "BINARY", (1, 2): "NOCASE", (2, 1): "RTRIM"}.get((case, space))
-
-    def fickle(self, names: set[str]) -> dict[str, str]:
-        with self._told():
-            found = {
-                row[0].lower()
-                for row in self.connection.execute(
-                    f"SELECT name FROM pragma_function_list WHERE type = 's' AND NOT flags & {DETERMINISTIC}"
-                )
-            }
-        return {name: self.why_fickle for name in sorted(names) if name.lstrip(".") in found}
-
-    def view_texts(self, names: set[str]) -> list[tuple[str, str, str]]:
-        with self._told():
-            views = self.connection.execute("SELECT name, sql FROM sqlite_master WHERE type = 'view'").fetchall()
-        return [
-            (name, "the view", text)
-            for name in names
-            for view, text in views
-            if self._last(name) == self.key(view, True)
-        ]
-
-    def _last(self, name: str) -> str:
-        return self.key(name.split(".")[-1].strip('"`[] '), True)
-
-    def takes(self, sql: str) -> None:
-        with self._told():
-            self.connection.execute(f"EXPLAIN {sql}").fetchall()
-
-    def stands_alone(self, inner: list[Token]) -> str | None:
-        """A name in double quotes that isn't found would be a text, so the quotes are others here."""
-        in_quotes = {token: "`" + unquoted(token).replace("`", "``") + "`" for token in inner if token.text[0] == '"'}
-        return super().stands_alone([token._replace(text=in_quotes.get(token, token.text)) for token in inner])
-
-    def described(self, sql: str) -> list[Column]:
-        return [Column(name, "no type", None) for name in self.output_names(sql)]
-
-    def output_names(self, sql: str) -> list[str]:
-        with self._told():
-            return [column[0] for column in self.connection.execute(f"SELECT * FROM ({sql}\n) LIMIT 0").description]
-
-    def complaint(self, sql: str) -> str | None:
-        try:
-            self.takes(sql)
-        except EngineFault as fault:
-            return str(fault)
-        return None
-
-    def expected(self, sql: str) -> int | None:
-        return None
-
-    def keep_order(self) -> None:
-        """CROSS JOIN keeps it."""
-
-    def rows(self, sql: str) -> list[Row]:
-        with self._told():
-            return self.connection.execute(sql).fetchall()
+            return [column[0] for column in self.connection.execute(sql).description]
 
     def stream(self, sql: str) -> Iterator[Row]:
         with self._told():
@@ -246,6 +154,86 @@ class Sqlite(Engine):
         for row in self.stream(sql):
             yield ",".join(null if value is None else _field(value, null) for value in row) + "\n"
 
+    def close(self) -> None:
+        self.connection.close()
+
+
+class SqliteCatalog(Catalog):
+    def __init__(self, connection: SqliteConnection) -> None:
+        self.connection = connection
+
+    def holds_now(self, table: str, column: str) -> bool:
+        name = DIALECT.quote(column)
+        sql = f"SELECT EXISTS (SELECT 1 FROM {table} WHERE CAST({name} AS TEXT) = 'now' COLLATE NOCASE)"
+        return bool(self.connection.rows(sql)[0][0])
+
+    def table(self, name: list[Token]) -> Table | None:
+        parts = [unquoted(token) if token.kind == "quoted" else token.text for token in name if token.names]
+        if len(parts) > 2:
+            return None
+        found = self.connection.rows(TABLE, (parts[-1], parts[0] if len(parts) == 2 else None))
+        if not found:
+            return None
+        schema, kind, without_rowid, strict, called = found[0]
+        where = f"{DIALECT.quote(schema)}.{DIALECT.quote(parts[-1])}"
+        columns = [
+            (self._column(where, name, declared, kind == "table", strict), hidden)
+            for name, declared, hidden in self.connection.rows(COLUMNS, (parts[-1], schema))
+        ]
+        by_key = {DIALECT.key(column.name, True): column for column, _ in columns}
+        if kind == "table" and not without_rowid:
+            for other in ROW_NUMBERS:
+                by_key.setdefault(other, Column(other, "INTEGER", ("INTEGER", "BINARY")))
+        identity = f"{self.connection.path} {schema} {called}#{self._schema_version(schema)}"
+        return Table(tuple(column for column, hidden in columns if hidden != 1), by_key, identity)
+
+    def _schema_version(self, schema: str) -> int:
+        """Another number after each change of a schema: a table has none of its own."""
+        return int(self.connection.rows(f"PRAGMA {DIALECT.quote(schema)}.schema_version")[0][0])
+
+    def _column(self, table: str, name: str, declared: str, of_table: bool, strict: bool) -> Column:
+        """A column. What those of views and virtual tables are compared by isn't known."""
+        collation = self._collation(table, name) if of_table else None
+        kind = (affinity(declared, strict), collation) if collation else None
+        return Column(name, declared or "no type", kind)
+
+    def _collation(self, table: str, name: str) -> str | None:
+        """A column's collation, found by whether 'a' equals 'A' or 'a ' by it: UNION compares by its first part's."""
+        values = f"SELECT {DIALECT.quote(name)} FROM {table} WHERE 0 UNION SELECT 'a' UNION SELECT ?"
+        try:
+            case, space = (
+                self.connection.rows(f"SELECT count(*) FROM ({values})", (other,))[0][0] for other in ("A", "a ")
+            )
+        except EngineFault as fault:
+            if "no such collation sequence" in str(fault):  # the program that made the table has it
+                return None
+            raise
+        return {(2, 2): "BINARY", (1, 2): "NOCASE", (2, 1): "RTRIM"}.get((case, space))
+
+    def volatile(self, names: set[str]) -> dict[str, str]:
+        found = {row[0].lower() for row in self.connection.rows(VOLATILE)}
+        return {name: DIALECT.why_volatile for name in sorted(names) if name.lstrip(".") in found}
+
+    def view_texts(self, names: set[str]) -> list[tuple[str, str, str]]:
+        views = self.connection.rows("SELECT name, sql FROM sqlite_master WHERE type = 'view'")
+        return [
+            (name, "the view", text) for name in names for view, text in views if _last(name) == DIALECT.key(view, True)
+        ]
+
+    def takes(self, sql: str) -> None:
+        self.connection.rows(f"EXPLAIN {sql}")
+
+    def stands_alone(self, inner: list[Token]) -> str | None:
+        """A name in double quotes that isn't found would be a text, so the quotes are others here."""
+        in_quotes = {token: "`" + unquoted(token).replace("`", "``") + "`" for token in inner if token.text[0] == '"'}
+        return super().stands_alone([token._replace(text=in_quotes.get(token, token.text)) for token in inner])
+
+    def described(self, sql: str) -> list[Column]:
+        return [Column(name, "no type", None) for name in self.output_names(sql)]
+
+    def output_names(self, sql: str) -> list[str]:
+        return self.connection.names(f"SELECT * FROM ({sql}\n) LIMIT 0")
+
     def exports(self, column: Column) -> bool:
         return column.kind in (("INTEGER", "BINARY"), ("TEXT", "BINARY"))
 
@@ -255,8 +243,15 @@ class Sqlite(Engine):
     def plain_order(self, column: Column) -> bool:
         return True
 
-    def close(self) -> None:
-        self.connection.close()
+
+def opened(file: str, timeout: int | None) -> Engine:
+    connection = SqliteConnection(file, timeout)
+    return Engine(DIALECT, SqliteCatalog(connection), connection)
+
+
+def _last(name: str) -> str:
+    """The last name of one with dots."""
+    return DIALECT.key(name.split(".")[-1].strip('"`[] '), True)
 
 
 def affinity(declared: str, strict: bool) -> str:

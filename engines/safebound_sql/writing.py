@@ -3,7 +3,7 @@ them."""
 
 from __future__ import annotations
 
-from .engine import Engine
+from .dialect import Dialect
 from .levels import Level, Plan, Shape, entries_of
 from .query import Named, Query, Text
 from .reducing import Parts, bracketed, own_conditions, where
@@ -13,10 +13,10 @@ from .servers import rows_to_join
 class Writer:
     """Writes statements over a query. Reduced, they join the rows that were counted."""
 
-    def __init__(self, query: Query, engine: Engine, prefix: str, reduce: bool) -> None:
-        self.query, self.engine, self.prefix = query, engine, prefix
+    def __init__(self, query: Query, dialect: Dialect, prefix: str, reduce: bool) -> None:
+        self.query, self.dialect, self.prefix = query, dialect, prefix
         self.columns = {entry.number: query.used(entry.number) for entry in query.entries}
-        self.parts = rows_to_join(query, engine, self.columns, prefix) if reduce else Parts()
+        self.parts = rows_to_join(query, dialect, self.columns, prefix) if reduce else Parts()
 
     def query_in_order(self, plan: Plan) -> str:
         """The query with its joins written in the planned order."""
@@ -47,27 +47,27 @@ class Writing:
     is a part of its own, and `within` has the entries whose columns are those of a part."""
 
     def __init__(self, writer: Writer) -> None:
-        self.query, self.engine, self.columns = writer.query, writer.engine, writer.columns
+        self.query, self.dialect, self.columns = writer.query, writer.dialect, writer.columns
         self.prefix, self.rows = writer.prefix, writer.parts.rows
         self.texts: list[tuple[str, str]] = list(writer.parts.texts)
         self.within: dict[int, str] = {}
 
     def before(self, select: str) -> str:
         """The statement with its parts before it."""
-        return self.engine.with_parts(self.texts, select)
+        return self.dialect.with_parts(self.texts, select)
 
     def text(self, text: Text) -> str:
         return text.naming(self._elsewhere)
 
     def column(self, named: Named) -> str:
         """A column of a star as an output, by its own name."""
-        name = self.engine.quote(named.column.name)
+        name = self.dialect.quote(named.column.name)
         visible = self._visible(named)
         return f"{self.query.entries[named.entry].alias}.{visible}{'' if visible == name else f' AS {name}'}"
 
     def _visible(self, named: Named) -> str:
         """What the column is called beside its entry's alias."""
-        return self._name_within(named) if named in self.query.renamed else self.engine.quote(named.column.name)
+        return self._name_within(named) if named in self.query.renamed else self.dialect.quote(named.column.name)
 
     def _elsewhere(self, named: Named) -> str | None:
         """The column's name where it is one of a part with several entries, or goes by another name."""
@@ -79,7 +79,7 @@ class Writing:
         )
 
     def _name_within(self, named: Named) -> str:
-        return self.engine.quote(f"{self.prefix}{named.entry}_{named.column.name}")
+        return self.dialect.quote(f"{self.prefix}{named.entry}_{named.column.name}")
 
     def below_the_outputs(self, shape: Shape) -> str:
         """FROM and WHERE for what stands above the join: each entry is there under its own alias, with its columns'
@@ -122,11 +122,11 @@ class Writing:
                 [numbered, *(f"{self._name_within(named)} AS {self._visible(named)}" for named in columns)]
             )
             again += (
-                f"\n  {self.engine.join_word} (SELECT {outputs} FROM {part}) AS {alias}"
+                f"\n  {self.dialect.join_word} (SELECT {outputs} FROM {part}) AS {alias}"
                 f" ON {alias}.{numbered} = {part}.{numbered}"
             )
         if again:
-            rows = f"SELECT {self.engine.row_number} AS {numbered}, "
+            rows = f"SELECT {self.dialect.row_number} AS {numbered}, "
             parts = set(self.within.values())
             self.texts = [
                 (name, text.replace("SELECT ", rows, 1) if name in parts else text) for name, text in self.texts
@@ -156,10 +156,10 @@ class Writing:
             return self._entry(shape)
         left, right = shape
         sides = frozenset(entries_of(left)), frozenset(entries_of(right))
-        joins = (self._side if self.engine.makes_tables else self._from)(left), self._side(right)
+        joins = (self._side if self.dialect.makes_tables else self._from)(left), self._side(right)
         conditions = " AND ".join(map(self._condition, self.query.complete(sides[0] | sides[1], sides)))
         if conditions:
-            return f"{joins[0]}\n  {self.engine.join_word} {joins[1]} ON {conditions}"
+            return f"{joins[0]}\n  {self.dialect.join_word} {joins[1]} ON {conditions}"
         return f"{joins[0]}\n  CROSS JOIN {joins[1]}"
 
     def _entry(self, number: int) -> str:
@@ -169,7 +169,7 @@ class Writing:
             return rows
         columns = [Named(number, column) for column in self.columns[number]]
         outputs = ", ".join(
-            f"{entry.alias}.{self.engine.quote(named.column.name)} AS {self._visible(named)}" for named in columns
+            f"{entry.alias}.{self.dialect.quote(named.column.name)} AS {self._visible(named)}" for named in columns
         )
         conditions = [] if number in self.rows else own_conditions(entry)
         return f"(SELECT {outputs} FROM {rows}{where(conditions)}) AS {entry.alias}"
@@ -178,7 +178,7 @@ class Writing:
         """The right side of a join."""
         if isinstance(shape, int):
             return self._from(shape)
-        if self.engine.keeps_trees:
+        if self.dialect.keeps_trees:
             return f"({self._from(shape)})"
         return self._part(shape)
 
@@ -195,4 +195,4 @@ class Writing:
 
     def _source(self, named: Named) -> str:
         alias = self.query.entries[named.entry].alias
-        return self._elsewhere(named) or f"{alias}.{self.engine.quote(named.column.name)}"
+        return self._elsewhere(named) or f"{alias}.{self.dialect.quote(named.column.name)}"

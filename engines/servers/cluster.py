@@ -121,9 +121,8 @@ class Here(Cluster, GoneOnLeaving):
         super().__init__(new_folder())
 
     def __enter__(self) -> Here:
-        try:
+        with contextlib.ExitStack() as undo:
+            undo.push(self)
             self.start()
-        except BaseException:
-            self.__exit__()
-            raise
+            undo.pop_all()
         return self

@@ -3,7 +3,7 @@
 from __future__ import annotations
 
 import re
-from typing import Callable, Iterator, NamedTuple
+from typing import Any, Callable, Iterator, NamedTuple
 
 PREPARED = re.compile(r"\bWHERE\b|\bGROUP BY\b|\bcount\(", re.IGNORECASE)
 
@@ -20,12 +20,12 @@ class Fetch(NamedTuple):
         return not PREPARED.search(self.asked)
 
 
-def fetches(ask: Callable[[str], list[tuple]], sql: str) -> list[Fetch]:
+def fetches(ask: Callable[[str], list[tuple[Any, ...]]], sql: str) -> list[Fetch]:
     """What servers are asked when the statement is run, and how many rows come."""
     return list(_of(ask(f"EXPLAIN (ANALYZE, VERBOSE, FORMAT JSON) {sql}")[0][0][0]["Plan"]))
 
 
-def _of(node: dict) -> Iterator[Fetch]:
+def _of(node: dict[str, Any]) -> Iterator[Fetch]:
     if "Remote SQL" in node:
         yield Fetch(node["Remote SQL"], node["Actual Rows"] * node["Actual Loops"])
     for below in node.get("Plans", ()):

@@ -132,10 +132,9 @@ class Alone(Server, GoneOnLeaving):
         super().__init__(new_folder(), settings=settings)
 
     def __enter__(self) -> Alone:
-        try:
+        with contextlib.ExitStack() as undo:
+            undo.callback(shutil.rmtree, self.folder, ignore_errors=True)
             self.make()
             self.start()
-        except BaseException:
-            shutil.rmtree(self.folder, ignore_errors=True)
-            raise
+            undo.pop_all()
         return self

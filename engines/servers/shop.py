@@ -6,6 +6,7 @@ import importlib.machinery
 import importlib.util
 from fractions import Fraction
 from pathlib import Path
+from typing import Any
 
 from made import Made
 
@@ -28,16 +29,18 @@ ROWS = {
 }
 
 
-def of_bench(name: str):
+def of_bench(name: str) -> Any:
     """A script of bench as a module."""
     loader = importlib.machinery.SourceFileLoader(name, str(BENCH / name))
-    module = importlib.util.module_from_spec(importlib.util.spec_from_loader(name, loader))
+    spec = importlib.util.spec_from_loader(name, loader)
+    assert spec
+    module = importlib.util.module_from_spec(spec)
     loader.exec_module(module)
     return module
 
 
 def query() -> str:
-    return of_bench("demo").QUERY
+    return str(of_bench("demo").QUERY)
 
 
 def rows(times: int | Fraction) -> int:

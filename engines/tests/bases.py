@@ -9,11 +9,15 @@ import tempfile
 import unittest
 from collections import Counter
 from pathlib import Path
-from typing import Callable
+from typing import TYPE_CHECKING, Any, Callable
 
 from safebound_sql.command import opened
-from safebound_sql.levels import MOST_BUDGET
+from safebound_sql.levels import MOST_BUDGET, Plan
 from safebound_sql.planner import Planner
+from safebound_sql.query import Row
+
+if TYPE_CHECKING:
+    from server import Server
 
 ROOT = Path(__file__).resolve().parents[2]
 POSTGRES = os.environ.get("SAFEBOUND_SQL_POSTGRES")
@@ -42,13 +46,13 @@ class SqliteBase:
     def script(self, text: str) -> None:
         self.connection.executescript(text)
 
-    def fill(self, table: str, rows: list[tuple]) -> None:
+    def fill(self, table: str, rows: list[Row]) -> None:
         if rows:
             self.connection.execute("BEGIN")
             self.connection.executemany(f"INSERT INTO {table} VALUES ({', '.join('?' * len(rows[0]))})", rows)
             self.connection.execute("COMMIT")
 
-    def rows(self, sql: str) -> list[tuple]:
+    def rows(self, sql: str) -> list[Row]:
         return self.connection.execute(sql).fetchall()
 
     def close(self) -> None:
@@ -64,6 +68,7 @@ class PostgresBase:
     def __init__(self) -> None:
         import psycopg
 
+        assert POSTGRES
         self.url = POSTGRES
         self.connection = psycopg.connect(POSTGRES, autocommit=True)
         self.script("DROP SCHEMA public CASCADE; CREATE SCHEMA public")
@@ -71,12 +76,12 @@ class PostgresBase:
     def script(self, text: str) -> None:
         self.connection.execute(text)
 
-    def fill(self, table: str, rows: list[tuple]) -> None:
+    def fill(self, table: str, rows: list[Row]) -> None:
         with self.connection.cursor() as cursor, cursor.copy(f"COPY {table} FROM STDIN") as into:
             for row in rows:
                 into.write_row(row)
 
-    def rows(self, sql: str) -> list[tuple]:
+    def rows(self, sql: str) -> list[Row]:
         return self.connection.execute(sql).fetchall()
 
     def close(self) -> None:
@@ -91,12 +96,13 @@ class ClusterBase:
     def __init__(self) -> None:
         from cluster import Cluster
 
+        assert CLUSTER
         self.cluster, self.alone = Cluster(CLUSTER, DATABASE), PostgresBase()
         for server in self.cluster.all:
             self.on(server, "DROP SCHEMA public CASCADE; CREATE SCHEMA public")
         self.url = self.cluster.url
 
-    def on(self, server, sql: str) -> list[tuple]:
+    def on(self, server: Server, sql: str) -> list[Row]:
         from cluster import connected
 
         with connected(server) as connection:
@@ -107,7 +113,7 @@ class ClusterBase:
         self.cluster.script(text)
         self.alone.script(text)
 
-    def fill(self, table: str, rows: list[tuple]) -> None:
+    def fill(self, table: str, rows: list[Row]) -> None:
         import psycopg
 
         with psycopg.connect(self.url, autocommit=True) as connection, connection.cursor() as cursor:
@@ -116,7 +122,7 @@ class ClusterBase:
                     into.write_row(row)
         self.alone.fill(table, rows)
 
-    def rows(self, sql: str) -> list[tuple]:
+    def rows(self, sql: str) -> list[Row]:
         return self.alone.rows(sql)
 
     def close(self) -> None:
@@ -126,6 +132,7 @@ class ClusterBase:
 class OnEachEngine(unittest.TestCase):
     """Tests that run on SQLite, and on PostgreSQL by a class below them. `schema` and `fill` make the tables."""
 
+    base: Any
     base_class: type = SqliteBase
     schema = ""
     # Whether each test may run in a process of its own, beside the others.
@@ -146,19 +153,22 @@ class OnEachEngine(unittest.TestCase):
     def opened(self, text: str, reduce: bool = True) -> Planner:
         """A planner over the query."""
         engine = opened(self.base.url, None)
-        self.addCleanup(engine.close)
+        self.addCleanup(engine.connection.close)
         return Planner(engine, text, reduce)
 
-    def planned(self, text: str, reduce: bool = True, accuracy: int = 1, tree: bool = False, budget: int = MOST_BUDGET):
+    def planned(
+        self, text: str, reduce: bool = True, accuracy: int = 1, tree: bool = False, budget: int = MOST_BUDGET
+    ) -> tuple[Planner, Plan]:
         planner = self.opened(text, reduce)
         return planner, planner.plan(accuracy, budget, tree)
 
-    def same_rows(self, planner: Planner, plan, text: str) -> None:
+    def same_rows(self, planner: Planner, plan: Plan, text: str) -> None:
         """The rows of the planned SQL are those of the query itself, each as often."""
-        planner.engine.keep_order()
-        self.assertEqual(counted(planner.engine.rows(planner.sql(plan))), counted(self.base.rows(text)), text)
+        connection = planner.engine.connection
+        connection.keep_order()
+        self.assertEqual(counted(connection.rows(planner.sql(plan))), counted(self.base.rows(text)), text)
 
-    def never_under(self, planner: Planner, plan, text: str) -> list[int]:
+    def never_under(self, planner: Planner, plan: Plan, text: str) -> list[int]:
         """No level has more rows than its bound. Answers the rows of the levels."""
         true = planner.true_rows(plan)
         for level, rows in zip(plan.levels, true, strict=True):
@@ -166,7 +176,7 @@ class OnEachEngine(unittest.TestCase):
         return true
 
 
-def counted(rows: list[tuple]) -> Counter:
+def counted(rows: list[Row]) -> Counter[str]:
     return Counter(map(repr, rows))
 
 
@@ -189,7 +199,7 @@ def in_full(test: Callable[..., None]) -> Callable[..., None]:
     return unittest.skipIf(GATE, "not in the gate")(test)
 
 
-def example(name: str) -> tuple[str, str, dict[str, list[tuple]]]:
+def example(name: str) -> tuple[str, str, dict[str, list[Row]]]:
     """The schema, the query and the tables of an example of this repository."""
     folder = ROOT / "examples" / name
     tables = {}

@@ -4,6 +4,8 @@ from __future__ import annotations
 
 import random
 
+from safebound_sql.query import Row
+
 SCHEMA = """
 CREATE TABLE kind_type (id INTEGER PRIMARY KEY, kind VARCHAR(15) NOT NULL);
 CREATE TABLE info_type (id INTEGER PRIMARY KEY, info VARCHAR(32) NOT NULL);
@@ -52,14 +54,14 @@ WHERE cn.country_code IS NOT NULL AND mi.info > '5.0' AND t.production_year BETW
 }
 
 
-def rows() -> dict[str, list[tuple]]:
+def rows() -> dict[str, list[Row]]:
     """The tables' rows: few movies have most of everything."""
     chosen = random.Random(52)
 
     def few(most: int) -> int:
         return int(most * chosen.random() ** 3) + 1
 
-    tables: dict[str, list[tuple]] = {
+    tables: dict[str, list[Row]] = {
         "kind_type": [(1, "movie"), (2, "tv series"), (3, "episode")],
         "info_type": [(1, "rating"), (2, "votes"), (3, "top 250 rank")],
         "company_type": [(1, "distributors"), (2, "production companies")],

@@ -4,6 +4,7 @@ from __future__ import annotations
 
 import os
 import subprocess
+from typing import Any
 
 from bases import ROOT
 
@@ -14,6 +15,8 @@ PROGRAM = os.environ.get("SAFEBOUND_SQL_PROGRAM", str(ROOT / "engines" / "safebo
 class Process:
     """For tests that have a `base`: a command over its database, and a query on standard input."""
 
-    def tried(self, command: str, *words: str, text: str = "", db: str | None = None) -> subprocess.CompletedProcess:
+    base: Any
+
+    def tried(self, command: str, *words: str, text: str = "", db: str | None = None) -> subprocess.CompletedProcess[str]:
         line = [PROGRAM, command, "--db", self.base.url if db is None else db, *words, "-"]
         return subprocess.run(line, input=text, text=True, capture_output=True, timeout=600)

@@ -7,6 +7,8 @@ import random
 import re
 from decimal import Decimal
 
+from safebound_sql.query import Row
+
 TABLES = 3
 SHARED = ("id", "k", "w")
 TYPES_OF_ID = {
@@ -32,13 +34,13 @@ class RandomNames:
             for n in range(TABLES)
         )
 
-    def rows(self) -> list[tuple]:
+    def rows(self) -> list[Row]:
         return [
             tuple(self._value(name) for name in ("id", "k", "w", "v", "name"))
             for _ in range(self.random.choice((4, 8, 14)))
         ]
 
-    def _value(self, name: str):
+    def _value(self, name: str) -> int | str | Decimal | None:
         if self.random.random() < 0.1:
             return None
         number = int(self.random.choice((3, 6)) * self.random.random() ** 1.5)

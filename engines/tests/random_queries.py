@@ -9,6 +9,9 @@ from dataclasses import dataclass, field
 from decimal import Decimal
 from typing import Callable
 
+from bases import OnEachEngine
+from safebound_sql.query import Row
+
 QUERIES = int(os.environ.get("SAFEBOUND_SQL_QUERIES", "20"))
 NAMED = int(os.environ.get("SAFEBOUND_SQL_OUTPUTS", "20"))
 SEED = int(os.environ.get("SAFEBOUND_SQL_SEED", "1"))
@@ -33,10 +36,10 @@ OUTPUTS = (
 )
 
 
-def in_tens(queries: int) -> Callable[[type], type]:
+def in_tens(queries: int) -> Callable[[type[OnEachEngine]], type[OnEachEngine]]:
     """A test of a class for each ten random queries, which share their tables: its `ask` gets their numbers."""
 
-    def with_tests(test: type) -> type:
+    def with_tests(test: type[OnEachEngine]) -> type[OnEachEngine]:
         for begin in range(SEED, SEED + queries, 10):
             numbers = range(begin, min(begin + 10, SEED + queries))
             setattr(test, f"test_queries_from_{begin:05}", lambda self, numbers=numbers: self.ask(numbers))
@@ -77,10 +80,10 @@ class Randomly:
             tables.append(f"DROP TABLE IF EXISTS t{table}; CREATE TABLE t{table} ({', '.join(columns)});")
         return "\n".join(tables)
 
-    def rows(self) -> list[tuple]:
+    def rows(self) -> list[Row]:
         return [tuple(self._value(name) for name in TYPES) for _ in range(self.random.choice((0, 3, 8, 14, 20)))]
 
-    def _value(self, name: str):
+    def _value(self, name: str) -> object:
         if self.random.random() < 0.12:
             return None
         skewed = int(self.random.choice((3, 6, 9)) * self.random.random() ** 2)

@@ -30,15 +30,15 @@ class InBlocks(OnEachEngine, Process):
                 for level in plan.levels:
                     if level.rows is not None:
                         self.assertLessEqual(level.rows, level.bound, f"{level.joined} of {plan.core.called}\n{text}")
-            engine.keep_order()
-            rows, true = engine.rows(planner.sql()), self.base.rows(text)
+            engine.connection.keep_order()
+            rows, true = engine.connection.rows(planner.sql()), self.base.rows(text)
             self.assertEqual(counted(rows), counted(true), planner.sql())
             [top] = [plan for plan in planner.plans.values() if plan.core.called == "the query"]
             if not planner.query.operators and top.rows is not None:
                 self.assertLessEqual(len(true), top.rows)
             return planner
         finally:
-            engine.close()
+            engine.connection.close()
 
 
 class Blocks(InBlocks):
@@ -236,13 +236,13 @@ class Tpch(InBlocks):
         """Whether each join of the query is."""
         engine = opened(self.base.url, None)
         several = block_plans.several(text, engine)
-        engine.close()
+        engine.connection.close()
         if several:
             return not self.tried_in_blocks(text).unbounded
         planner, plan = self.planned(text)
         self.never_under(planner, plan, text)
         self.same_rows(planner, plan, text)
-        planner.engine.close()
+        planner.engine.connection.close()
         return True
 
 

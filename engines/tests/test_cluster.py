@@ -9,6 +9,7 @@ import subprocess
 import unittest
 from fractions import Fraction
 
+import test_counted
 import test_kept
 import test_meaning
 from bases import CLUSTER, DATABASE, ROOT, ClusterBase, OnEachEngine, counted, on_cluster
@@ -29,9 +30,9 @@ class OnCluster(OnEachEngine):
         engine = opened(url or self.base.url, None)
         try:
             planner = Planner(engine, text, reduce)
-            return counts_of(planner.query, engine.rows(planner.counting))
+            return counts_of(planner.query, engine.connection.rows(planner.counting))
         finally:
-            engine.close()
+            engine.connection.close()
 
     def same_counts(self, text: str) -> None:
         """What is counted, and so the plan, is that of one server."""
@@ -45,10 +46,10 @@ class OnCluster(OnEachEngine):
 
         planner = self.opened(text, reduce)
         if not rows:
-            return fetches(planner.engine.rows, planner.counting)
+            return fetches(planner.engine.connection.rows, planner.counting)
         plan = planner.plan(1, 2**59, False)
-        planner.engine.keep_order()
-        return fetches(planner.engine.rows, planner.sql(plan))
+        planner.engine.connection.keep_order()
+        return fetches(planner.engine.connection.rows, planner.sql(plan))
 
 
 @unittest.skipUnless(CLUSTER, "no cluster")
@@ -79,7 +80,7 @@ class TheShop(OnCluster, Process):
         self.same_counts(self.text)
         planner, plan = self.planned(self.text)
         beside = Planner(opened(self.base.alone.url, None), self.text)
-        self.addCleanup(beside.engine.close)
+        self.addCleanup(beside.engine.connection.close)
         levels = [(level.shape, level.bound) for level in beside.plan(1, 2**59, False).levels]
         self.assertEqual([(level.shape, level.bound) for level in plan.levels], levels)
         self.assertGreater(self.never_under(planner, plan, self.text)[-1], 0)
@@ -104,9 +105,9 @@ class TheShop(OnCluster, Process):
             """SELECT 1 FROM item_1 i JOIN orders_1 o ON o.id = i.order_id JOIN customer_1 c ON c.id = o.customer
             JOIN product_1 p ON p.id = i.product WHERE c.region < 5 AND o.dayno < 50 AND p.id > 2"""
         )
-        planner.engine.keep_order()
-        self.assertNotIn("Nested Loop", repr(planner.engine.rows(f"EXPLAIN {planner.sql(plan)}")))
-        self.assertIn("SET enable_nestloop = off; SET jit = off;", planner.script(plan))
+        planner.engine.connection.keep_order()
+        self.assertNotIn("Nested Loop", repr(planner.engine.connection.rows(f"EXPLAIN {planner.sql(plan)}")))
+        self.assertIn("SET enable_nestloop = off;\nSET jit = off;\n", planner.script(plan))
 
     def test_servers_group_what_isnt_spread_by_the_column(self) -> None:
         """Of 40,000 items some 2,000 products come from each server, and what is spread by the column is grouped
@@ -141,7 +142,7 @@ class TheShop(OnCluster, Process):
         kept = [Kept("nowhere", has_to_be_there=False) for _ in range(2)]
         for one, url in zip(kept, (self.base.url, self.base.alone.url)):
             planner = Planner(opened(url, None), self.text)
-            self.addCleanup(planner.engine.close)
+            self.addCleanup(planner.engine.connection.close)
             one.keep(planner.query, planner.engine)
         there, here = ([(table.name, table.rows, table.runs) for table in one.tables.values()] for one in kept)
         self.assertEqual(there, here)
@@ -235,25 +236,21 @@ CREATE TABLE b (z INTEGER, x INTEGER, y INTEGER, v VARCHAR(9), t TEXT)"""
 
     def test_a_look_at_a_table_sets_nothing(self) -> None:
         engine = opened(self.base.url, None)
-        self.addCleanup(engine.close)
-        self.assertEqual(len(engine.table(tokens("b", engine.rules)).spread.parts), 2)
-        self.assertEqual(
-            engine.rows("SELECT current_setting('enable_nestloop'), current_setting('jit')"), [("on", "on")]
-        )
+        self.addCleanup(engine.connection.close)
+        settings = "SELECT current_setting('enable_nestloop'), current_setting('jit')"
+        self.assertEqual(len(engine.catalog.table(tokens("b", engine.dialect.rules)).spread.parts), 2)
+        self.assertEqual(engine.connection.rows(settings), [("on", "on")])
         engine = self.opened("SELECT 1 FROM a JOIN b ON a.x = b.x").engine
-        self.assertEqual(
-            engine.rows("SELECT current_setting('enable_nestloop'), current_setting('jit')"), [("off", "off")]
-        )
+        self.assertEqual(engine.connection.rows(settings), [("off", "off")])
 
     def test_one_part_alone(self) -> None:
         engine = opened(self.base.url, None)
-        self.addCleanup(engine.close)
+        self.addCleanup(engine.connection.close)
         text = "SELECT 1 FROM b_1 JOIN a ON a.x = b_1.x WHERE b_1.y = 2"
         planner = Planner(engine, text)
-        counts = counts_of(planner.query, engine.rows(planner.counting))
-        self.assertEqual(
-            counts.rows["b_1"], engine.rows("SELECT count(*) FROM b_1 WHERE y = 2 AND x IN (SELECT x FROM a)")[0][0]
-        )
+        counts = counts_of(planner.query, engine.connection.rows(planner.counting))
+        [[rows]] = engine.connection.rows("SELECT count(*) FROM b_1 WHERE y = 2 AND x IN (SELECT x FROM a)")
+        self.assertEqual(counts.rows["b_1"], rows)
         self.assertNotIn("IN (SELECT", planner.counting)
 
     def reader(self, *tables: str) -> str:
@@ -306,7 +303,9 @@ class RandomQueriesOnCluster(AnyQueries, OnCluster):
         return super().check(randomly, found)
 
 
-for test in (test_meaning.Counted, test_meaning.Reduced, test_meaning.Snapshots, test_kept.Taken):
+for test in (
+    test_meaning.Counted, test_meaning.Reduced, test_meaning.Snapshots, test_kept.Taken, test_counted.Examples,
+):
     globals()[test.__name__ + "OnCluster"] = on_cluster(test)
 del test
 

@@ -164,7 +164,7 @@ class Commands(OnEachEngine, Process):
         self.done("run", "--budget", "9")
         self.assertEqual(self.left(), before)
 
-    def left(self):
+    def left(self) -> object:
         if self.base.engine == "sqlite":
             self.base.connection.execute("PRAGMA wal_checkpoint(TRUNCATE)")
             with open(self.base.file, "rb") as file:

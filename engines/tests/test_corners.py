@@ -35,12 +35,12 @@ class Corners(OnEachEngine, Process):
                 with self.subTest(text, reduce=reduce, tree=tree):
                     planner, plan = self.planned(text, reduce, tree=tree)
                     self.never_under(planner, plan, text)
-                    planner.engine.keep_order()
-                    rows, true = planner.engine.rows(planner.sql(plan)), self.base.rows(text)
+                    planner.engine.connection.keep_order()
+                    rows, true = planner.engine.connection.rows(planner.sql(plan)), self.base.rows(text)
                     if "ORDER BY" in text:
                         self.assertEqual(list(map(repr, rows)), list(map(repr, true)), planner.sql(plan))
                     self.assertEqual(counted(rows), counted(true), planner.sql(plan))
-                    planner.engine.close()
+                    planner.engine.connection.close()
 
 
 class Names(Corners):
@@ -104,8 +104,9 @@ class Names(Corners):
         ):
             for reduce, tree in WAYS:
                 planner, plan = self.planned(text, reduce, tree=tree)
-                self.assertEqual(next(planner.engine.csv(planner.sql(plan))).splitlines()[0], ",".join(names))
-                planner.engine.close()
+                first = next(planner.engine.connection.csv(planner.sql(plan)))
+                self.assertEqual(first.splitlines()[0], ",".join(names))
+                planner.engine.connection.close()
 
     def test_what_is_written_above_stays(self) -> None:
         text = (
@@ -236,8 +237,8 @@ class CornersOfPostgres(Corners):
     def test_the_order_is_kept_over_using(self) -> None:
         """USING stands above the join again, and costs nothing there: no join is left of it."""
         planner, plan = self.planned("SELECT x FROM a JOIN b USING (x) JOIN e USING (x)", reduce=False)
-        planner.engine.keep_order()
-        [[told]] = planner.engine.rows(f"EXPLAIN (FORMAT JSON) {planner.sql(plan)}")
+        planner.engine.connection.keep_order()
+        [[told]] = planner.engine.connection.rows(f"EXPLAIN (FORMAT JSON) {planner.sql(plan)}")
         self.assertEqual(str(told).count("'Node Type': 'Seq Scan'") + str(told).count("Index"), 3, told)
 
     def test_the_sessions_settings(self) -> None:
@@ -279,14 +280,14 @@ class CornersOfPostgres(Corners):
         self.refused(r'''SELECT x FROM a WHERE U&"\0072andom"() < 0.5''', 'U&"', "line 1, column 23", "escapes")
         self.base.script(
             """
-            CREATE OR REPLACE FUNCTION fickle(e) RETURNS float LANGUAGE sql VOLATILE AS 'SELECT random()';
+            CREATE OR REPLACE FUNCTION drawn(e) RETURNS float LANGUAGE sql VOLATILE AS 'SELECT random()';
             CREATE OR REPLACE FUNCTION of_two(int, int) RETURNS boolean LANGUAGE sql VOLATILE AS 'SELECT random() <
                 0.5';
             DROP OPERATOR IF EXISTS public.@#@ (int, int);
             CREATE OPERATOR public.@#@ (FUNCTION = of_two, LEFTARG = int, RIGHTARG = int)
         """
         )
-        self.refused("SELECT x FROM a WHERE x IN (SELECT e.x FROM e WHERE e.fickle < 0.5)", "fickle at line 1")
+        self.refused("SELECT x FROM a WHERE x IN (SELECT e.x FROM e WHERE e.drawn < 0.5)", "drawn at line 1")
         self.refused("SELECT x FROM a WHERE x @#@ 2", "@#@ at line 1")
         self.refused("SELECT x FROM a WHERE x OPERATOR(public.@#@) 2", "@#@ at line 1")
 
@@ -308,7 +309,7 @@ class CornersOfPostgres(Corners):
             self.assertEqual(planner.query.equalities, [])
             self.assertEqual(self.never_under(planner, plan, text)[-1], 5)
             self.same_rows(planner, plan, text)
-            planner.engine.close()
+            planner.engine.connection.close()
         finally:
             self.base.script("DROP OPERATOR public.= (varchar, varchar)")
         url = POSTGRES + ("&" if "?" in POSTGRES else "?") + "options=-csearch_path%3Dmine,pg_catalog,public"

@@ -22,11 +22,12 @@ from bases import COUNTED, OnEachEngine, counted, on_postgres
 from process import PROGRAM
 from random_names import RandomNames
 from random_queries import NAMED, QUERIES, TABLES, Randomly, in_tens
-from safebound_sql.counting import counts_of
-from safebound_sql.dialects import DIALECTS, Unreached
+from safebound_sql.counting import Counts, counts_of
 from safebound_sql.faults import Refused
 from safebound_sql.levels import MOST_BUDGET, entries_of
 from safebound_sql.planner import Planner
+from safebound_sql.query import Row
+from safebound_sql.unreached import DIALECTS, unreached
 
 # Each query is asked in five dialects.
 MOST = 60
@@ -56,9 +57,9 @@ class Dialects(OnEachEngine):
     """On each of the dialects, over a database of SQLite."""
 
     def planner(self, dialect: str, text: str, schema: str = SCHEMA, reduce: bool = True) -> Planner:
-        return Planner(Unreached(dialect, schema), text, reduce)
+        return Planner(unreached(dialect, schema), text, reduce)
 
-    def run_script(self, script: str) -> list[tuple]:
+    def run_script(self, script: str) -> list[Row]:
         """The rows of a script's last statement."""
         *before, last = statements(script)
         for statement in before:
@@ -156,13 +157,13 @@ class Written(Dialects):
                 for table in last.args["from"].expressions + [join.this for join in last.args["joins"]]
             ]
             order = [planner.query.entries[entry].alias for entry in entries_of(plan.shape)]
-            if planner.engine.makes_tables:
+            if planner.engine.dialect.makes_tables:
                 self.assertEqual(joins[1:], order[2:])
                 self.assertTrue(joins[0].startswith("safebound_"), joins)
             else:
                 self.assertEqual(joins, order)
 
-    def some_counts(self, planner: Planner):
+    def some_counts(self, planner: Planner) -> Counts:
         """Counts by which the entries are joined from the last one to the first."""
         rows = []
         for entry in planner.query.entries:
@@ -321,15 +322,15 @@ class RefusedByDialects(Dialects):
             ("DROP TABLE a", "CREATE TABLE and nothing else"),
         ):
             with self.subTest(schema), self.assertRaises(Refused) as raised:
-                Unreached("trino", schema)
+                unreached("trino", schema)
             self.assertIn(words, str(raised.exception))
         with self.assertRaises(Refused) as raised:
             self.planner("trino", "SELECT 1 FROM nowhere")
         self.assertIn("nowhere", str(raised.exception))
-        nested = Unreached(
+        nested = unreached(
             "bigquery", "CREATE OR REPLACE TABLE a (x INT64 NOT NULL, s ARRAY<STRUCT<p INT64, q STRING>>, t STRING)"
         )
-        self.assertEqual([column.name for column in nested.tables[("a",)].columns], ["x", "s", "t"])
+        self.assertEqual([column.name for column in nested.catalog.tables[("a",)].columns], ["x", "s", "t"])
 
 
 class DialectCommands(unittest.TestCase):

@@ -106,7 +106,7 @@ class EndsOfPostgres(OnEachEngine, Process):
             planner, _ = self.planned(f"SELECT a.x FROM a, b WHERE a.x = b.x AND {condition}")
             self.assertEqual(sum(len(entry.own) for entry in planner.query.entries), 1, condition)
             self.assertEqual(planner.query.no_edges, [])
-            planner.engine.close()
+            planner.engine.connection.close()
 
     def test_rights_on_columns(self) -> None:
         """A column that may not be read isn't carried for a condition in which its name is another word."""

@@ -9,18 +9,23 @@ import tempfile
 import unittest
 
 from bases import ROOT, OnEachEngine, example, on_postgres
+from safebound_sql.levels import Plan
+from safebound_sql.planner import Planner
+from safebound_sql.query import Row
 
 
 class Examples(OnEachEngine):
-    def checked(self, schema: str, tables: dict[str, list[tuple]], text: str, reduce: bool):
+    def checked(
+        self, schema: str, tables: dict[str, list[Row]], text: str, reduce: bool
+    ) -> tuple[Planner, Plan, list[int]]:
         planner, plan = self.planned(text, reduce)
         planner.expect(plan)
         true = self.never_under(planner, plan, text)
         self.same_rows(planner, plan, text)
-        planner.engine.close()
+        planner.engine.connection.close()
         return planner, plan, true
 
-    def loaded(self, schema: str, tables: dict[str, list[tuple]]) -> None:
+    def loaded(self, schema: str, tables: dict[str, list[Row]]) -> None:
         """Fresh tables."""
         self.doCleanups()
         for table in reversed(schema.split("CREATE TABLE ")[1:]):

@@ -14,7 +14,7 @@ from process import PROGRAM, Process
 from random_queries import QUERIES, TABLES, Randomly, in_tens
 from safebound_sql.faults import WrongCounts
 from safebound_sql.kept import Kept
-from safebound_sql.levels import MOST_BUDGET
+from safebound_sql.levels import MOST_BUDGET, Plan
 
 MOST = 60
 JOINED = "SELECT a.y, b.z FROM a JOIN b ON a.x = b.x"
@@ -31,23 +31,23 @@ class WithKept(OnEachEngine):
         kept = Kept(self.file, has_to_be_there=False)
         kept.keep(planner.query, planner.engine)
         kept.save()
-        planner.engine.close()
+        planner.engine.connection.close()
 
     def append(self, table: str, condition: str) -> int:
         engine = self.opened(f"SELECT 1 FROM {table}").engine
         kept = Kept(self.file)
         new = kept.append(table, condition, engine)[1]
         kept.save()
-        engine.close()
+        engine.connection.close()
         return new
 
-    def by_kept(self, text: str, tree: bool = False):
+    def by_kept(self, text: str, tree: bool = False) -> tuple[Plan, list[int]]:
         """A plan by kept counts, none of whose bounds is too low."""
         planner = self.opened(text, reduce=False)
         plan = planner.plan_by_kept(1, MOST_BUDGET, tree, Kept(self.file))
         true = self.never_under(planner, plan, text)
         self.same_rows(planner, plan, text)
-        planner.engine.close()
+        planner.engine.connection.close()
         return plan, true
 
 

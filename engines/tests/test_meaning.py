@@ -5,7 +5,7 @@ from __future__ import annotations
 import unittest
 
 from bases import POSTGRES, OnEachEngine, PostgresBase, SqliteBase, on_postgres
-from safebound_sql.counting import counts_of
+from safebound_sql.counting import Counts, counts_of
 from safebound_sql.faults import PastBudget
 from safebound_sql.levels import entries_of
 
@@ -21,9 +21,9 @@ class Counted(OnEachEngine):
         cls.base.fill("b", [(1, 5), (1, 6), (1, 7), (3, 5), (4, 5), (None, 5)])
         cls.base.fill("n", [(None,)] * 3)
 
-    def counts(self, text: str, reduce: bool):
+    def counts(self, text: str, reduce: bool) -> Counts:
         planner = self.opened(text, reduce)
-        return counts_of(planner.query, planner.engine.rows(planner.counting))
+        return counts_of(planner.query, planner.engine.connection.rows(planner.counting))
 
     def test_null_is_no_value(self) -> None:
         counts = self.counts("SELECT a.y FROM a, b WHERE a.x = b.x", reduce=False)
@@ -261,11 +261,11 @@ class Orders(OnEachEngine):
 
     def joined_by_engine(self, planner, sql: str) -> list[str]:
         """The order in which the engine says that it joins, the first two in either order."""
-        planner.engine.keep_order()
+        planner.engine.connection.keep_order()
         if self.base.engine == "sqlite":
-            steps = planner.engine.rows(f"EXPLAIN QUERY PLAN {sql}")
+            steps = planner.engine.connection.rows(f"EXPLAIN QUERY PLAN {sql}")
             return [step[3].split()[1] for step in steps if step[3].split()[0] in ("SCAN", "SEARCH")]
-        plan = planner.engine.rows(f"EXPLAIN (FORMAT JSON) {sql}")[0][0][0]["Plan"]
+        plan = planner.engine.connection.rows(f"EXPLAIN (FORMAT JSON) {sql}")[0][0][0]["Plan"]
         found = []
         while "Plans" in plan:
             names = [set(leaves(part)) for part in plan["Plans"]]
@@ -312,14 +312,14 @@ class Trees(OnEachEngine):
     def test_names_of_its_outputs(self) -> None:
         """A column of a part keeps its name."""
         planner, plan = self.planned(self.text.replace("q.p + 1, s.z", "q.p, s.z AS last"), True, 8, tree=True)
-        self.assertEqual(next(planner.engine.csv(planner.sql(plan))), "p,p,last\n")
+        self.assertEqual(next(planner.engine.connection.csv(planner.sql(plan))), "p,p,last\n")
 
     def test_the_engine_joins_so(self) -> None:
         planner, plan = self.planned(self.text, False, 8, tree=True)
-        planner.engine.keep_order()
+        planner.engine.connection.keep_order()
         sql = planner.sql(plan)
         if self.base.engine == "sqlite":
-            steps = planner.engine.rows(f"EXPLAIN QUERY PLAN {sql}")
+            steps = planner.engine.connection.rows(f"EXPLAIN QUERY PLAN {sql}")
             read = [(step[1], step[3].split()[1]) for step in steps if step[3].split()[0] in ("SCAN", "SEARCH")]
             self.assertIn("MATERIALIZE safebound_1", [step[3] for step in steps])
             self.assertEqual([name for parent, name in read if parent and name[0] != "("], ["s", "q"])
@@ -328,7 +328,7 @@ class Trees(OnEachEngine):
                 [name for parent, name in read if not parent], ["p", "r", "safebound_1", "safebound_1", "safebound_1"]
             )
         else:
-            plan = planner.engine.rows(f"EXPLAIN (FORMAT JSON) {sql}")[0][0][0]["Plan"]
+            plan = planner.engine.connection.rows(f"EXPLAIN (FORMAT JSON) {sql}")[0][0][0]["Plan"]
             self.assertEqual(sorted(map(sorted, joins(plan))), [["p", "q", "r", "s"], ["p", "r"], ["q", "s"]])
 
 
@@ -370,14 +370,14 @@ class Snapshots(OnEachEngine):
         self.base.fill("b", [(1,), (1,)])
         planner, plan = self.planned("SELECT a.x FROM a, b WHERE a.x = b.x")
         self.base.fill("b", [(1,)] * 7)
-        self.assertEqual(planner.engine.rows(planner.sql(plan)), [(1,), (1,)])
+        self.assertEqual(planner.engine.connection.rows(planner.sql(plan)), [(1,), (1,)])
         self.never_under(planner, plan, "")
         self.assertEqual(self.base.rows("SELECT count(*) FROM a, b WHERE a.x = b.x"), [(9,)])
 
     def test_nothing_is_written(self) -> None:
         planner, _ = self.planned("SELECT a.x FROM a")
         with self.assertRaisesRegex(Exception, "read-?only"):
-            planner.engine.rows("CREATE TABLE c (x INTEGER)")
+            planner.engine.connection.rows("CREATE TABLE c (x INTEGER)")
 
 
 for test in (Counted, Edges, Orders, Trees, Reduced, Snapshots):

@@ -48,7 +48,7 @@ class AnyQueries(OnEachEngine):
             self.assertLessEqual(rows, plain)
             if not reduce:
                 self.assertEqual(rows, plain)
-        planner.engine.close()
+        planner.engine.connection.close()
         return bool(planner.query.equalities)
 
 
@@ -94,12 +94,12 @@ class RandomOutputs(OnEachEngine):
         choose = randomly.random.choice
         planner, plan = self.planned(text, choose((True, True, False)), choose((1, 8)), choose((False, False, True)))
         self.never_under(planner, plan, text)
-        planner.engine.keep_order()
+        planner.engine.connection.keep_order()
         self.assertEqual(
-            list(map(repr, planner.engine.rows(planner.sql(plan)))), list(map(repr, self.base.rows(text))),
+            list(map(repr, planner.engine.connection.rows(planner.sql(plan)))), list(map(repr, self.base.rows(text))),
             planner.sql(plan),
         )
-        planner.engine.close()
+        planner.engine.connection.close()
 
 
 RandomQueriesOnPostgres, RandomOutputsOnPostgres = on_postgres(RandomQueries), on_postgres(RandomOutputs)

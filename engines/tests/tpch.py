@@ -10,6 +10,8 @@ import datetime
 import random
 from decimal import Decimal
 
+from safebound_sql.query import Row
+
 SCHEMA = """
 CREATE TABLE region (r_regionkey INTEGER PRIMARY KEY, r_name CHAR(25), r_comment VARCHAR(152));
 CREATE TABLE nation (n_nationkey INTEGER PRIMARY KEY, n_name CHAR(25), n_regionkey INTEGER, n_comment VARCHAR(152));
@@ -49,7 +51,7 @@ MODES = ("AIR", "AIR REG", "MAIL", "SHIP", "TRUCK", "RAIL", "FOB")
 FIRST_DAY = datetime.date(1992, 1, 1)
 
 
-def rows(seed: int = 1) -> dict[str, list[tuple]]:
+def rows(seed: int = 1) -> dict[str, list[Row]]:
     """The rows of all tables, the same for the same number."""
     pick = random.Random(seed)
 
@@ -60,7 +62,7 @@ def rows(seed: int = 1) -> dict[str, list[tuple]]:
         middle = f"{pick.randrange(100, 999)}-{pick.randrange(100, 999)}"
         return f"{nation + 10}-{middle}-{pick.randrange(1000, 9999)}"
 
-    tables: dict[str, list[tuple]] = {
+    tables: dict[str, list[Row]] = {
         "region": [(number, name, "") for number, name in enumerate(REGIONS)],
         "nation": [(number, name, region, "") for number, (name, region) in enumerate(NATIONS)],
     }

@@ -14,7 +14,7 @@ from array import array
 import calls
 
 import safebound
-from safebound import _library, bounds, joins, lists, plans, query
+from safebound import _library, bounds, decimals, joins, lists, plan_texts, plans, query, sql_texts
 
 PAIR = [(("r", "x"), ("s", "x"))]
 
@@ -26,7 +26,7 @@ def pair(**changed):
 
 class Pages(unittest.TestCase):
     def test_what_docstrings_show(self):
-        for module in (safebound, bounds, joins, lists, plans, query):
+        for module in (safebound, bounds, decimals, joins, lists, plan_texts, plans, query, sql_texts):
             failed, tried = doctest.testmod(module)
             self.assertEqual((failed, tried > 0), (0, True), module)
 

@@ -9,6 +9,7 @@ from typing import Any, Iterable, List, Mapping, NamedTuple, Optional, SupportsI
 from . import errors
 from ._library import find, whole
 from ._version import VERSION
+from .plan_texts import read_plan
 from .plans import Order
 
 NAME, VARIABLE = "libsafebound_command.so", "SAFEBOUND_COMMAND_LIBRARY"
@@ -145,14 +146,9 @@ def plan_stats(schema: Text, query: Text, stats: Text, budget: Optional[Supports
     output = run(words, {"schema": schema, "query": query, "stats": stats})
     if output.status:
         raise _refusal(output)
-    scans: List[Tuple[str, int]] = []
-    levels: List[Tuple[str, int]] = []
-    for line in output.notes.decode().split("\n")[:-1]:
-        kind, rest = line.split(" ", 1)
-        # A name may have blanks: the bound is what stands behind the last one.
-        name, bound = (rest if kind == "scan" else rest.split(" ", 1)[1]).rsplit(" ", 1)
-        (scans if kind == "scan" else levels).append((name, int(bound)))
-    return Plan(tuple(scans), Order(tuple(name for name, _ in levels), tuple(bound for _, bound in levels)))
+    plan = read_plan(output.notes.decode())
+    order = Order(tuple(name for name, _ in plan.levels), tuple(bound for _, bound in plan.levels))
+    return Plan(tuple(plan.scans.items()), order)
 
 
 def append_stats(schema: Text, stats: Text, table: str, rows: Text) -> bytes:

@@ -9,7 +9,7 @@ import textwrap
 from typing import TYPE_CHECKING
 
 from .. import terminal
-from ..plans import option_of
+from ..words import option_of
 from ..spot import plain
 from ..table import STATS
 from ..words import places

@@ -4,19 +4,20 @@ from __future__ import annotations
 import subprocess
 from typing import TYPE_CHECKING
 
+from safebound.plan_texts import PlanText, read_plan
+
 from . import read
+from ..faults import fault_of
 from ..near import listed
-from ..plans import option_of, read_plan
 from ..program import answer
 from ..query import equality, groups
-from ..terminal import saying
 from ..table import ACCURACY, BUDGET, BUSHY, COUNT, KEYS, MOST_BUDGET, MOST_BUDGET_OF_A_TREE, REDUCE, USUAL_BUDGET
-from ..faults import fault_of
+from ..terminal import saying
+from ..words import option_of
 
 if TYPE_CHECKING:
     from ..faults import Fault
     from . import Run
-    from ..plans import Plan
     from ..table import Option
 
 SECONDS = 60
@@ -83,7 +84,7 @@ def several_equalities(run: Run) -> list[str]:
     ]
 
 
-def with_words(run: Run, words: list[str]) -> int | Plan | None:
+def with_words(run: Run, words: list[str]) -> int | PlanText | None:
     """What `plan` says with further words: its levels, or the least budget, or nothing."""
     if run.program is None or run.command == "demo":
         return None
@@ -182,7 +183,7 @@ def tried(run: Run, budget: int, apart: str) -> list[str]:
     return (["What other options come to:\n" + "\n".join(found)] if found else []) + [rest]
 
 
-def said_of(found: int | Plan | None, budget: int) -> str | None:
+def said_of(found: int | PlanText | None, budget: int) -> str | None:
     if found is None:
         return None
     if isinstance(found, int):

@@ -3,8 +3,8 @@ from __future__ import annotations
 
 from typing import TYPE_CHECKING
 
-from ..plans import option_of
 from ..table import BUSHY, COUNT, KEYS, MEMORY
+from ..words import option_of
 
 if TYPE_CHECKING:
     from ..faults import Fault

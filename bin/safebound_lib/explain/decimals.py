@@ -4,6 +4,9 @@ from __future__ import annotations
 import os
 from typing import TYPE_CHECKING
 
+from safebound.decimals import digits_of, first_decimal, scale_of, scaled
+from safebound.sql_texts import name_of, typed_name, written_name
+
 from .. import decimals
 from ..query import Literal, Reference, found_of, visible
 from ..spot import plain
@@ -53,7 +56,7 @@ def of_point(query: Query, schema: Schema, at: int, run: Run) -> list[str]:
 
 
 def said(query: Query, schema: Schema, beside: Reference, number: str, sign: str, run: Run) -> list[str]:
-    from ..sheets import NoTable, sheet_of, written
+    from ..sheets import NoTable, sheet_of
     _, table, column = found_of(query, beside, schema)
     if column.is_number or not os.path.isfile(table.file):
         return []
@@ -62,13 +65,13 @@ def said(query: Query, schema: Schema, beside: Reference, number: str, sign: str
         sheet = sheet_of(table.file, word)
     except NoTable:
         return []
-    found = next((c for c in sheet.columns if c.name == written(column.name)), None)
-    first = decimals.first_decimal(found.values) if found else None
+    found = next((c for c in sheet.columns if c.name == written_name(column.name)), None)
+    first = first_decimal(found.values) if found else None
     if found is None or first is None:
         return []
-    digits = max(decimals.scale_of(found.values), decimals.digits_of(number) or 0)
-    new = decimals.quoted(decimals.called(decimals.bare(found.name), digits))
-    whole = decimals.scaled(number, digits)
+    digits = max(scale_of(found.values), digits_of(number) or 0)
+    new = typed_name(decimals.called(name_of(found.name), digits))
+    whole = scaled(number, digits)
     declared = f", and {plain(run.schema_file)} declares it: {plain(new)} INTEGER NOT NULL"
     schema_too = "" if run.is_proposed else declared
     line = decimals.line_to_paste(word, found.name, digits)

@@ -3,6 +3,8 @@ from __future__ import annotations
 
 from typing import TYPE_CHECKING
 
+from safebound.sql_texts import MOST_ROWS, MOST_TABLE_BYTES, MOST_TEXT_BYTES
+
 from ..spot import plain
 
 if TYPE_CHECKING:
@@ -28,7 +30,6 @@ SAYS = {
     "conjuncts": "A query has at most 256 conditions joined by AND, and this one has {found:,}.",
     "outputs": "A query has at most 1,024 columns in its answer, and this one has {found:,}.",
 }
-BYTES_OF_TEXT, BYTES_OF_TABLE, ROWS = 1_048_576, 67_108_864, 4_000_000
 
 
 def explain(fault: Fault, run: Run) -> list[str]:
@@ -36,24 +37,24 @@ def explain(fault: Fault, run: Run) -> list[str]:
     if fault.cause == "rows" and run.command == "append":
         return [
             (
-                f"With the rows of {file} the table {plain(run.table)} has more than {ROWS:,} rows, which is the most"
-                " for a table."
+                f"With the rows of {file} the table {plain(run.table)} has more than {MOST_ROWS:,} rows, which is the"
+                " most for a table."
             ),
             beyond(),
         ]
     if fault.cause == "rows":
-        return [f"{file} has more than {ROWS:,} rows, which is the most for a table.", beyond()]
+        return [f"{file} has more than {MOST_ROWS:,} rows, which is the most for a table.", beyond()]
     if fault.cause != "file-bytes":
         return [SAYS[fault.cause].format(found=fault.found)]
-    if fault.found == BYTES_OF_TEXT + 1:
-        return [f"{file} is longer than 1 MiB ({BYTES_OF_TEXT:,} bytes), which is the most for a schema or a query.",
+    if fault.found == MOST_TEXT_BYTES + 1:
+        return [f"{file} is longer than 1 MiB ({MOST_TEXT_BYTES:,} bytes), which is the most for a schema or a query.",
                 "Is it a text of SQL at all? The words are SCHEMA and then QUERY."]
     if run.stats_file is not None and fault.file == run.stats_file:
         return [
-            f"{file} is longer than 64 MiB ({BYTES_OF_TABLE:,} bytes), which is the most for a statistics file. With a"
-            " lower --accuracy `stats` writes a shorter one."
+            f"{file} is longer than 64 MiB ({MOST_TABLE_BYTES:,} bytes), which is the most for a statistics file. With"
+            " a lower --accuracy `stats` writes a shorter one."
         ]
-    return [f"{file} is longer than 64 MiB ({BYTES_OF_TABLE:,} bytes), which is the most for a table.", beyond()]
+    return [f"{file} is longer than 64 MiB ({MOST_TABLE_BYTES:,} bytes), which is the most for a table.", beyond()]
 
 
 def beyond() -> str:

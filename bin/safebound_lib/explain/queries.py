@@ -5,18 +5,18 @@ import os
 from collections.abc import Iterable
 from typing import TYPE_CHECKING, cast
 
+from safebound.sql_texts import LEAST_NUMBER, MOST_NUMBER, folded, typed_name, written_name
+
 from . import read
 from .decimals import of_decimals
 from .query_advice import CERTAIN, GUESSES
 from .reads import missing_table
 from .texts import accented, advised, bad_character, marked, no_text, place_of, quotes_for
 from ..convert import packed
-from ..decimals import quoted as in_query
 from ..near import hint, listed, nearest
 from ..query import Literal, Reference, found_of, visible
-from ..records import records, same
+from ..records import records
 from ..spot import plain
-from ..tokens import LEAST_NUMBER, MOST_NUMBER
 
 if TYPE_CHECKING:
     from ..faults import Fault
@@ -75,14 +75,14 @@ def of_a_proposal(fault: Fault, query: Query, schema: Schema, run: Run) -> list[
 
 def odd_value(query: Query, schema: Schema, at: int) -> list[str]:
     """Where a number is compared with a column that nearly all values would make a number: the value that doesn't."""
-    from ..sheets import of_values, sheet_of, written
+    from ..sheets import of_values, sheet_of
     test = next(t for t in query.tests if any(o.token.start == at for o in t.operands[1:]))
     other = next(o for o in test.operands[1:] if o.token.start == at)
     literal, beside = (other, test.operands[0]) if isinstance(other, Literal) else (test.operands[0], other)
     if not isinstance(literal, Literal) or not literal.is_number or not isinstance(beside, Reference):
         return []
     entry, table, column = found_of(query, beside, schema)
-    found = next((c for c in sheet_of(table.file, table.file).columns if c.name == written(column.name)), None)
+    found = next((c for c in sheet_of(table.file, table.file).columns if c.name == written_name(column.name)), None)
     if found is None or found.odd is None and not found.has_gaps:
         return []
     return [
@@ -279,7 +279,7 @@ def named_twice(token: Token, table: Table | None) -> str:
     if table is None or not os.path.isfile(table.file):
         return ""
     _, header = next(records(read(table.file)), NO_RECORD)
-    count = sum(same(name) == same(token.name) for name in header)
+    count = sum(folded(name) == folded(token.name) for name in header)
     return (
         f"The header of {plain(table.file)} names it {count} times, so it is left out: rename all but one of them."
         if count > 1 else ""
@@ -310,7 +310,7 @@ def quoted(token: Token, tables: dict[str, Table | None]) -> list[str]:
     if near:
         return [
             f"No entry has a column {plain(token.source)}: in double quotes upper and lower case count. Did you mean"
-            f" {plain(in_query(near))}?"
+            f" {plain(typed_name(near))}?"
         ]
     text = plain(token.name).replace("'", "''")
     return [

@@ -4,10 +4,12 @@ from __future__ import annotations
 import re
 from typing import TYPE_CHECKING
 
+from safebound.sql_texts import RESERVED
+
 from .texts import NO_ARITHMETIC_THERE, is_in_select
 from ..near import nearest
 from ..spot import plain
-from ..tokens import RESERVED, Token
+from ..tokens import Token
 
 if TYPE_CHECKING:
     from .texts import Place

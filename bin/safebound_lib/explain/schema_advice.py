@@ -3,9 +3,10 @@ from __future__ import annotations
 
 from typing import TYPE_CHECKING
 
+from safebound.sql_texts import RESERVED
+
 from ..near import nearest
 from ..spot import plain
-from ..tokens import RESERVED
 
 if TYPE_CHECKING:
     from .texts import Place

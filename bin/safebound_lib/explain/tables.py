@@ -4,14 +4,15 @@ from __future__ import annotations
 import re
 from typing import TYPE_CHECKING
 
+from safebound.sql_texts import LEAST_NUMBER, MOST_NUMBER, folded, number_of
+
 from . import read
 from .texts import convert_line, how_to_convert
 from ..convert import packed
 from ..near import listed, nearest
-from ..records import chosen, column_place, left_open, records, same
+from ..records import chosen, column_place, left_open, records
 from ..spot import cut, plain, spot
 from ..terminal import columns
-from ..tokens import LEAST_NUMBER, MOST_NUMBER, number_of
 
 if TYPE_CHECKING:
     from ..faults import Fault
@@ -89,7 +90,7 @@ def header(table: Table, fault: Fault, data: bytes, run: Run) -> list[str]:
     if found is None:
         return [f"{fault.file} holds nothing. Its first line names the columns: {','.join(map(plain, wanted))}"]
     column = fault.column
-    count = sum(same(name) == same(column) for name in found)
+    count = sum(folded(name) == folded(column) for name in found)
     first = (
         f"The header of {fault.file} names {plain(column)} {count} times; each declared column stands there once."
         if count else f"The header of {fault.file}, its first line, has no column {plain(column)}."
@@ -115,11 +116,11 @@ def why_no_header(found: list[str], wanted: list[str], column: str, count: int, 
         return ""
     if (
         any(re.fullmatch(r"[+-]?[0-9]+", name) for name in found)
-        or not any(same(name) in map(same, wanted) for name in found) and len(found) == len(wanted) > 1
+        or not any(folded(name) in map(folded, wanted) for name in found) and len(found) == len(wanted) > 1
         and not any(nearest(w, found) for w in wanted)
     ):
         return f"The first line looks like a row. Put the names above it: {plain(','.join(wanted))}"
-    padded = next((name for name in found if name != name.strip() and same(name.strip()) == same(column)), None)
+    padded = next((name for name in found if name != name.strip() and folded(name.strip()) == folded(column)), None)
     if padded:
         return f"Blanks count: {quoted(padded)} has some at its ends."
     near = nearest(column, found)

@@ -1,24 +1,36 @@
-"""Plan and audit texts, and options among words."""
+"""The texts of plans and audits as the program prints them (docs/USING.md), read into scans, levels and nodes.
+
+>>> plan = read_plan("scan R 3\\nscan S 2\\nlevel 1 S 2\\nlevel 2 R 3\\n")
+>>> plan.scans, plan.levels
+({'R': 3, 'S': 2}, [('S', 2), ('R', 3)])
+>>> read_audit("level 1 S 2 2\\nlevel 2 R 3 1\\n", plan)
+[2, 1]
+"""
+
 from __future__ import annotations
 
 import re
 from dataclasses import dataclass
 
+__all__ = ["Node", "NoPlan", "PlanText", "read_audit", "read_plan"]
+
 
 @dataclass(frozen=True)
 class Node:
     """An inner node of a join tree: the numbers of the two nodes that it joins, and its bound."""
+
     left: int
     right: int
     bound: int
 
 
 @dataclass
-class Plan:
+class PlanText:
     """The scans' bounds by entry, in FROM order, and behind them either the levels along the order, as pairs of an
     entry and its bound, or the inner nodes of a join tree. Nodes have numbers: the entries theirs in FROM order, from 0
     on, and behind them the inner nodes.
     """
+
     scans: dict[str, int]
     levels: list[tuple[str, int]]
     nodes: list[Node]
@@ -45,31 +57,36 @@ class Plan:
 
 
 class NoPlan(ValueError):
-    """A text is none of a plan."""
+    """A text is no plan, or no audit of this plan."""
 
 
-def read_plan(text: str) -> Plan:
+def read_plan(text: str) -> PlanText:
+    """The plan of what `plan`, `run` or `audit` writes on standard error. A name may have blanks.
+
+    Raises:
+        NoPlan: it is another text.
+    """
     lines = text.split("\n")[:-1]
     if lines and re.fullmatch("memory [0-9]+", lines[-1]):
         # With --memory the bytes of the plan's buffers stand last.
         lines.pop()
-    scans = matches(r"scan (.*) ([0-9]+)", lines)
-    levels = matches(r"level [0-9]+ (.*) ([0-9]+)", lines)
-    nodes = matches(r"node ([0-9]+) ([0-9]+) ([0-9]+) ([0-9]+)", lines)
+    scans = _matches(r"scan (.*) ([0-9]+)", lines)
+    levels = _matches(r"level [0-9]+ (.*) ([0-9]+)", lines)
+    nodes = _matches(r"node ([0-9]+) ([0-9]+) ([0-9]+) ([0-9]+)", lines)
     is_whole = scans and len(scans) + len(levels) + len(nodes) == len(lines)
-    if not is_whole or not (len(levels) == len(scans) and not nodes or not levels and is_tree(nodes, len(scans))):
+    if not is_whole or not (len(levels) == len(scans) and not nodes or not levels and _is_tree(nodes, len(scans))):
         raise NoPlan("this is no plan text: " + (lines[0] if lines else "nothing"))
-    return Plan(
+    return PlanText(
         {m[1]: int(m[2]) for m in scans}, [(m[1], int(m[2])) for m in levels],
         [Node(int(m[2]), int(m[3]), int(m[4])) for m in nodes],
     )
 
 
-def matches(form: str, lines: list[str]) -> list[re.Match[str]]:
+def _matches(form: str, lines: list[str]) -> list[re.Match[str]]:
     return [match for line in lines for match in [re.fullmatch(form, line)] if match]
 
 
-def is_tree(nodes: list[re.Match[str]], entries: int) -> bool:
+def _is_tree(nodes: list[re.Match[str]], entries: int) -> bool:
     """Whether inner nodes make one tree of so many entries: each behind the two that it joins, and each node but the
     last joined once.
     """
@@ -79,8 +96,12 @@ def is_tree(nodes: list[re.Match[str]], entries: int) -> bool:
     return behind and numbers == list(range(entries, 2 * entries - 1)) and joined == list(range(2 * entries - 2))
 
 
-def read_audit(text: str, plan: Plan) -> list[int]:
-    """The true rows of each level, or of each inner node."""
+def read_audit(text: str, plan: PlanText) -> list[int]:
+    """The true rows of each level, or of each inner node, of what `audit` writes on standard output.
+
+    Raises:
+        NoPlan: it is another text, or that of another plan.
+    """
     lines = text.split("\n")[:-1]
     wanted = [f"level {k} {alias} {bound} " for k, (alias, bound) in enumerate(plan.levels, 1)]
     wanted += [f"node {k} {node.left} {node.right} {node.bound} " for k, node in enumerate(plan.nodes, len(plan.scans))]
@@ -89,17 +110,3 @@ def read_audit(text: str, plan: Plan) -> list[int]:
     ):
         raise NoPlan("the audit text is not of this plan")
     return [int(line.rpartition(" ")[2]) for line in lines]
-
-
-def option_of(words: list[str], option: str) -> str | None:
-    """The value of an option among the words of a command, or nothing."""
-    left = list(words)
-    while left:
-        word = left.pop(0)
-        if word == "--":
-            return None
-        if word == option:
-            return left[0] if left else None
-        if word.startswith(option + "="):
-            return word[len(option) + 1:]
-    return None

@@ -8,9 +8,11 @@ from __future__ import annotations
 
 import logging
 import re
-from typing import Iterator, NamedTuple
+from dataclasses import dataclass
+from typing import Iterator
 
-from .engine import Engine
+from .dialect import Dialect
+from .engine import Catalog, Connection, Engine
 from .faults import EngineFault, Missing, Refused
 from .known import CALLED, PLAIN, TIMES
 from .query import Column, Row, Table
@@ -31,64 +33,27 @@ PARTS_OF_SELECT = {
 }
 
 
-class Dialect(NamedTuple):
-    """What is an engine's own. `settings` make it keep the order; without any, each level is a temporary table."""
+RESERVED = (*TIMES, "NULL", "TRUE", "FALSE")
+IN_LOWER_CASE = frozenset(word.lower() for word in RESERVED)
 
-    title: str
-    quotes: str
-    rules: re.Pattern[str]
-    settings: tuple[str, ...] = ()
+
+@dataclass(frozen=True)
+class UnreachedDialect(Dialect):
+    """Where no settings make an engine keep the order, each level is a temporary table."""
+
+    merged_columns_first: bool = True
+    calls_without_parentheses: tuple[str, ...] = TIMES
+    outputs_in_conditions: bool = True
+    schemas_in_names: bool = False
+    knows_blocks: bool = False
+    takes_rows_in: bool = False
+    star_over_using: bool = False
     keeps_parts: str = "AS"
-    equals: tuple[str, ...] = ("=",)
+    reserved: frozenset[str] = IN_LOWER_CASE
+    why_volatile: str = "it isn't known here to answer alike at each call"
+    quotes: str = '"'
     folds_up: bool = False
     folds_tables: bool = True
-
-
-DIALECTS = {
-    "spark": Dialect(
-        "Spark",
-        "`",
-        dialect_rules(BACKTICKS, texts="'\"", suffixes="[lLsSyYfFdD]|[bB][dD]"),
-        ("SET spark.sql.cbo.joinReorder.enabled = false", "SET spark.sql.cbo.starSchemaDetection = false"),
-        equals=("=", "=="),
-    ),
-    "trino": Dialect("Trino", '"', dialect_rules(DOUBLE_QUOTES), ("SET SESSION join_reordering_strategy = 'NONE'",)),
-    "duckdb": Dialect(
-        "DuckDB", '"', dialect_rules(DOUBLE_QUOTES), ("SET disabled_optimizers = 'join_order'",), "AS MATERIALIZED",
-        ("=", "=="),
-    ),
-    "snowflake": Dialect("Snowflake", '"', dialect_rules(DOUBLE_QUOTES, comments="//"), folds_up=True),
-    "bigquery": Dialect("BigQuery", "`", dialect_rules(BACKTICKS, texts="'\"", comments="#"), folds_tables=False),
-}
-
-
-class Unreached(Engine):
-    """An engine of which only its dialect and the schema of its tables are known."""
-
-    comma_binds_less = True
-    merged_columns_first = True
-    calls_without_parentheses = TIMES
-    outputs_in_conditions = True
-    reserved = frozenset(word.lower() for word in (*TIMES, "NULL", "TRUE", "FALSE"))
-    join_word = "JOIN"
-    schemas_in_names = False
-    knows_blocks = False
-    takes_rows_in = False
-    star_over_using = False
-    why_fickle = "it isn't known here to answer alike at each call"
-
-    def __init__(self, dialect: str, schema: str) -> None:
-        own = DIALECTS[dialect]
-        self.dialect, self.title, self.rules, self.own = dialect, own.title, own.rules, own
-        self.equals, self.keeps_parts = own.equals, own.keeps_parts
-        self.keeps_order = ";\n".join(own.settings)
-        self.makes_tables = not own.settings
-        self.keeps_trees = not self.makes_tables
-        # A part that isn't kept is read again wherever it is named, and so the parts that it names in turn.
-        self.most_parts_of_a_part = None if self.makes_tables or own.keeps_parts != "AS" else 200
-        self.most_scans = None if self.makes_tables or own.keeps_parts != "AS" else 100
-        self.reserved = frozenset(self.key(word, False) for word in self.reserved)
-        self.tables = declared(schema, self)
 
     def with_parts(self, parts: list[tuple[str, str]], select: str) -> str:
         """Where each level is a table, each part is one too, and the statement a script."""
@@ -97,31 +62,21 @@ class Unreached(Engine):
         return "".join(f"CREATE OR REPLACE TEMPORARY TABLE {name} AS\n{text};\n" for name, text in parts) + select
 
     def quote(self, name: str) -> str:
-        return self.own.quotes + name.replace(self.own.quotes, self.own.quotes * 2) + self.own.quotes
+        return self.quotes + name.replace(self.quotes, self.quotes * 2) + self.quotes
 
     def key(self, name: str, quoted: bool) -> str:
-        if self.own.folds_up:
+        if self.folds_up:
             return name if quoted else name.upper()
         return name.lower()
 
-    def name_key(self, token: Token) -> str:
-        return self.key(unquoted(token) if token.kind == "quoted" else token.text, token.kind == "quoted")
-
     def table_key(self, name: list[Token]) -> tuple[str, ...]:
+        """By what a table is found."""
         names = [token for token in name if token.names]
-        if self.own.folds_tables:
-            return tuple(map(self.name_key, names))
+        if self.folds_tables:
+            return tuple(map(self.key_of, names))
         return tuple(unquoted(token) if token.kind == "quoted" else token.text for token in names)
 
-    def table(self, name: list[Token]) -> Table | None:
-        return self.tables.get(self.table_key(name))
-
-    def fickle(self, names: set[str]) -> dict[str, str]:
-        """All that isn't known to answer alike at each call."""
-        called = [name for name in names if re.match(r"\.?\w", name)]
-        return {name: self.why_fickle for name in sorted(called) if name.lower() not in CALLED}
-
-    def asks_for_now(self, pieces: list[Token], at: int, below: bool = False) -> bool:
+    def reads_clock(self, pieces: list[Token], at: int, below: bool = False) -> bool:
         """A text such as 'now' that is made a date or a time."""
         token = pieces[at]
         if token.kind != "text" or token.text[1:-1].split(" ")[0].lower() not in DAYS:
@@ -129,17 +84,86 @@ class Unreached(Engine):
         before = pieces[at - 1].text.upper() if at else ""
         return before.startswith(("DATE", "TIME")) or (at + 1 < len(pieces) and pieces[at + 1].says("AS", "::"))
 
+
+# A part that isn't kept is read again wherever it is named, and so the parts that it names in turn.
+MOST_PARTS_OF_A_PART, MOST_SCANS = 200, 100
+
+DIALECTS = {
+    dialect.name: dialect
+    for dialect in (
+        UnreachedDialect(
+            name="spark",
+            title="Spark",
+            rules=dialect_rules(BACKTICKS, texts="'\"", suffixes="[lLsSyYfFdD]|[bB][dD]"),
+            quotes="`",
+            settings=("SET spark.sql.cbo.joinReorder.enabled = false", "SET spark.sql.cbo.starSchemaDetection = false"),
+            equals=("=", "=="),
+            most_parts_of_a_part=MOST_PARTS_OF_A_PART,
+            most_scans=MOST_SCANS,
+        ),
+        UnreachedDialect(
+            name="trino",
+            title="Trino",
+            rules=dialect_rules(DOUBLE_QUOTES),
+            settings=("SET SESSION join_reordering_strategy = 'NONE'",),
+            most_parts_of_a_part=MOST_PARTS_OF_A_PART,
+            most_scans=MOST_SCANS,
+        ),
+        UnreachedDialect(
+            name="duckdb",
+            title="DuckDB",
+            rules=dialect_rules(DOUBLE_QUOTES),
+            settings=("SET disabled_optimizers = 'join_order'",),
+            keeps_parts="AS MATERIALIZED",
+            equals=("=", "=="),
+        ),
+        UnreachedDialect(
+            name="snowflake",
+            title="Snowflake",
+            rules=dialect_rules(DOUBLE_QUOTES, comments="//"),
+            folds_up=True,
+            reserved=frozenset(RESERVED),
+            makes_tables=True,
+            keeps_trees=False,
+        ),
+        UnreachedDialect(
+            name="bigquery",
+            title="BigQuery",
+            rules=dialect_rules(BACKTICKS, texts="'\"", comments="#"),
+            quotes="`",
+            folds_tables=False,
+            makes_tables=True,
+            keeps_trees=False,
+        ),
+    )
+}
+
+
+class SchemaFile(Catalog):
+    """What a schema file tells, and what is known of functions without asking an engine."""
+
+    def __init__(self, dialect: UnreachedDialect, schema: str) -> None:
+        self.dialect, self.tables = dialect, declared(schema, dialect)
+
+    def table(self, name: list[Token]) -> Table | None:
+        return self.tables.get(self.dialect.table_key(name))
+
+    def volatile(self, names: set[str]) -> dict[str, str]:
+        """All that isn't known to answer alike at each call."""
+        called = [name for name in names if re.match(r"\.?\w", name)]
+        return {name: self.dialect.why_volatile for name in sorted(called) if name.lower() not in CALLED}
+
     def view_texts(self, names: set[str]) -> list[tuple[str, str, str]]:
         return []
 
     def takes(self, sql: str) -> None:
         """Refuses what would be read here in another way than by the engine."""
-        statement, pieces = Statement(sql), tokens(sql, self.rules)
+        statement, pieces = Statement(sql), tokens(sql, self.dialect.rules)
         for token in _no_inner_joins(pieces):
             raise statement.refuse(token, "only inner joins of whole tables are bounded")
         schemas = {key[0].lower() for key in self.tables if len(key) > 1}
-        for source in read(sql, list(pieces), True).sources:
-            if self.name_key(source.alias).lower() in schemas:
+        for source in read(sql, list(pieces), self.dialect).sources:
+            if self.dialect.key_of(source.alias).lower() in schemas:
                 raise statement.refuse(
                     source.alias, "it is the name of a schema too, and engines differ in which is meant"
                 )
@@ -152,9 +176,10 @@ class Unreached(Engine):
             ) from None
         logging.getLogger("sqlglot").setLevel(logging.CRITICAL)
         try:
-            trees = sqlglot.parse(written(pieces), read=self.dialect)
+            trees = sqlglot.parse(written(pieces), read=self.dialect.name)
         except (sqlglot.errors.SqlglotError, RecursionError):
-            raise Refused(f"the query isn't read as {self.title}'s SQL by sqlglot {sqlglot.__version__}") from None
+            by = f"sqlglot {sqlglot.__version__}"
+            raise Refused(f"the query isn't read as {self.dialect.title}'s SQL by {by}") from None
         tree = trees[0]
         odd = {name for name, part in tree.args.items() if part} - PARTS_OF_SELECT if tree else set()
         if not isinstance(tree, sqlglot.exp.Select) or odd:
@@ -165,14 +190,14 @@ class Unreached(Engine):
         if any(token.says("SELECT", "WITH", "VALUES") for token in inner[1:]):
             return "there is a subquery within it"
         try:
-            sources = read("", list(inner), True).sources
+            sources = read("", list(inner), self.dialect).sources
         except Refused:
             return "it isn't a plain query over tables by their names"
         tables = [table for source in sources if (table := self.table(source.table))]
         if len(tables) < len(sources):
             return "a table of it isn't in the schema file"
         own = {token.at for source in sources for token in (*source.table, source.alias)}
-        aliases = {self.name_key(source.alias) for source in sources}
+        aliases = {self.dialect.key_of(source.alias) for source in sources}
         columns = {key for table in tables for key in table.by_key}
         for at, token in enumerate(inner):
             if token.names and token.at not in own and not self._known_within(inner, at, aliases, columns):
@@ -184,10 +209,10 @@ class Unreached(Engine):
         if at and inner[at - 1].says(".", "AS", "::"):
             return True
         if behind and behind[0].says("."):
-            return self.name_key(token) in aliases
+            return self.dialect.key_of(token) in aliases
         if behind and (behind[0].says("(") or behind[0].kind == "text") and token.kind == "word":
             return True
-        return self.name_key(token) in columns or (token.kind == "word" and token.text.upper() in PLAIN)
+        return self.dialect.key_of(token) in columns or (token.kind == "word" and token.text.upper() in PLAIN)
 
     def merged_side(self, left: Column, right: Column) -> int | None:
         return 0 if left.type.upper() == right.type.upper() else None
@@ -195,35 +220,43 @@ class Unreached(Engine):
     def complaint(self, sql: str) -> str | None:
         return None
 
-    def expected(self, sql: str) -> int | None:
-        return None
-
-    def keep_order(self) -> None:
-        """Its settings are printed before the query."""
-
-    def _not_here(self) -> EngineFault:
-        return EngineFault(f"{self.title} isn't reached from here")
-
-    def rows(self, sql: str) -> list[Row]:
-        raise self._not_here()
-
-    def stream(self, sql: str) -> Iterator[Row]:
-        raise self._not_here()
-
-    def csv(self, sql: str, null: str = "") -> Iterator[str]:
-        raise self._not_here()
-
     def exports(self, column: Column) -> bool:
-        raise self._not_here()
+        raise not_reached(self.dialect)
 
     def whole_numbers(self, column: Column) -> bool:
-        raise self._not_here()
+        raise not_reached(self.dialect)
 
     def plain_order(self, column: Column) -> bool:
-        raise self._not_here()
+        raise not_reached(self.dialect)
+
+
+class NoConnection(Connection):
+    """Runs nothing. The settings are printed before the query."""
+
+    def __init__(self, dialect: Dialect) -> None:
+        self.dialect = dialect
+
+    def rows(self, sql: str) -> list[Row]:
+        raise not_reached(self.dialect)
+
+    def stream(self, sql: str) -> Iterator[Row]:
+        raise not_reached(self.dialect)
+
+    def csv(self, sql: str, null: str = "") -> Iterator[str]:
+        raise not_reached(self.dialect)
 
     def close(self) -> None:
-        """There is no connection."""
+        """There is nothing to end."""
+
+
+def not_reached(dialect: Dialect) -> EngineFault:
+    return EngineFault(f"{dialect.title} isn't reached from here")
+
+
+def unreached(name: str, schema: str) -> Engine:
+    """An engine of which only its dialect and the schema of its tables are known."""
+    dialect = DIALECTS[name]
+    return Engine(dialect, SchemaFile(dialect, schema), NoConnection(dialect))
 
 
 def _no_inner_joins(pieces: Tokens) -> Iterator[Token]:

@@ -1,0 +1,142 @@
+"""A block: what one SELECT of several means.
+
+`reorderable` are the entries that may be joined in any order; the others follow as they were written. `left_over` are
+conditions as text, each with the entries behind which it is tested, or None where it is tested at the end. `not_used`
+are those that no bound keeps to. `order` is that of all entries, once the block is planned.
+"""
+
+from __future__ import annotations
+
+from typing import TYPE_CHECKING
+
+from .block_names import BlockNames
+from .blocks import Core, Part
+from .choosing import choosing
+from .names import alias_of, subqueries
+from .query import Query
+from .reading import Step, Tokens, read
+
+if TYPE_CHECKING:
+    from .block_plans import Planner
+
+
+class Block:
+    """One SELECT with its FROM."""
+
+    def __init__(self, plans: Planner, core: Core, visible: list[Part]) -> None:
+        self.plans, self.core, self.visible = plans, core, visible
+        self.dialect, self.catalog, self.connection = plans.dialect, plans.catalog, plans.connection
+        pieces = plans.pieces[core.start : core.end]
+        self.statement = read(plans.text, list(pieces), self.dialect, in_blocks=True)
+        if self.statement.usings:
+            raise self.statement.refuse(
+                self.statement.usings[0].names[0], "USING of one of several blocks isn't read; write it with ON",
+                "USING",
+            )
+        self.outside = plans.aliases_outside(core)
+        self.names = BlockNames(self.statement, plans, core, visible)
+        self.query = Query(self.names.entries)
+        self.steps = self.statement.steps
+        self.has_right_joins = any(step.kind in ("RIGHT", "FULL") for step in self.steps)
+        self.reorderable = self._reorderable()
+        self.on: dict[int, list[str]] = {
+            step.source: [self.text(piece) for piece in step.conditions] for step in self.steps
+        }
+        self.order: list[int] = []
+        self.left_over: list[tuple[str, frozenset[int] | None]] = []
+        self.not_used: list[Tokens] = []
+        self.outputs = {self.dialect.key_of(alias) for output in self.statement.outputs if (alias := alias_of(output))}
+        for piece in self.statement.conditions:
+            self._condition(piece)
+        for step in self.steps:
+            for piece in step.conditions:
+                self._condition(piece, of_on=True) if step.source in self.reorderable else self._of_step(step, piece)
+
+    def _reorderable(self) -> list[int]:
+        """The entries that are joined first, in an order of the plan's: inner ones, before any RIGHT or FULL JOIN."""
+        stop = next((at for at, step in enumerate(self.steps) if step.kind in ("RIGHT", "FULL")), len(self.steps))
+        steps = [step for step in self.steps[:stop] if step.kind == "INNER"]
+        while True:
+            found = [step.source for step in steps]
+            kept = [step for step in steps if all(self._entries(piece) <= set(found) for piece in step.conditions)]
+            if len(kept) == len(steps):
+                return found
+            steps = kept
+
+    def _entries(self, piece: Tokens) -> frozenset[int]:
+        return frozenset(column.entry for column in self.names.named(piece))
+
+    def text(self, piece: Tokens) -> str:
+        """The tokens with the blocks within them in their planned order."""
+        return self.plans.text_of(piece)
+
+    def _condition(self, piece: Tokens, of_on: bool = False) -> None:
+        """A condition of WHERE or of an inner join's ON. Where rows may come without the entries joined first, that
+        of WHERE is tested at the end, and that of ON before."""
+        self._check(piece)
+        entries = self._entries(piece)
+        outer = self.names_outside(piece)
+        settled = entries <= set(self.reorderable) and (of_on or not self.has_right_joins) and not outer
+        if settled and self._edge(piece):
+            self.left_over.append((self.text(piece), entries))
+        elif of_on and self.has_right_joins:
+            self.left_over.append((self.text(piece), frozenset(self.reorderable)))
+            self.not_used.append(piece)
+        elif settled and len(entries) == 1 and self._counts(piece):
+            self.query.entries[min(entries)].own.append(self.names.spelled(piece))
+        else:
+            self.left_over.append((self.text(piece), entries if settled and entries else None))
+            self.not_used.append(piece)
+
+    def _of_step(self, step: Step, piece: Tokens) -> None:
+        """A condition of an ON that stays where it is."""
+        self._check(piece)
+        outer = self.names_outside(piece)
+        if not outer and self._edge(piece, step.source):
+            return
+        alone = self._entries(piece) == {step.source} and step.kind in ("LEFT", "INNER") and not outer
+        if alone and self._counts(piece):
+            self.query.entries[step.source].own.append(self.names.spelled(piece))
+        else:
+            self.not_used.append(piece)
+
+    def _check(self, piece: Tokens) -> None:
+        if self.dialect.outputs_in_conditions:
+            self.names.check_outputs_names(piece, self.outputs)
+
+    def _edge(self, piece: Tokens, of: int | None = None) -> bool:
+        """Takes an equality for the bounds, where they can use it, and where one of its columns is of that entry."""
+        sides = self.names.equated(piece)
+        return sides is not None and (of is None or of in (sides[0].entry, sides[1].entry)) and (
+            self.query.take_equality(*sides) is None
+        )
+
+    def names_outside(self, piece: Tokens) -> bool:
+        """Whether it may name an entry of a block outside of this one."""
+        aliases, columns = self.outside
+        for at, token in enumerate(piece):
+            behind = piece[at + 1 : at + 2]
+            if not token.names or (at and piece[at - 1].says(".")):
+                continue
+            key = self.dialect.key_of(token)
+            if behind and behind[0].says("."):
+                if key in aliases and key not in self.names.by_alias:
+                    return True
+            elif (key in columns or token.kind == "quoted") and not any(
+                key in entry.about.by_key for entry in self.query.entries
+            ):
+                return True
+        return False
+
+    def _counts(self, piece: Tokens) -> bool:
+        """Whether the rows that satisfy it may be counted: no subquery of it joins, names an entry or chooses rows."""
+        for start, end in subqueries(piece):
+            inner = piece[start + 1 : end - 1]
+            parts = {self.dialect.key_of(part.name) for part in self.visible}
+            if any(token.names and self.dialect.key_of(token) in parts for token in inner):
+                return False
+            if any(choosing(inner, self.dialect)):
+                return False
+            if self.plans.joins_within(inner) or self.catalog.stands_alone(inner):
+                return False
+        return True

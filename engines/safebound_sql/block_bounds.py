@@ -1,0 +1,131 @@
+"""The plan of a block: its entries are counted, its joins put in order, and each level bounded.
+
+Rows behind outer joins are of several kinds, by the entries that found a partner: each kind is a join of these
+entries, so that their bounds are added up.
+"""
+
+from __future__ import annotations
+
+from dataclasses import dataclass, field
+
+import safebound
+
+from .block import Block
+from .block_rows import most_rows
+from .blocks import Core
+from .counting import Counts, counts_among, histograms
+from .faults import NoBound
+from .levels import MOST_BUDGET, Lists, equalities_of, lists_of
+from .reducing import own_conditions
+from .servers import Source as Counted
+from .tokens import written
+
+
+@dataclass
+class BlockLevel:
+    """A level of a block: what is joined there and how, the scan of it, and the bound."""
+
+    joined: str
+    of: str
+    scan: int
+    bound: int
+    entries: list[int]
+    rows: int | None = None
+
+
+@dataclass
+class BlockPlan:
+    """A block's levels, and the most rows that it has; or why it isn't bounded."""
+
+    core: Core
+    levels: list[BlockLevel] = field(default_factory=list)
+    rows: int | None = None
+    refused: str | None = None
+    notes: list[str] = field(default_factory=list)
+
+    @property
+    def cost(self) -> int:
+        return max((level.bound for level in self.levels), default=0)
+
+
+class Bounding:
+    """Counts a block's entries and plans its joins."""
+
+    def __init__(self, block: Block, accuracy: int) -> None:
+        self.block, self.query, self.accuracy = block, block.query, accuracy
+
+    def plan(self) -> BlockPlan:
+        block, query = self.block, self.query
+        block.connection.prepare_joins(entry.about for entry in query.entries)
+        counts = self._counted()
+        lists = lists_of(counts, self.accuracy)
+        known = safebound.Query([entry.name for entry in query.entries], equalities_of(query), counts.rows, lists)
+        self.bounds = known.bounds()
+        block.order = self._order(counts, lists)
+        levels = self._levels(counts)
+        notes = [f"not used for bounds: {written(piece)}" for piece in block.not_used]
+        returns_sets = block.catalog.returns_sets([token for piece in block.statement.outputs for token in piece])
+        rows = None if returns_sets else most_rows(block.statement, levels[-1].bound)
+        return BlockPlan(block.core, levels, rows, notes=notes)
+
+    def _levels(self, counts: Counts) -> list[BlockLevel]:
+        order, levels = self.block.order, list[BlockLevel]()
+        kinds: list[frozenset[int]] = [frozenset()]
+        for position, number in enumerate(order):
+            kinds, word = self._joined(kinds, number, first=position == 0)
+            entry = self.query.entries[number]
+            of = "a query" if self.block.statement.sources[number].is_query else entry.table
+            bound = sum(self._bound(kind) for kind in kinds)
+            levels.append(BlockLevel(f"{word}{entry.name}", of, counts.rows[entry.name], bound, order[: position + 1]))
+        return levels
+
+    def _counted(self) -> Counts:
+        """The rows of each entry and the degrees of its joined columns; of a query in FROM what its own plan says."""
+        query, given = self.query, self.block.names.given
+        own = [entry for entry in query.entries if entry.number not in given]
+        asked = {entry.name: query.joined(entry.number) for entry in own}
+        selects = [
+            text
+            for entry in own
+            for text in histograms(Counted(entry, own_conditions(entry)), asked[entry.name], self.block.dialect)
+        ]
+        counts = counts_among(asked, self.block.connection.rows("\nUNION ALL ".join(selects)) if selects else [])
+        for number, (rows, unique) in given.items():
+            entry = query.entries[number]
+            counts.rows[entry.name] = rows
+            for column in query.joined(number):
+                once = self.block.dialect.key(column.name, True) in unique
+                counts.runs[entry.name, column.name] = [(1, rows) if once else (rows, 1)] if rows else []
+        return counts
+
+    def _order(self, counts: Counts, lists: Lists) -> list[int]:
+        """The best order of what is joined first, and behind it the others as they were written."""
+        names, reorderable = [entry.name for entry in self.query.entries], self.block.reorderable
+        some = {names[number] for number in reorderable}
+        within = [(one, other) for one, other in equalities_of(self.query) if one[0] in some and other[0] in some]
+        used = {column for pair in within for column in pair}
+        known = safebound.Query(
+            [names[number] for number in reorderable], within, {name: counts.rows[name] for name in some},
+            {column: runs for column, runs in lists.items() if column in used},
+        )
+        order = [names.index(name) for name in known.best_order(MOST_BUDGET).entries]
+        return order + [step.source for step in self.block.steps if step.source not in reorderable]
+
+    def _joined(self, kinds: list[frozenset[int]], number: int, first: bool) -> tuple[list[frozenset[int]], str]:
+        """Of which entries the rows are behind this one, and how it is joined."""
+        kind = self.block.steps[number].kind
+        if first:
+            return [frozenset([number])], ""
+        matched = [some | {number} for some in kinds]
+        if kind == "INNER":
+            return matched, ""
+        alone = [frozenset([number])]
+        return {"LEFT": matched + kinds, "RIGHT": matched + alone, "FULL": matched + kinds + alone}[
+            kind
+        ], f"{kind} JOIN "
+
+    def _bound(self, some: frozenset[int]) -> int:
+        bound: int | None = self.bounds[{self.query.entries[number].name for number in some}]
+        if bound is None:
+            raise NoBound
+        return bound

@@ -1,0 +1,66 @@
+"""Names of a block, whose entries may be queries in FROM and parts of WITH."""
+
+from __future__ import annotations
+
+from typing import TYPE_CHECKING
+
+from .blocks import Core, Part, Query as Several
+from .names import Names
+from .query import Table
+from .reading import Source, Statement, Tokens
+from .tokens import written
+
+if TYPE_CHECKING:
+    from .block_plans import Planner
+
+# The most rows that the library takes of an entry.
+MOST_ROWS = 2**48
+
+
+class BlockNames(Names):
+    """A block's subqueries may name its entries."""
+
+    looks_into_subqueries = True
+
+    def __init__(self, statement: Statement, plans: Planner, core: Core, visible: list[Part]) -> None:
+        self.plans, self.core, self.visible = plans, core, visible
+        self.given: dict[int, tuple[int, set[str]]] = {}
+        super().__init__(statement, plans.engine)
+
+    def _text_of(self, source: Source) -> str:
+        return self.plans.text_of(source.table) if source.is_query else written(source.table)
+
+    def _about(self, source: Source) -> Table | None:
+        number = len(self.entries)
+        if source.is_query:
+            inner = next(
+                (inner for inner in self.core.inner if self.plans.pieces[inner.start].at == source.table[1].at), None
+            )
+            if inner is None:
+                raise self.statement.refuse(source.alias, "only a SELECT is bounded here")
+            return self._given(number, inner, self.plans.source_of(inner), source.columns, source)
+        part = self._part(source)
+        if part is None:
+            return self.catalog.table(source.table)
+        return self._given(number, part.query, f"SELECT * FROM {part.name.text}", [], source)
+
+    def _part(self, source: Source) -> Part | None:
+        if len(source.table) > 1:
+            return None
+        name, key = self.dialect.key_of(source.table[0]), self.dialect.key_of
+        return next((part for part in reversed(self.visible) if key(part.name) == name), None)
+
+    def _given(self, number: int, query: Several, text: str, columns: Tokens, source: Source) -> Table:
+        """The columns of a query, of which the rows are bounded and not counted."""
+        rows = self.plans.rows_of(query)
+        if rows is None or rows > MOST_ROWS:
+            raise self.statement.refuse(
+                source.alias, "its rows aren't bounded" + ("" if rows is None else f" by {MOST_ROWS} or fewer")
+            )
+        found = self.catalog.described(self.plans.with_parts(self.visible, text))
+        names = [self.dialect.key_of(token) for token in columns if token.names]
+        found = [column._replace(name=name) for name, column in zip(names, found)] + found[len(names) :]
+        self.given[number] = rows, {
+            self.dialect.key(name, True) for name in self.plans.unique(query, [c.name for c in found])
+        }
+        return Table(tuple(found), {self.dialect.key(column.name, True): column for column in found})

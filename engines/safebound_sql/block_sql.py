@@ -1,0 +1,63 @@
+"""A block as SQL, with its joins in the planned order."""
+
+from __future__ import annotations
+
+from .block import Block
+from .reducing import bracketed, own_conditions, where
+from .tokens import written
+
+
+def rows_of_levels(block: Block, levels: int) -> str:
+    """FROM and WHERE of so many levels, as they are bounded."""
+    text, conditions = _join(block, levels)
+    return text + where(conditions)
+
+
+def _join(block: Block, levels: int) -> tuple[str, list[str]]:
+    some = frozenset(block.order[:levels])
+    text, done = "", list[str]()
+    for position, number in enumerate(block.order[:levels]):
+        entry, before = block.query.entries[number], frozenset(block.order[:position])
+        source = f"{entry.table} AS {entry.alias}{written(block.statement.sources[number].columns)}"
+        kind = block.steps[number].kind
+        if position == 0:
+            text = source
+        elif kind != "INNER":
+            text += f"\n  {kind} JOIN {source} ON {' AND '.join(map(bracketed, block.on[number]))}"
+        else:
+            text += _inner_join(block, source, before, before | {number}, done)
+    own = [
+        condition
+        for number in block.reorderable
+        if number in some
+        for condition in own_conditions(block.query.entries[number])
+    ]
+    rest = [bracketed(text) for text, entries in block.left_over if entries and entries <= some and text not in done]
+    return f"FROM {text}", own + rest
+
+
+def _inner_join(block: Block, source: str, before: frozenset[int], after: frozenset[int], done: list[str]) -> str:
+    conditions = (
+        block.on[max(after - before)]
+        if not after <= set(block.reorderable)
+        else [
+            text
+            for text, entries in block.left_over
+            if entries and entries <= after and not entries <= before and len(entries) > 1
+        ]
+    )
+    done += conditions
+    if not conditions:
+        return f"\n  CROSS JOIN {source}"
+    return f"\n  {block.dialect.join_word} {source} ON {' AND '.join(map(bracketed, conditions))}"
+
+
+def sql_of(block: Block) -> str:
+    """The block with its joins in the planned order."""
+    joined, conditions = _join(block, len(block.order))
+    conditions += [bracketed(text) for text, entries in block.left_over if not entries]
+    outputs = ", ".join(block.text(piece) for piece in block.statement.outputs)
+    distinct = block.text(block.statement.distinct)
+    above = block.text(block.statement.above)
+    lines = [f"SELECT {distinct and distinct + ' '}{outputs}", joined + where(conditions), *filter(None, [above])]
+    return "\n".join(lines)

@@ -1,0 +1,219 @@
+"""Bounds that are counted: how many choices of rows the conditions of a level leave, where the engine has exact numbers
+of any size. One statement counts all levels by factors, and makes no row of a join.
+"""
+
+from __future__ import annotations
+
+from math import prod
+from typing import Iterable, NamedTuple, Sequence
+
+from .dialect import Dialect
+from .engine import Catalog, Engine
+from .factors import Conjunct, Factor, Join, joins
+from .faults import EngineFault
+from .levels import Plan, entries_of
+from .query import Equality, Named, Query, Reference, Text
+from .reducing import Parts, bracketed, own_conditions, where
+from .servers import rows_to_join
+
+# How many groups of two factors may meet. Where more would, a level isn't counted in this way.
+MOST_PAIRS = 4_000_000
+
+
+def conjuncts_of(query: Query, catalog: Catalog) -> list[Conjunct]:
+    """The conditions on several entries that are told apart by nothing but the values that rows are grouped by: all
+    equalities that join, and the others over columns whose equal values are the same."""
+    equalities = [
+        Conjunct(frozenset((left.entry, right.entry)), frozenset((left, right)), equality)
+        for equality in query.equalities
+        for left, right in (equality,)
+    ]
+    apart = {text for text, _ in query.no_edges}
+    others = [
+        Conjunct(condition.entries, columns_of(condition.text), condition.text)
+        for condition in query.conditions
+        if condition.text in apart
+    ]
+    return equalities + [
+        other for other in others if all(catalog.same_when_equal(named.column) for named in other.columns)
+    ]
+
+
+def columns_of(text: Text) -> frozenset[Named]:
+    return frozenset(part.named for part in text.parts if isinstance(part, Reference))
+
+
+class Made(NamedTuple):
+    """The part of a statement that has a factor, and the parts with the numbers of pairs that have to be few for it."""
+
+    name: str
+    pairs: tuple[str, ...]
+
+
+class Choices:
+    """A statement that counts, while it is written."""
+
+    def __init__(
+        self, query: Query, dialect: Dialect, prefix: str, conjuncts: list[Conjunct], reduce: bool, most_pairs: int
+    ) -> None:
+        self.query, self.dialect, self.prefix, self.most_pairs = query, dialect, prefix, most_pairs
+        self.conjuncts = conjuncts
+        named = {named for conjunct in conjuncts for named in conjunct.columns}
+        in_order = sorted(named, key=lambda one: (one.entry, one.column.name))
+        # By numbers, since a column of the query may be called as long as names can be.
+        self.columns = {one: f"{prefix}{one.entry}_{at}" for at, one in enumerate(in_order)}
+        columns = {
+            entry.number: [c for c in entry.about.by_key.values() if Named(entry.number, c) in named]
+            for entry in query.entries
+        }
+        self.parts = rows_to_join(query, dialect, columns, prefix) if reduce else Parts()
+        self.texts = list(self.parts.texts)
+        self.number = f"{prefix}n"
+        self.made: dict[Factor, Made] = {}
+
+    def statement(self, levels: Iterable[tuple[int, Sequence[int]]]) -> str:
+        """For each level with its entries one row: its number and how many choices there are. There is none where
+        too many pairs would meet."""
+        selects = [f"SELECT {number} AS level, {self._total(entries)}" for number, entries in levels]
+        return self.dialect.with_parts(self.texts, "\nUNION ALL ".join(selects))
+
+    def _total(self, entries: Sequence[int]) -> str:
+        found = joins(entries, self.conjuncts)
+        made = self._factor(found[-1].both, {join.both: join for join in found})
+        return f"{self.number} FROM {made.name}{where(self._few(made.pairs))}"
+
+    def _few(self, pairs: Iterable[str]) -> list[str]:
+        """Tested once, before anything is read: PostgreSQL makes no part that nobody reads."""
+        return [f"(SELECT {self.number} FROM {name}) <= {self.most_pairs}" for name in pairs]
+
+    def _factor(self, factor: Factor, by: dict[Factor, Join]) -> Made:
+        """The part with this factor. What it has doesn't depend on the joins that lead to it."""
+        if factor not in self.made:
+            self.made[factor] = self._joined(by[factor], by) if factor in by else self._grouped(factor)
+        return self.made[factor]
+
+    def _part(self, text: str) -> str:
+        name = f"{self.prefix}{len(self.texts) + 1}"
+        self.texts.append((name, text))
+        return name
+
+    def _grouped(self, factor: Factor) -> Made:
+        """The factor of one entry: its rows by its open columns."""
+        [number] = factor.entries
+        entry = self.query.entries[number]
+        rows, conditions = self.parts.rows.get(number), own_conditions(entry)
+        values = [f"{entry.alias}.{self.dialect.quote(named.column.name)}" for named in factor.open]
+        source = f"FROM {rows or entry.table} AS {entry.alias}{where([] if rows else conditions)}"
+        return Made(self._part(self._select(factor, values, "CAST(COUNT(*) AS NUMERIC)", source)), ())
+
+    def _select(self, factor: Factor, values: list[str], number: str, source: str) -> str:
+        """Of each choice of values of the factor's open columns the number."""
+        outputs = [f"{value} AS {self.columns[named]}" for value, named in zip(values, factor.open)]
+        groups = f" GROUP BY {', '.join(str(at) for at in range(1, len(outputs) + 1))}" if outputs else ""
+        return f"SELECT {', '.join([*outputs, f'{number} AS {self.number}'])} {source}{groups}"
+
+    def _joined(self, join: Join, by: dict[Factor, Join]) -> Made:
+        left, right = self._factor(join.left, by), self._factor(join.right, by)
+        pairs = left.pairs + tuple(name for name in right.pairs if name not in left.pairs)
+        own = [] if join.few else [self._pairs(join, left.name, right.name)]
+        sides = {**dict.fromkeys(join.left.entries, left.name), **dict.fromkeys(join.right.entries, right.name)}
+        values = [f"{sides[named.entry]}.{self.columns[named]}" for named in join.both.open]
+        source = f"FROM {left.name} {self._on(join, left.name, right.name, right.name)}{self._entries(join, sides)}"
+        tests = [bracketed(str(other.what)) for other in join.others] + self._few(own)
+        product = f"COALESCE(SUM({left.name}.{self.number} * {right.name}.{self.number}), 0)"
+        text = self._select(join.both, values, product, source + where(tests))
+        return Made(self._part(text), (*pairs, *own))
+
+    def _on(self, join: Join, left: str, right: str, rows: str) -> str:
+        """The right side behind the left one: its rows under its name."""
+        equal = [f"{left}.{self.columns[one]} = {right}.{self.columns[other]}" for one, other in join.equalities]
+        return f"JOIN {rows} ON {' AND '.join(equal)}" if equal else f"CROSS JOIN {rows}"
+
+    def _entries(self, join: Join, sides: dict[int, str]) -> str:
+        """The columns that conditions name, by their own names again."""
+        named = sorted(
+            set[Named]().union(*(other.columns for other in join.others)), key=lambda named: named.column.name
+        )
+        return "".join(
+            f" CROSS JOIN LATERAL (SELECT {self._again(entry, named, sides[entry])})"
+            f" AS {self.query.entries[entry].alias}"
+            for entry in sorted({column.entry for column in named})
+        )
+
+    def _again(self, entry: int, named: list[Named], part: str) -> str:
+        return ", ".join(
+            f"{part}.{self.columns[column]} AS {self.dialect.quote(column.column.name)}"
+            for column in named
+            if column.entry == entry
+        )
+
+    def _pairs(self, join: Join, left: str, right: str) -> str:
+        """The part that has how many groups of both sides meet by equalities."""
+        rows = self._meeting(left, [one for one, _ in join.equalities])
+        others = self._meeting(right, [other for _, other in join.equalities])
+        product = f"COALESCE(SUM({left}.{self.number} * {right}.{self.number}), 0)"
+        return self._part(f"SELECT {product} AS {self.number} FROM {rows} {self._on(join, left, right, others)}")
+
+    def _meeting(self, name: str, columns: list[Named]) -> str:
+        """How many groups of a factor have the same values of these columns."""
+        values = list(dict.fromkeys(self.columns[column] for column in columns))
+        outputs = ", ".join([*values, f"CAST(COUNT(*) AS NUMERIC) AS {self.number}"])
+        groups = f" GROUP BY {', '.join(values)}" if values else ""
+        return f"(SELECT {outputs} FROM {name}{groups}) AS {name}"
+
+
+class Lowering:
+    """Lowers a plan's bounds to what is counted, for its levels of several entries."""
+
+    def __init__(
+        self, plan: Plan, engine: Engine, prefix: str, reduce: bool, most_pairs: int = MOST_PAIRS
+    ) -> None:
+        self.plan, self.engine, self.prefix, self.reduce, self.most_pairs = plan, engine, prefix, reduce, most_pairs
+        every = conjuncts_of(plan.query, engine.catalog)
+        self.equalities = [conjunct for conjunct in every if isinstance(conjunct.what, Equality)]
+        self.others = [conjunct for conjunct in every if not isinstance(conjunct.what, Equality)]
+        # Else it takes no time to look through the rows of one entry for each of another's.
+        self.large = prod(sorted(plan.counts.rows.values())[-2:]) > most_pairs
+
+    def lower(self) -> None:
+        """By all conditions that count, and where these make too many pairs by equalities alone."""
+        levels = [number for number, level in enumerate(self.plan.levels, 1) if not isinstance(level.shape, int)]
+        left = self._by_all(levels)
+        more = [number for number in left if self._others_within(number)]
+        past = f"more than {self.most_pairs} pairs would meet"
+        never = self._lowered(more, self.equalities, "equalities")
+        for number in left:
+            if number in never or number not in more:
+                self.plan.notes.append(f"level {number} isn't counted: {past}")
+            else:
+                self.plan.notes.append(f"level {number} is counted by equalities alone: by all conditions {past}")
+
+    def _by_all(self, levels: list[int]) -> list[int]:
+        """The query may never come to the rows on which a condition ends in an error: then none but equalities
+        count."""
+        try:
+            left = self._lowered(levels, self.equalities + self.others, "all conditions")
+        except EngineFault as fault:
+            if not (fault.of_data and self.others):
+                raise
+            self.plan.notes.append(f"other conditions than equalities aren't counted: {fault}")
+            self.others = []
+            left = self._lowered(levels, self.equalities, "equalities")
+        self.plan.tested = frozenset(other.what for other in self.others if isinstance(other.what, Text))
+        return left
+
+    def _others_within(self, number: int) -> bool:
+        entries = frozenset(entries_of(self.plan.levels[number - 1].shape))
+        return any(other.entries <= entries for other in self.others)
+
+    def _lowered(self, levels: list[int], conjuncts: list[Conjunct], by: str) -> list[int]:
+        """Lowers the bounds of these levels. Answers those that it didn't count."""
+        if not levels:
+            return []
+        asked = Choices(self.plan.query, self.engine.dialect, self.prefix, conjuncts, self.reduce, self.most_pairs)
+        statement = asked.statement([(number, entries_of(self.plan.levels[number - 1].shape)) for number in levels])
+        found = {number: int(choices) for number, choices in self.engine.connection.counted(statement, self.large)}
+        for number, choices in found.items():
+            level = self.plan.levels[number - 1]
+            level.bound, level.counted = min(level.bound, choices), by
+        return [number for number in levels if number not in found]

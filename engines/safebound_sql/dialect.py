@@ -1,0 +1,97 @@
+"""The SQL of an engine: how it reads names and how it is written. It is data alone, and needs no connection."""
+
+from __future__ import annotations
+
+import re
+from dataclasses import dataclass
+from typing import Iterable, Iterator
+
+from .query import Column, Table
+from .tokens import Token, unquoted
+
+
+@dataclass(frozen=True)
+class Dialect:
+    """What a query is read and written by.
+
+    `comma_binds_less` says that a comma of FROM binds less than JOIN. `plain_words` are keywords elsewhere, and names
+    to this engine. `reserved` words are columns in quotes alone. `settings` keep the joins of a statement in their
+    order. Some engines compute a part of WITH anew wherever it is named: `most_parts_of_a_part` and `most_scans` say
+    how much of that is taken. `counts_exactly` says that numbers may be of any size.
+    """
+
+    name: str
+    title: str
+    rules: re.Pattern[str]
+    comma_binds_less: bool = True
+    merged_columns_first: bool = True
+    equals: tuple[str, ...] = ("=",)
+    calls_without_parentheses: tuple[str, ...] = ()
+    outputs_in_conditions: bool = False
+    plain_words: tuple[str, ...] = ()
+    schemas_in_names: bool = True
+    knows_blocks: bool = True
+    keeps_using: bool = False
+    takes_bare_columns: bool = False
+    columns_may_be_calls: bool = False
+    row_number: str = "ROW_NUMBER() OVER ()"
+    reserved: frozenset[str] = frozenset()
+    most_parts_of_a_part: int | None = None
+    most_scans: int | None = None
+    settings: tuple[str, ...] = ()
+    join_word: str = "JOIN"
+    keeps_trees: bool = True
+    keeps_parts: str = "AS MATERIALIZED"
+    takes_rows_in: bool = True
+    star_over_using: bool = True
+    makes_tables: bool = False
+    counts_exactly: bool = False
+    why_volatile: str = "it may answer anew at each call"
+    why_clock: str = "the time may be another one at each statement"
+
+    def quote(self, name: str) -> str:
+        """The name as SQL, in quotes."""
+        return '"' + name.replace('"', '""') + '"'
+
+    def with_parts(self, parts: list[tuple[str, str]], select: str) -> str:
+        """The statement with named parts before it, each of which may name those before it."""
+        written = ",\n  ".join(f"{name} {self.keeps_parts} ({text})" for name, text in parts)
+        return f"WITH\n  {written}\n{select}" if parts else select
+
+    def settings_for(self, tables: Iterable[Table]) -> tuple[str, ...]:
+        """The settings that keep a statement's joins of these tables in their order."""
+        return self.settings
+
+    def key(self, name: str, quoted: bool) -> str:
+        """The name as the engine compares it with others."""
+        return name if quoted else lower(name)
+
+    def key_of(self, token: Token) -> str:
+        """The name of a table, column, function or operator, as the engine looks it up."""
+        quoted = token.kind in ("quoted", "text")
+        return self.key(unquoted(token) if quoted else token.text, quoted)
+
+    def reads_clock(self, pieces: list[Token], at: int, below: bool = False) -> bool:
+        """Whether a function begins there that reads the clock, which may say another time at each statement.
+
+        `below`: the tokens are those of a view, and it isn't known whose columns they name.
+        """
+        return False
+
+    def clock_arguments(self, pieces: list[Token]) -> Iterator[tuple[Token, list[Token]]]:
+        """Functions that read the clock where the column that they get holds 'now', and the tokens of that column."""
+        return iter(())
+
+    def remote_in(self, value: str, column: Column, rows: str) -> str:
+        """A condition that a foreign server tests: the value is one of a column of these rows, which are sent to it."""
+        raise NotImplementedError(f"{self.title} has no tables on other servers")
+
+
+def lower(name: str) -> str:
+    """The name in lower case, as far as ASCII goes."""
+    return "".join(c.lower() if c.isascii() else c for c in name)
+
+
+def as_script(*statements: str) -> str:
+    """Statements one below the other."""
+    return "".join(f"{statement};\n" for statement in statements)
