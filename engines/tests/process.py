@@ -17,6 +17,8 @@ class Process:
 
     base: Any
 
-    def tried(self, command: str, *words: str, text: str = "", db: str | None = None) -> subprocess.CompletedProcess[str]:
+    def tried(
+        self, command: str, *words: str, text: str = "", db: str | None = None
+    ) -> subprocess.CompletedProcess[str]:
         line = [PROGRAM, command, "--db", self.base.url if db is None else db, *words, "-"]
         return subprocess.run(line, input=text, text=True, capture_output=True, timeout=600)
