@@ -8,9 +8,6 @@
 #include "port/pg_bitutils.h"
 #include "utils/lsyscache.h"
 
-/* Of more outer and semi-joins in one join nothing is bounded: the ways in which their sides may be missing double with each. */
-#define MOST_SPECIAL_JOINS 6
-
 /* Longer lists are compressed before they are joined, since a plan waits for its bounds. */
 #define LONGEST_LIST 48
 #define PLANNING_ACCURACY 6
@@ -454,9 +451,9 @@ bound_of_ways(BoundedQuery *query, Relids present, List *joins)
 	}
 }
 
-/* The bound of a join relation's rows. */
-uint64
-bound_of_join(BoundedQuery *query, Relids relids)
+/* The outer and semi-joins of a join relation, the outermost last. */
+List *
+special_joins_within(BoundedQuery *query, Relids relids)
 {
 	List	   *joins = NIL;
 	ListCell   *cell;
@@ -464,5 +461,14 @@ bound_of_join(BoundedQuery *query, Relids relids)
 	foreach(cell, query->root->join_info_list)
 		if (is_within(lfirst(cell), relids))
 			joins = lappend(joins, lfirst(cell));
+	return joins;
+}
+
+/* The bound of a join relation's rows. */
+uint64
+bound_of_join(BoundedQuery *query, Relids relids)
+{
+	List	   *joins = special_joins_within(query, relids);
+
 	return list_length(joins) > MOST_SPECIAL_JOINS ? UNKNOWN : bound_of_ways(query, relids, joins);
 }

@@ -302,6 +302,20 @@ kept_table(Oid relation)
 	return view;
 }
 
+/* Why a table counts as unknown where only those that are watched are known, and what makes it known. */
+char *
+why_not_known(Oid relation)
+{
+	char	   *name = DatumGetCString(DirectFunctionCall1(regclassout, ObjectIdGetDatum(relation)));
+	Seen		seen;
+
+	if (!see_table(relation, GetActiveSnapshot(), &seen) || seen.sources == NIL)
+		return psprintf("%s isn't watched: SELECT safebound.watch(%s) counts and follows it.", name, quote_literal_cstr(name));
+	if (is_writing(&seen))
+		return psprintf("%s is being written to: its rows are counted once that statement ends.", name);
+	return psprintf("%s is unknown, since something changed it that isn't followed: SELECT safebound.watch(%s) counts it anew.", name, quote_literal_cstr(name));
+}
+
 const KeptPair *
 kept_pair(const KeptTable *table, AttrNumber joined, AttrNumber filter)
 {

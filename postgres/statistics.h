@@ -102,6 +102,7 @@ extern DegreeList with_deltas(const KeptTable *table, AttrNumber joined, DegreeL
 /* kept.c: the backend's memory of statistics. */
 extern Oid	extension_table(const char *name);
 extern const KeptTable *kept_table(Oid relation);
+extern char *why_not_known(Oid relation);
 extern const KeptPair *kept_pair(const KeptTable *table, AttrNumber joined, AttrNumber filter);
 extern const KeptPair *kept_pair_along(const KeptTable *table, AttrNumber joined, AttrNumber filter, const Reference *reference);
 extern bool has_pairs_along(const KeptTable *table, const Reference *reference);
