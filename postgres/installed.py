@@ -6,6 +6,7 @@ PostgreSQL finds its folders from the place of its program, so a copy of the pro
 
 from __future__ import annotations
 
+import importlib.util
 import os
 import shutil
 import subprocess
@@ -16,7 +17,7 @@ HERE = os.path.dirname(os.path.abspath(__file__))
 sys.path[:0] = [os.path.join(HERE, "..", "engines", "servers")]
 from server import Alone, programs
 
-__all__ = ("SETTINGS", "Alone", "Installed", "lay_server", "programs", "told")
+__all__ = ("SETTINGS", "Alone", "Installed", "lay_server", "missing", "programs")
 
 # What tests need of a server: plans don't depend on the compiler, and each session has the extension.
 SETTINGS = ("session_preload_libraries=safebound", "jit=off")
@@ -24,6 +25,18 @@ SETTINGS = ("session_preload_libraries=safebound", "jit=off")
 
 def told(word: str) -> str:
     return subprocess.run(["pg_config", word], check=True, text=True, stdout=subprocess.PIPE).stdout.strip()
+
+
+def missing() -> str | None:
+    """What of all that tests need isn't installed."""
+    if not shutil.which("pg_config") or not importlib.util.find_spec("psycopg"):
+        return "pg_config or psycopg"
+    if not told("--version").startswith("PostgreSQL 15"):
+        return f"PostgreSQL 15 ({told('--version')} is)"
+    headers, folder = told("--includedir-server"), told("--bindir")
+    if not os.path.exists(os.path.join(headers, "postgres.h")) or not os.path.exists(os.path.join(folder, "initdb")):
+        return "PostgreSQL's server or its headers"
+    return None
 
 
 def link_all(source: str, into: str) -> None:
