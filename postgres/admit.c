@@ -169,8 +169,8 @@ why_entry(BoundedQuery *query, int relid)
 		return psprintf("%s is a function, VALUES, or a subquery that stays apart in the plan. These have no bound.", name);
 	if (entry->relkind == RELKIND_FOREIGN_TABLE)
 		return psprintf("%s is a foreign table. These have no bound.", name);
-	if (entry->inh)
-		return psprintf("%s is partitioned or has children. Only its parts have bounds, where a query names them.", name);
+	if (entry->inh && entry->relkind != RELKIND_PARTITIONED_TABLE)
+		return psprintf("%s has children. Only its parts have bounds, where a query names them.", name);
 	if (entry->tablesample)
 		return psprintf("TABLESAMPLE of %s has no bound.", name);
 	return why_not_known(entry->relid);

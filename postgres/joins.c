@@ -205,7 +205,10 @@ can_be_known(PlannerInfo *root, RelOptInfo *rel)
 	if (rel == NULL || rel->reloptkind != RELOPT_BASEREL || rel->rtekind != RTE_RELATION || IS_DUMMY_REL(rel))
 		return false;
 	entry = root->simple_rte_array[rel->relid];
-	return (entry->relkind == RELKIND_RELATION || entry->relkind == RELKIND_MATVIEW) && !entry->inh && entry->tablesample == NULL;
+	if (entry->tablesample != NULL)
+		return false;
+	/* With children a table has other rows than its own; a partitioned one has no others. */
+	return entry->inh ? entry->relkind == RELKIND_PARTITIONED_TABLE : entry->relkind == RELKIND_RELATION || entry->relkind == RELKIND_MATVIEW;
 }
 
 /* A set of relations, by their numbers, whose bound is known. */

@@ -93,6 +93,9 @@ extern Oid	sort_collation(Oid collation);
 extern uint64 write_own(const char *statement, int length, Oid *types, Datum *values);
 extern int64 keep_table(Oid relation, Bitmapset *joined, Bitmapset *filters, int most_common, int most_leaves, int accuracy, bool folding);
 
+/* watch.c: the tables whose statements may write to a table. */
+extern List *sources_of(Oid relation);
+
 /* admit.c: nothing is refused meanwhile. */
 extern bool admission_paused;
 

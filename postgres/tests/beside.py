@@ -18,16 +18,11 @@ from collections import Counter
 from collections.abc import Iterator
 
 import psycopg
-from never_under import JOINS, KINDS, NOT_RUN, PRELUDE, Connection, Plan, Table, nodes, query, value
+from never_under import JOINS, KINDS, NOT_RUN, PARTITIONED, PRELUDE, Connection, Plan, Table, nodes, query, value
 
 WRITERS = 3
 # States of a query that is refused.
 ABOVE, UNBOUNDED = "SB001", "SB002"
-
-
-def kept_parts(table: Table) -> list[str]:
-    """The tables with rows of their own."""
-    return table.parts() + ([] if table.kind in ("hash", "list") else [table.name])
 
 
 def all_joins(plan: Plan, repeated: bool = False) -> Iterator[Plan]:
@@ -98,7 +93,7 @@ class Writer(threading.Thread):
         elif kind == "truncate":
             connection.execute(f"TRUNCATE {into} CASCADE")
         else:
-            connection.execute(f"SELECT safebound.fold('{r.choice(kept_parts(table))}')")
+            connection.execute(f"SELECT safebound.fold('{r.choice([table.name, *table.parts()])}')")
         self.done[kind] += 1
 
 
@@ -182,8 +177,8 @@ def make_tables(connection: Connection, r: random.Random, watched: bool) -> list
     tables = [Table(r, f"nu{i}", kinds) for i in range(3)]
     for i, table in enumerate(tables):
         table.make(connection, tables[:i] if refers else [])
-        for part in kept_parts(table) if watched else []:
-            connection.execute(f"SELECT safebound.watch('{part}')")
+        for kept in [table.name, *table.parts()] if watched else []:
+            connection.execute(f"SELECT safebound.watch('{kept}')")
     return tables
 
 
@@ -191,7 +186,7 @@ def one_set(url: str, asking: Asking, r: random.Random, watched: bool, queries: 
     """A set of tables, with writers beside."""
     asking.connection.execute("SET safebound.estimates = off")
     tables = make_tables(asking.connection, r, watched)
-    known = {table.name for table in tables if table.kind == "plain"}
+    known = {table.name for table in tables if table.kind in ("plain", *PARTITIONED)}
     asking.connection.execute(f"SET plan_cache_mode = {r.choice(['force_generic_plan', 'auto'])}")
     asking.connection.execute("SET safebound.estimates = bound")
     for method in ("hashjoin", "mergejoin", "nestloop"):

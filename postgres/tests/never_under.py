@@ -36,11 +36,15 @@ TYPES = {
 COMPARABLE = [["integer", "bigint", "small"], ["text", "varchar(9)"], ['text COLLATE "C"'], ["caseless"], ["numeric"]]
 JOINS = ("Nested Loop", "Hash Join", "Merge Join")
 SCANS = ("Seq Scan", "Index Scan", "Index Only Scan", "Bitmap Heap Scan")
+# A partitioned table is read by its parts.
+APPENDS = ("Append", "Merge Append")
 # What stands between a join and the tables below it without other rows of its own.
 PASSES = ("Hash", "Sort", "Incremental Sort", "Materialize", "Memoize", "Bitmap Index Scan", "BitmapOr", "BitmapAnd")
 # Of more outer and semi-joins no join is bounded.
 MOST_SPECIAL_JOINS = 6
 KINDS = ("plain", "plain", "plain", "hash", "list", "children")
+# These have no rows but those of their parts, and statistics as a whole.
+PARTITIONED = ("hash", "list")
 PRELUDE = """
 CREATE EXTENSION IF NOT EXISTS safebound;
 CREATE COLLATION IF NOT EXISTS caseless (provider = icu, locale = 'und-u-ks-level2', deterministic = false);
@@ -119,7 +123,7 @@ class Table:
             self.refer(connection, other)
         if r.random() < 0.5:
             connection.execute(f"CREATE INDEX ON {self.name} (c{r.randrange(len(self.columns))})")
-        for kept in self.parts() + ([] if self.kind in ("hash", "list") else [self.name]):
+        for kept in [self.name, *self.parts()]:
             some = f"common => {r.choice([0, 1, 3, 100])}, ranges => {r.choice([0, 1, 3, 64])}"
             connection.execute(f"SELECT safebound.keep('{kept}', {some}, accuracy => {r.choice([1, 2, 8, 64])})")
 
@@ -267,20 +271,23 @@ def query(r: random.Random, tables: list[Table]) -> tuple[str, set[str]]:
 def is_known(plan: Plan, known: set[str]) -> bool:
     """Whether a plan reads known tables alone, and joins them and does nothing else.
 
-    Known are names of plain tables, and aliases by which a part is read alone. A part that is read as one of a whole is
-    PostgreSQL's to estimate.
+    Known are names of plain and of partitioned tables, and aliases by which a part is read alone.
     """
     if plan["Node Type"] in SCANS:
-        return plan["Relation Name"] in known or plan["Alias"] in known
+        name = plan["Relation Name"]
+        return name in known or name.rpartition("_")[0] in known or plan["Alias"] in known
     below = [part for part in plan.get("Plans", []) if part["Parent Relationship"] in ("Outer", "Inner", "Member")]
-    return plan["Node Type"] in (*JOINS, *PASSES) and all(is_known(part, known) for part in below)
+    return plan["Node Type"] in (*JOINS, *PASSES, *APPENDS) and all(is_known(part, known) for part in below)
 
 
 def nodes(plan: Plan, known: set[str], repeated: bool = False) -> Iterator[Plan]:
-    """The scans and joins whose bound stands for all of their rows, which aren't repeated for each row of others."""
+    """The scans and joins whose bound stands for all of their rows, which aren't repeated for each row of others. Parts
+    that are read together have one bound, as a whole."""
     kind = plan["Node Type"]
-    if not repeated and plan["Actual Loops"] == 1 and kind in (*JOINS, *SCANS) and is_known(plan, known):
+    if not repeated and plan["Actual Loops"] == 1 and kind in (*JOINS, *SCANS, *APPENDS) and is_known(plan, known):
         yield plan
+    if kind in APPENDS:
+        return
     for below in plan.get("Plans", []):
         inner = kind == "Nested Loop" and below["Parent Relationship"] == "Inner"
         yield from nodes(below, known, repeated or inner)
@@ -331,7 +338,7 @@ class Counting:
         for i, table in enumerate(tables):
             table.make(self.connection, tables[:i])
         self.connection.execute("ANALYZE nu0, nu1, nu2; SET safebound.estimates = bound")
-        known = {table.name for table in tables if table.kind == "plain"}
+        known = {table.name for table in tables if table.kind in ("plain", *PARTITIONED)}
         for method in ("hashjoin", "mergejoin", "nestloop"):
             self.connection.execute(f"SET enable_{method} = {self.r.choice(['on', 'on', 'off'])}")
         for _ in range(queries):
