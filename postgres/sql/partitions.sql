@@ -44,6 +44,10 @@ INSERT INTO parts VALUES (8, 'a', 1), (9, 'a', 4);
 SELECT most('SELECT FROM parts') = 10 AS whole, most('SELECT FROM parts JOIN s USING (x)') = 5 * 3 + 3 * 1 + 1 * 1 AS joined, deltas('parts');
 INSERT INTO part_2 (x, c, k) VALUES (7, 'a', 2), (7, 'a', 2);
 SELECT most('SELECT FROM parts') = 12 AS by_part, most('SELECT FROM parts JOIN s USING (x)') = 7 * 3 + 3 * 1 + 1 * 1 AS joined, deltas('parts');
+BEGIN;
+INSERT INTO part_2 (x, c, k) VALUES (10, 'a', 2), (11, 'a', 2);
+SELECT most('SELECT FROM parts JOIN s USING (x)') = 8 * 3 + 4 * 1 + 1 * 1 AS joined;
+ROLLBACK;
 INSERT INTO part_3 VALUES (7, 'a', 3);
 COPY part_3b (x, c, k) FROM stdin;
 6	a	4

@@ -227,6 +227,18 @@ class Replicated(Connected):
 
     def test_what_a_replica_applies(self) -> None:
         self.subscriber.execute("SELECT safebound.watch('r')")
+        self.applied()
+
+    def test_what_a_replica_applies_to_parts(self) -> None:
+        """Rows come to the whole there, and are put into a part."""
+        self.subscriber.execute("DROP TABLE r; CREATE TABLE r (x integer) PARTITION BY HASH (x)")
+        for i in range(2):
+            values = f"VALUES WITH (MODULUS 2, REMAINDER {i})"
+            self.subscriber.execute(f"CREATE TABLE r_{i} PARTITION OF r FOR {values}")
+        self.subscriber.execute("SELECT safebound.watch('r')")
+        self.applied()
+
+    def applied(self) -> None:
         where = f"host={server.folder} port=5432 user=postgres dbname=postgres"
         options = "create_slot = false, slot_name = 'one', copy_data = false"
         self.subscriber.execute(f"CREATE SUBSCRIPTION u CONNECTION '{where}' PUBLICATION p WITH ({options})")
