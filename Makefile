@@ -24,8 +24,9 @@ COMPILE :=
 ## make build     proves and builds the program (the first time 18 minutes, when there were 54 crates; it says how long is left)
 ## make library   proves and builds the library for C, Python and Rust (docs/EMBEDDING.md; under ten minutes the first time)
 ## make command   proves and builds the whole program as a library over files in memory (a minute, once make build has been)
-## make install   lays what was built, program and libraries, below PREFIX, /usr/local (2 seconds); make uninstall takes it away
-## make deb       makes Debian packages of both in out/ (3 seconds, once they are built)
+## make install   lays what was built, program and libraries, below PREFIX, /usr/local (2 seconds); make uninstall takes it away;
+##                with PG_CONFIG=pg_config the extension too, for that PostgreSQL 15
+## make deb       makes Debian packages of all that make install lays, in out/ (3 seconds, once they are built)
 ## make engines   tests safebound-sql on SQLite and on a PostgreSQL of its own, over the library (docs/ENGINES.md; minutes)
 ## make postgres  builds the extension for PostgreSQL 15 over the library, or where it isn't built over the release's, and tests it on a
 ##                server of its own (docs/POSTGRES.md; minutes)
@@ -119,6 +120,7 @@ check-command: command
 	library/test-command
 check-install: library command
 	library/test-install
+	postgres/test-install
 check-engines: library
 	engines/test --gate
 check-postgres: library

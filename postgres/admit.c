@@ -156,16 +156,56 @@ names_of(PlannerInfo *root, List *join)
 	return names.data;
 }
 
+/* Why a relation of a join has no bound, and what would give it one; NULL where it has one. */
+static char *
+why_entry(BoundedQuery *query, int relid)
+{
+	RangeTblEntry *entry = query->root->simple_rte_array[relid];
+	const char *name = entry->eref->aliasname;
+
+	if (query->entries[relid].table)
+		return NULL;
+	if (entry->rtekind != RTE_RELATION)
+		return psprintf("%s is a function, VALUES, or a subquery that stays apart in the plan. These have no bound.", name);
+	if (entry->relkind == RELKIND_FOREIGN_TABLE)
+		return psprintf("%s is a foreign table. These have no bound.", name);
+	if (entry->inh && entry->relkind != RELKIND_PARTITIONED_TABLE)
+		return psprintf("%s has children. Only its parts have bounds, where a query names them.", name);
+	if (entry->tablesample)
+		return psprintf("TABLESAMPLE of %s has no bound.", name);
+	return why_not_known(entry->relid);
+}
+
+/* The same of a join, by its first relation without a bound. */
+static char *
+why_unbounded(BoundedQuery *query, List *join, Relids relids)
+{
+	ListCell   *cell;
+
+	foreach(cell, join)
+	{
+		char	   *why = why_entry(query, lfirst_int(cell));
+
+		if (why != NULL)
+			return why;
+	}
+	if (list_length(special_joins_within(query, relids)) > MOST_SPECIAL_JOINS)
+		return psprintf("A join with more than %d outer and semi-joins has no bound.", MOST_SPECIAL_JOINS);
+	if (list_length(join) > SAFEBOUND_MOST_ENTRIES)
+		return psprintf("A join of more than %d tables has no bound.", SAFEBOUND_MOST_ENTRIES);
+	return pstrdup("Its bound passes 64 bits. More conditions on columns that are kept help.");
+}
+
 static void
-refuse_unbounded(PlannerInfo *root, List *join)
+refuse_unbounded(const char *relations, const char *why)
 {
 	if (unbounded == UNBOUNDED_ADMIT)
 		return;
 	ereport(ERROR,
 			(errcode(ERRCODE_UNBOUNDED),
 			 errmsg("a join of this query has no bound, and safebound.unbounded is refuse"),
-			 join ? errdetail("It joins %s.", names_of(root, join)) : 0,
-			 errhint("Only joins of at most %d tables that are watched have a bound: safebound.watch watches them, and the view safebound.kept says which are.", SAFEBOUND_MOST_ENTRIES)));
+			 relations ? errdetail("It joins %s.", relations) : 0,
+			 errhint("%s", why)));
 }
 
 /* What would help: an order by bounds, where the planner didn't look for one. */
@@ -188,7 +228,7 @@ check_join(BoundedQuery *query, List *join)
 		relids = bms_add_member(relids, lfirst_int(cell));
 	bound = bound_of_join(query, relids);
 	if (bound == UNKNOWN)
-		refuse_unbounded(query->root, join);
+		refuse_unbounded(names_of(query->root, join), why_unbounded(query, join, relids));
 	if (bound != UNKNOWN && bound > (uint64) budget)
 		ereport(ERROR,
 				(errcode(ERRCODE_BUDGET),
@@ -217,7 +257,7 @@ check_plan(PlannedStmt *plan, ParamListInfo parameters)
 	if (all_exempt(plan))
 		return;
 	if (untold)
-		refuse_unbounded(NULL, NIL);
+		refuse_unbounded(NULL, "What it joins can't be told from the plan: some of its rows come from no table, or another extension made the plan.");
 	for (int i = 1; i < list_length(recipe); i++)
 		check_part(list_nth(recipe, i), parameters);
 }

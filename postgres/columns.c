@@ -78,11 +78,11 @@ put_value(Tuplesortstate *sort, TupleTableSlot *slot, Datum value, bool null, ui
 static uint32
 sort_rows(Relation relation, AttrNumber number, Tuplesortstate *sort, TupleTableSlot *put)
 {
-	TableScanDesc scan = table_beginscan_strat(relation, GetActiveSnapshot(), 0, NULL, true, false);
-	TupleTableSlot *row = table_slot_create(relation, NULL);
+	Rows	   *all = rows_begin(relation);
+	TupleTableSlot *row;
 	uint32		rows = 0;
 
-	while (table_scan_getnextslot(scan, ForwardScanDirection, row))
+	while ((row = rows_next(all)) != NULL)
 	{
 		bool		null;
 		Datum		value = slot_getattr(row, number, &null);
@@ -92,8 +92,7 @@ sort_rows(Relation relation, AttrNumber number, Tuplesortstate *sort, TupleTable
 			ereport(ERROR, (errcode(ERRCODE_PROGRAM_LIMIT_EXCEEDED), errmsg("a table of more than %d rows can't be kept", PG_INT32_MAX)));
 		put_value(sort, put, value, null, rows++);
 	}
-	ExecDropSingleTupleTableSlot(row);
-	table_endscan(scan);
+	rows_end(all);
 	return rows;
 }
 
@@ -317,8 +316,8 @@ query_along(const Making *making, const Column *along, Relation referred, const 
 	foreach(cell, numbers)
 		appendStringInfo(&query, "%ss.%s", foreach_current_index(cell) ? ", " : "",
 						 quote_identifier(get_attname(RelationGetRelid(referred), lfirst_int(cell), false)));
-	appendStringInfo(&query, " FROM (SELECT DISTINCT %s AS value FROM ONLY %s WHERE %s IS NOT NULL) r LEFT JOIN ONLY %s s ON s.%s ",
-					 name, full_name(making->relation), name, full_name(referred),
+	appendStringInfo(&query, " FROM (SELECT DISTINCT %s AS value FROM %s%s WHERE %s IS NOT NULL) r LEFT JOIN ONLY %s s ON s.%s ",
+					 name, making->relation->rd_rel->relkind == RELKIND_PARTITIONED_TABLE ? "" : "ONLY ", full_name(making->relation), name, full_name(referred),
 					 quote_identifier(get_attname(RelationGetRelid(referred), reference->confkey[0], false)));
 	put_operator(&query, reference->conpfeqop[0]);
 	appendStringInfoString(&query, " r.value ORDER BY r.value");

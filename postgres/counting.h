@@ -5,6 +5,7 @@
 #include "statistics.h"
 
 #include "catalog/pg_attribute.h"
+#include "executor/tuptable.h"
 #include "utils/rel.h"
 
 /* sorted.c: numbers below 2^63 sorted, in memory where that many fit, else in files. */
@@ -23,6 +24,12 @@ extern void codes_finish(Codes *codes);
 extern void codes_rewind(Codes *codes);
 extern uint32 codes_get(Codes *codes);
 extern void codes_end(Codes *codes);
+
+/* rows.c: the rows that are counted. */
+typedef struct Rows Rows;
+extern Rows *rows_begin(Relation relation);
+extern TupleTableSlot *rows_next(Rows *rows);
+extern void rows_end(Rows *rows);
 
 typedef struct CommonValue
 {

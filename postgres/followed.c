@@ -6,6 +6,7 @@
 #include "watch.h"
 
 #include "access/xact.h"
+#include "catalog/partition.h"
 #include "catalog/pg_type.h"
 #include "commands/trigger.h"
 #include "executor/tuptable.h"
@@ -97,34 +98,58 @@ on_subtransaction_end(SubXactEvent event, SubTransactionId mine, SubTransactionI
 	}
 }
 
-/* The mark that was written last, so that it isn't written for each row. */
-static Oid	marked_relation;
-static TransactionId marking_transaction;
+/* Whether a table is a part of a partitioned one. */
+bool
+is_part_of(Oid relation, Oid whole)
+{
+	return get_rel_relispartition(relation) && list_member_oid(get_partition_ancestors(relation), whole);
+}
 
-/* Rows came that are not counted. Once in a (sub)transaction is enough. */
+/* Rows came that are not counted. */
 void
 mark_not_counted(Oid relation)
 {
 	StringInfoData none;
 
-	if (marked_relation == relation && marking_transaction == GetCurrentTransactionId())
-		return;
 	initStringInfo(&none);
 	write_delta(relation, NOT_COUNTED, &none);
-	marked_relation = relation;
-	marking_transaction = GetCurrentTransactionId();
+}
+
+/* The table to which a replica applied rows last, so that marks aren't written for each row. */
+static Oid	applied_relation;
+static TransactionId applying_transaction;
+
+/* Rows came to a table, and so to what it is a part of. Once in a (sub)transaction is enough. */
+static void
+mark_applied(Oid relation)
+{
+	ListCell   *cell;
+
+	if (applied_relation == relation && applying_transaction == GetCurrentTransactionId())
+		return;
+	foreach(cell, followers_of(relation))
+	{
+		Seen	   *seen = lfirst(cell);
+
+		if (seen->relation == relation || is_part_of(relation, seen->relation))
+			mark_not_counted(seen->relation);
+	}
+	applied_relation = relation;
+	applying_transaction = GetCurrentTransactionId();
 }
 
 /* Who counts a table takes its marks away. */
 void
 marks_are_gone(void)
 {
-	marked_relation = InvalidOid;
+	applied_relation = InvalidOid;
 }
 
-/* The rows that a statement wrote. */
+/* The rows that a statement wrote to a table, to one that it inherits from, or to a part of it. */
 typedef struct NewRows
 {
+	const Seen *seen;			/* the table */
+	Oid			written;		/* what the statement names */
 	TupleDesc	desc;
 	Tuplestorestate *rows;
 	TupleTableSlot *slot;
@@ -140,26 +165,37 @@ rewind_rows(Tuplestorestate *rows)
 	tuplestore_rescan(rows);
 }
 
+/* The column of the new rows that is a column of the table; NULL where there is none. A part may have its columns in another order. */
+static Form_pg_attribute
+column_of(const NewRows *new, AttrNumber number)
+{
+	const char *name = number > 0 ? get_attname(new->seen->relation, number, true) : NULL;
+	AttrNumber	there = new->written == new->seen->relation ? number : name ? get_attnum(new->written, name) : 0;
+	Form_pg_attribute attribute = there > 0 && there <= new->desc->natts ? TupleDescAttr(new->desc, there - 1) : NULL;
+
+	return attribute && !attribute->attisdropped ? attribute : NULL;
+}
+
 /* Whether an updated row has the same values as before in all columns that are kept. */
 static bool
-same_values(const Seen *seen, TupleDesc desc, TupleTableSlot *one, TupleTableSlot *other)
+same_values(const NewRows *new, TupleTableSlot *one, TupleTableSlot *other)
 {
-	Bitmapset  *columns = bms_union(seen->joined, seen->filters);
+	Bitmapset  *columns = bms_union(new->seen->joined, new->seen->filters);
 	bool		same = true;
 	int			number = -1;
 
 	while (same && (number = bms_next_member(columns, number)) >= 0)
 	{
-		Form_pg_attribute attribute = number > 0 && number <= desc->natts ? TupleDescAttr(desc, number - 1) : NULL;
+		Form_pg_attribute attribute = column_of(new, number);
 		bool		one_null,
 					other_null;
 		Datum		value,
 					before;
 
-		if (attribute == NULL || attribute->attisdropped)
+		if (attribute == NULL)
 			continue;
-		value = slot_getattr(one, number, &one_null);
-		before = slot_getattr(other, number, &other_null);
+		value = slot_getattr(one, attribute->attnum, &one_null);
+		before = slot_getattr(other, attribute->attnum, &other_null);
 		same = one_null == other_null && (one_null || datum_image_eq(value, before, attribute->attbyval, attribute->attlen));
 	}
 	bms_free(columns);
@@ -169,7 +205,7 @@ same_values(const Seen *seen, TupleDesc desc, TupleTableSlot *one, TupleTableSlo
 /* An update that changes no kept column adds nothing. Old and new rows stand in the same order, unless some were lost on their way to
    another partition: then all new ones count. */
 static void
-leave_unchanged(const Seen *seen, NewRows *new, Tuplestorestate *old_rows)
+leave_unchanged(NewRows *new, Tuplestorestate *old_rows)
 {
 	TupleTableSlot *old = MakeSingleTupleTableSlot(new->desc, &TTSOpsMinimalTuple);
 
@@ -184,7 +220,7 @@ leave_unchanged(const Seen *seen, NewRows *new, Tuplestorestate *old_rows)
 		CHECK_FOR_INTERRUPTS();
 		if (!tuplestore_gettupleslot(new->rows, true, false, new->slot) || !tuplestore_gettupleslot(old_rows, true, false, old))
 			elog(ERROR, "a transition table ends too early");
-		new->counts[row] = !same_values(seen, new->desc, new->slot, old);
+		new->counts[row] = !same_values(new, new->slot, old);
 		new->counted += new->counts[row];
 	}
 	ExecDropSingleTupleTableSlot(old);
@@ -239,13 +275,12 @@ code_values(Tuplesortstate *sort, Form_pg_attribute attribute, uint64 *codes)
 }
 
 static DegreeList
-list_of_column(NewRows *new, AttrNumber number)
+list_of_column(NewRows *new, Form_pg_attribute attribute)
 {
-	Form_pg_attribute attribute = TupleDescAttr(new->desc, number - 1);
 	TypeCacheEntry *type = lookup_type_cache(attribute->atttypid, TYPECACHE_LT_OPR);
 	Tuplesortstate *sort = tuplesort_begin_datum(attribute->atttypid, type->lt_opr, sort_collation(attribute->attcollation), false,
 												 work_mem, NULL, TUPLESORT_NONE);
-	uint64		length = sort_values(new, number, sort);
+	uint64		length = sort_values(new, attribute->attnum, sort);
 	uint64	   *codes = MemoryContextAllocHuge(CurrentMemoryContext, (length + 1) * sizeof(uint64));
 	DegreeList	list = {new->counted, 0, NULL};
 
@@ -272,32 +307,36 @@ list_of_one(NewRows *new, AttrNumber number)
 }
 
 static void
-put_column(StringInfo into, const Seen *seen, NewRows *new, AttrNumber number)
+put_column(StringInfo into, NewRows *new, AttrNumber number)
 {
-	DegreeList	list = new->length == 1 ? list_of_one(new, number) : compressed(list_of_column(new, number), seen->accuracy);
+	Form_pg_attribute attribute = column_of(new, number);
+	DegreeList	list;
 
+	if (attribute == NULL)
+		return;
+	list = new->length == 1 ? list_of_one(new, attribute->attnum) : compressed(list_of_column(new, attribute), new->seen->accuracy);
 	put_number(into, number);
 	put_list(into, &list);
 }
 
-/* Writes the delta of a table for the rows of a statement on the table itself, or on one that it inherits from. */
+/* Writes the delta of a table for the rows of a statement on the table itself, on one that it inherits from, or on a part of it. */
 static void
 count_rows(const Seen *seen, TriggerData *trigger)
 {
-	NewRows		new = {.desc = RelationGetDescr(trigger->tg_relation),.rows = trigger->tg_newtable};
-	bool		own = RelationGetRelid(trigger->tg_relation) == seen->relation;
+	Oid			written = RelationGetRelid(trigger->tg_relation);
+	NewRows		new = {.seen = seen,.written = written,.desc = RelationGetDescr(trigger->tg_relation),.rows = trigger->tg_newtable};
+	bool		own = written == seen->relation || is_part_of(written, seen->relation);
 	StringInfoData lists;
 	int			number = -1;
 
 	new.length = new.counted = tuplestore_tuple_count(new.rows);
 	new.slot = MakeSingleTupleTableSlot(new.desc, &TTSOpsMinimalTuple);
 	if (own && new.length > 0 && trigger->tg_oldtable)
-		leave_unchanged(seen, &new, trigger->tg_oldtable);
+		leave_unchanged(&new, trigger->tg_oldtable);
 	initStringInfo(&lists);
-	/* Columns have other numbers in the table above: its rows are told without lists. */
+	/* Which rows of a table above are this one's isn't known: they are told without lists. */
 	while (own && new.counted > 0 && (number = bms_next_member(seen->joined, number)) >= 0)
-		if (number > 0 && number <= new.desc->natts && !TupleDescAttr(new.desc, number - 1)->attisdropped)
-			put_column(&lists, seen, &new, number);
+		put_column(&lists, &new, number);
 	if (new.counted > 0)
 		write_delta(seen->relation, new.counted, &lists);
 	ExecDropSingleTupleTableSlot(new.slot);
@@ -329,7 +368,7 @@ safebound_follow(PG_FUNCTION_ARGS)
 	if (TRIGGER_FIRED_FOR_ROW(trigger->tg_event))
 	{
 		if (IsLogicalWorker())
-			mark_not_counted(RelationGetRelid(trigger->tg_relation));
+			mark_applied(RelationGetRelid(trigger->tg_relation));
 	}
 	else if (TRIGGER_FIRED_BEFORE(trigger->tg_event))
 		begin_writing(RelationGetRelid(trigger->tg_relation));

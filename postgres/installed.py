@@ -1,10 +1,12 @@
-"""A PostgreSQL with the extension that changes nothing of the machine's own: its programs are copied into a folder, and the rest is linked.
+"""A PostgreSQL with the extension that changes nothing of the machine's own: its programs are copied into a folder,
+and the rest is linked.
 
 PostgreSQL finds its folders from the place of its program, so a copy of the program has extensions of its own.
 """
 
 from __future__ import annotations
 
+import importlib.util
 import os
 import shutil
 import subprocess
@@ -13,7 +15,9 @@ import tempfile
 
 HERE = os.path.dirname(os.path.abspath(__file__))
 sys.path[:0] = [os.path.join(HERE, "..", "engines", "servers")]
-from server import Alone
+from server import Alone, programs
+
+__all__ = ("SETTINGS", "Alone", "Installed", "lay_server", "missing", "programs")
 
 # What tests need of a server: plans don't depend on the compiler, and each session has the extension.
 SETTINGS = ("session_preload_libraries=safebound", "jit=off")
@@ -21,6 +25,18 @@ SETTINGS = ("session_preload_libraries=safebound", "jit=off")
 
 def told(word: str) -> str:
     return subprocess.run(["pg_config", word], check=True, text=True, stdout=subprocess.PIPE).stdout.strip()
+
+
+def missing() -> str | None:
+    """What of all that tests need isn't installed."""
+    if not shutil.which("pg_config") or not importlib.util.find_spec("psycopg"):
+        return "pg_config or psycopg"
+    if not told("--version").startswith("PostgreSQL 15"):
+        return f"PostgreSQL 15 ({told('--version')} is)"
+    headers, folder = told("--includedir-server"), told("--bindir")
+    if not os.path.exists(os.path.join(headers, "postgres.h")) or not os.path.exists(os.path.join(folder, "initdb")):
+        return "PostgreSQL's server or its headers"
+    return None
 
 
 def link_all(source: str, into: str) -> None:
@@ -31,8 +47,8 @@ def link_all(source: str, into: str) -> None:
 
 def lay_server(root: str) -> str:
     """The folder of the copied programs, below `root`."""
-    programs = root + told("--bindir")
-    shutil.copytree(told("--bindir"), programs)
+    folder = root + told("--bindir")
+    shutil.copytree(told("--bindir"), folder)
     headers = told("--includedir")
     os.makedirs(root + os.path.dirname(headers))
     os.symlink(headers, root + headers)
@@ -41,13 +57,13 @@ def lay_server(root: str) -> str:
     extensions = os.path.join(root + told("--sharedir"), "extension")
     os.remove(extensions)
     link_all(os.path.join(told("--sharedir"), "extension"), extensions)
-    return programs
+    return folder
 
 
 def install() -> None:
     """Into the server whose pg_config comes first on the PATH."""
-    for target in ([], ["install"]):
-        subprocess.run(["make", "-s", "-C", HERE, *target], check=True)
+    for target in ("all", "install"):
+        subprocess.run(["make", "-s", "-C", HERE, target], check=True)
 
 
 class Installed(Alone):

@@ -8,9 +8,6 @@
 #include "port/pg_bitutils.h"
 #include "utils/lsyscache.h"
 
-/* Of more outer and semi-joins in one join nothing is bounded: the ways in which their sides may be missing double with each. */
-#define MOST_SPECIAL_JOINS 6
-
 /* Longer lists are compressed before they are joined, since a plan waits for its bounds. */
 #define LONGEST_LIST 48
 #define PLANNING_ACCURACY 6
@@ -208,7 +205,10 @@ can_be_known(PlannerInfo *root, RelOptInfo *rel)
 	if (rel == NULL || rel->reloptkind != RELOPT_BASEREL || rel->rtekind != RTE_RELATION || IS_DUMMY_REL(rel))
 		return false;
 	entry = root->simple_rte_array[rel->relid];
-	return (entry->relkind == RELKIND_RELATION || entry->relkind == RELKIND_MATVIEW) && !entry->inh && entry->tablesample == NULL;
+	if (entry->tablesample != NULL)
+		return false;
+	/* With children a table has other rows than its own; a partitioned one has no others. */
+	return entry->inh ? entry->relkind == RELKIND_PARTITIONED_TABLE : entry->relkind == RELKIND_RELATION || entry->relkind == RELKIND_MATVIEW;
 }
 
 /* A set of relations, by their numbers, whose bound is known. */
@@ -454,9 +454,9 @@ bound_of_ways(BoundedQuery *query, Relids present, List *joins)
 	}
 }
 
-/* The bound of a join relation's rows. */
-uint64
-bound_of_join(BoundedQuery *query, Relids relids)
+/* The outer and semi-joins of a join relation, the outermost last. */
+List *
+special_joins_within(BoundedQuery *query, Relids relids)
 {
 	List	   *joins = NIL;
 	ListCell   *cell;
@@ -464,5 +464,14 @@ bound_of_join(BoundedQuery *query, Relids relids)
 	foreach(cell, query->root->join_info_list)
 		if (is_within(lfirst(cell), relids))
 			joins = lappend(joins, lfirst(cell));
+	return joins;
+}
+
+/* The bound of a join relation's rows. */
+uint64
+bound_of_join(BoundedQuery *query, Relids relids)
+{
+	List	   *joins = special_joins_within(query, relids);
+
 	return list_length(joins) > MOST_SPECIAL_JOINS ? UNKNOWN : bound_of_ways(query, relids, joins);
 }

@@ -199,7 +199,7 @@ open_owned(Oid relation)
 
 	if (!pg_class_ownercheck(relation, GetUserId()))
 		aclcheck_error(ACLCHECK_NOT_OWNER, OBJECT_TABLE, RelationGetRelationName(opened));
-	if (opened->rd_rel->relkind != RELKIND_RELATION && opened->rd_rel->relkind != RELKIND_MATVIEW)
+	if (opened->rd_rel->relkind != RELKIND_RELATION && opened->rd_rel->relkind != RELKIND_PARTITIONED_TABLE && opened->rd_rel->relkind != RELKIND_MATVIEW)
 		ereport(ERROR, (errcode(ERRCODE_WRONG_OBJECT_TYPE), errmsg("\"%s\" is not a table or materialized view", RelationGetRelationName(opened))));
 	return opened;
 }

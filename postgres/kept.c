@@ -6,6 +6,7 @@
 #include "access/htup_details.h"
 #include "access/table.h"
 #include "catalog/namespace.h"
+#include "catalog/pg_class.h"
 #include "catalog/pg_type.h"
 #include "utils/builtins.h"
 #include "utils/datum.h"
@@ -277,6 +278,14 @@ take_deltas(KeptTable *table, const Seen *seen, Snapshot snapshot)
 
 bool		kept_fresh_only = false;
 
+/* Whether a partitioned table still has the parts that it had when it was counted. Parts come without waiting for those who read, and
+   an older snapshot sees their rows and not that they came. */
+static bool
+same_parts(const Seen *seen)
+{
+	return seen->sources == NIL || get_rel_relkind(seen->relation) != RELKIND_PARTITIONED_TABLE || equal(sources_of(seen->relation), seen->sources);
+}
+
 /* The statistics of a table as the active snapshot sees them, or NULL. What is dropped meanwhile stays until no plan is in the making.
    The memory of them is of one version, and a snapshot may see another one. */
 const KeptTable *
@@ -287,7 +296,7 @@ kept_table(Oid relation)
 			   *view;
 	Seen		seen;
 
-	if (!see_table(relation, snapshot, &seen) || (kept_fresh_only && seen.sources == NIL) || is_writing(&seen))
+	if (!see_table(relation, snapshot, &seen) || (kept_fresh_only && seen.sources == NIL) || is_writing(&seen) || !same_parts(&seen))
 		return NULL;
 	table = table_of_version(&seen, snapshot);
 	if (!table->known)
@@ -300,6 +309,20 @@ kept_table(Oid relation)
 	*view = *table;
 	view->unchanged = unchanged_references(&seen, snapshot);
 	return view;
+}
+
+/* Why a table counts as unknown where only those that are watched are known, and what makes it known. */
+char *
+why_not_known(Oid relation)
+{
+	char	   *name = DatumGetCString(DirectFunctionCall1(regclassout, ObjectIdGetDatum(relation)));
+	Seen		seen;
+
+	if (!see_table(relation, GetActiveSnapshot(), &seen) || seen.sources == NIL)
+		return psprintf("%s isn't watched: SELECT safebound.watch(%s) counts and follows it.", name, quote_literal_cstr(name));
+	if (is_writing(&seen))
+		return psprintf("%s is being written to: its rows are counted once that statement ends.", name);
+	return psprintf("%s is unknown, since something changed it that isn't followed: SELECT safebound.watch(%s) counts it anew.", name, quote_literal_cstr(name));
 }
 
 const KeptPair *

@@ -19,6 +19,7 @@ static planner_hook_type planner_before;
 static set_rel_pathlist_hook_type rel_paths_before;
 static set_join_pathlist_hook_type join_paths_before;
 static join_search_hook_type join_search_before;
+static create_upper_paths_hook_type upper_paths_before;
 
 /* One call of the planner. A function that it evaluates may call it again. */
 typedef struct Planning
@@ -139,15 +140,51 @@ set_parameterised_rows(BoundedQuery *query, RelOptInfo *rel, ParamPathInfo *info
 		info->ppi_rows = Min(rel->rows, rows_by_mode((double) joined / Max(outer, 1), info->ppi_rows));
 }
 
+/* Sets the rows of a path, and of the only part that it appends: the plan has that one in its place. */
+static void
+set_path_rows(Path *path, double rows)
+{
+	List	   *parts = IsA(path, AppendPath) ? ((AppendPath *) path)->subpaths : IsA(path, MergeAppendPath) ? ((MergeAppendPath *) path)->subpaths : NIL;
+
+	path->rows = rows;
+	if (list_length(parts) == 1)
+		set_path_rows(linitial(parts), rows);
+}
+
+/* The paths of a partitioned table append those of its parts, which have PostgreSQL's own rows. The whole has its bound. */
+static void
+set_append_rows(BoundedQuery *query, RelOptInfo *rel)
+{
+	double		share = rel->rows / Max(own_rows(query, rel), 1);
+	ListCell   *cell;
+
+	foreach(cell, rel->pathlist)
+	{
+		Path	   *path = lfirst(cell);
+
+		if (path->param_info != NULL)
+		{
+			path->param_info->ppi_rows = path->rows;
+			set_parameterised_rows(query, rel, path->param_info);
+		}
+		set_path_rows(path, path->param_info ? path->param_info->ppi_rows : rel->rows);
+	}
+	foreach(cell, rel->partial_pathlist)
+		set_path_rows(lfirst(cell), clamp_row_est(((Path *) lfirst(cell))->rows * share));
+}
+
 static void
 on_rel_paths(PlannerInfo *root, RelOptInfo *rel, Index rti, RangeTblEntry *rte)
 {
 	if (planning != NULL && (estimates_mode != ESTIMATES_OFF || planning->told))
 	{
 		BoundedQuery *query = query_of(root, true);
+		bool		known = estimates_mode != ESTIMATES_OFF && rti < (Index) root->simple_rel_array_size && query->entries[rti].rel == rel && query->entries[rti].table;
 		ListCell   *cell;
 
-		if (estimates_mode != ESTIMATES_OFF && rti < (Index) root->simple_rel_array_size && query->entries[rti].rel == rel && query->entries[rti].table)
+		if (known && rte->inh)
+			set_append_rows(query, rel);
+		else if (known)
 		{
 			rel->ppilist = NIL;
 			make_scan_paths(root, rel);
@@ -159,6 +196,18 @@ on_rel_paths(PlannerInfo *root, RelOptInfo *rel, Index rti, RangeTblEntry *rte)
 	}
 	if (rel_paths_before)
 		rel_paths_before(root, rel, rti, rte);
+}
+
+/* Of a query over one partitioned table alone PostgreSQL makes the paths once more, from those of the parts. */
+static void
+on_upper_paths(PlannerInfo *root, UpperRelationKind stage, RelOptInfo *input, RelOptInfo *output, void *extra)
+{
+	BoundedQuery *query = estimates_mode != ESTIMATES_OFF && planning && input->reloptkind == RELOPT_BASEREL ? query_of(root, false) : NULL;
+
+	if (query != NULL && query->entries[input->relid].rel == input && query->entries[input->relid].table && root->simple_rte_array[input->relid]->inh)
+		set_append_rows(query, input);
+	if (upper_paths_before)
+		upper_paths_before(root, stage, input, output, extra);
 }
 
 /* What PostgreSQL would expect of a join, had it expected its own rows of both sides. */
@@ -324,4 +373,6 @@ planning_init(void)
 	set_join_pathlist_hook = on_join_paths;
 	join_search_before = join_search_hook;
 	join_search_hook = on_join_search;
+	upper_paths_before = create_upper_paths_hook;
+	create_upper_paths_hook = on_upper_paths;
 }

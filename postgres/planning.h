@@ -7,6 +7,9 @@
 #include "nodes/plannodes.h"
 #include "utils/hsearch.h"
 
+/* Of more outer and semi-joins in one join nothing is bounded: the ways in which their sides may be missing double with each. */
+#define MOST_SPECIAL_JOINS 6
+
 /* No row bound is known. */
 #define UNKNOWN PG_UINT64_MAX
 
@@ -73,6 +76,7 @@ typedef struct BoundedQuery
 /* joins.c */
 extern BoundedQuery *bounded_query(PlannerInfo *root);
 extern uint64 bound_of_set(BoundedQuery *query, Relids relids);
+extern List *special_joins_within(BoundedQuery *query, Relids relids);
 extern uint64 bound_of_join(BoundedQuery *query, Relids relids);
 
 /* planning.c */

@@ -93,6 +93,9 @@ extern Oid	sort_collation(Oid collation);
 extern uint64 write_own(const char *statement, int length, Oid *types, Datum *values);
 extern int64 keep_table(Oid relation, Bitmapset *joined, Bitmapset *filters, int most_common, int most_leaves, int accuracy, bool folding);
 
+/* watch.c: the tables whose statements may write to a table. */
+extern List *sources_of(Oid relation);
+
 /* admit.c: nothing is refused meanwhile. */
 extern bool admission_paused;
 
@@ -102,6 +105,7 @@ extern DegreeList with_deltas(const KeptTable *table, AttrNumber joined, DegreeL
 /* kept.c: the backend's memory of statistics. */
 extern Oid	extension_table(const char *name);
 extern const KeptTable *kept_table(Oid relation);
+extern char *why_not_known(Oid relation);
 extern const KeptPair *kept_pair(const KeptTable *table, AttrNumber joined, AttrNumber filter);
 extern const KeptPair *kept_pair_along(const KeptTable *table, AttrNumber joined, AttrNumber filter, const Reference *reference);
 extern bool has_pairs_along(const KeptTable *table, const Reference *reference);

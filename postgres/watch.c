@@ -42,12 +42,13 @@ PG_FUNCTION_INFO_V1(safebound_on_change);
 
 static ProcessUtility_hook_type utility_before;
 
-/* A table and all that it inherits from: a statement on each of them may write to it. */
-static List *
+/* A table, all that it inherits from, and the parts of a partitioned one: a statement on each of them may write to it. */
+List *
 sources_of(Oid relation)
 {
 	Relation	inherits = table_open(InheritsRelationId, AccessShareLock);
 	List	   *sources = list_make1_oid(relation);
+	List	   *parts = get_rel_relkind(relation) == RELKIND_PARTITIONED_TABLE ? find_all_inheritors(relation, NoLock, NULL) : NIL;
 
 	for (int i = 0; i < list_length(sources); i++)
 	{
@@ -62,16 +63,24 @@ sources_of(Oid relation)
 		systable_endscan(scan);
 	}
 	table_close(inherits, AccessShareLock);
+	sources = list_concat_unique_oid(sources, parts);
 	list_sort(sources, list_oid_cmp);
 	return sources;
+}
+
+/* Whether a replica may apply rows of a table by writing to a source of it itself. */
+static bool
+applies_rows(Oid source, Oid relation)
+{
+	return get_rel_relkind(source) == RELKIND_RELATION && (source == relation || is_part_of(source, relation));
 }
 
 /* How many of a source's triggers for statements and for rows are there and fire always. */
 static void
 count_triggers(Oid source, int *statements, int *rows)
 {
-	Relation	opened = relation_open(source, AccessShareLock);
-	TriggerDesc *triggers = opened->trigdesc;
+	Relation	opened = try_relation_open(source, AccessShareLock);
+	TriggerDesc *triggers = opened ? opened->trigdesc : NULL;
 	Oid			follow = LookupFuncName(list_make2(makeString("safebound"), makeString("follow")), 0, NULL, true);
 
 	*statements = *rows = 0;
@@ -86,18 +95,19 @@ count_triggers(Oid source, int *statements, int *rows)
 		else
 			*statements += trigger->tgenabled == TRIGGER_FIRES_ALWAYS;
 	}
-	relation_close(opened, AccessShareLock);
+	if (opened)
+		relation_close(opened, AccessShareLock);
 }
 
-/* Whether all triggers of a source are there: three for statements, and on the table itself one for rows. */
+/* Whether all triggers of a source are there: three for statements, and one for rows where a replica may apply them. */
 static bool
-has_triggers(Oid source, bool itself)
+has_triggers(Oid source, bool applies)
 {
 	int			statements,
 				rows;
 
 	count_triggers(source, &statements, &rows);
-	return statements == 3 && (rows == 1 || !itself);
+	return statements == 3 && (rows == 1 || !applies);
 }
 
 /* Whether all that brings rows to a table is still followed. */
@@ -112,7 +122,7 @@ is_intact(Oid relation, List *followed)
 	if (get_rel_relkind(relation) == RELKIND_MATVIEW)
 		return true;
 	foreach(cell, sources)
-		if (!has_triggers(lfirst_oid(cell), lfirst_oid(cell) == relation))
+		if (!has_triggers(lfirst_oid(cell), applies_rows(lfirst_oid(cell), relation)))
 			return false;
 	return true;
 }
@@ -126,6 +136,15 @@ refuse_old_snapshot(void)
 						errdetail("In the snapshot of a transaction rows may be missing that came since and that other transactions see.")));
 }
 
+/* Locks a table and its parts. */
+static void
+lock_whole(Oid relation, LOCKMODE mode)
+{
+	LockRelationOid(relation, mode);
+	if (get_rel_relkind(relation) == RELKIND_PARTITIONED_TABLE)
+		find_all_inheritors(relation, mode, NULL);
+}
+
 /* Locks a table against others that count it, and takes a new snapshot. Who counts other columns waits for all writers too, since their
    triggers look at the columns. The deltas that the snapshot sees go: their rows are counted now. */
 void
@@ -133,11 +152,11 @@ begin_counting(Relation relation, bool folding, Seen *before, bool *was_followed
 {
 	Oid			id = RelationGetRelid(relation);
 
-	LockRelationOid(id, ShareUpdateExclusiveLock);
+	lock_whole(id, ShareUpdateExclusiveLock);
 	*before = (Seen) {.relation = id};
 	*was_followed = see_table(id, NULL, before) && before->sources != NIL;
 	if (*was_followed && !folding)
-		LockRelationOid(id, ShareRowExclusiveLock);
+		lock_whole(id, ShareRowExclusiveLock);
 	if (*was_followed)
 		refuse_old_snapshot();
 	CommandCounterIncrement();
@@ -269,7 +288,7 @@ make_statement_triggers(const char *name)
 /* Makes the triggers of a source, and waits for all who are writing to it. Those that are there stay: tables below need them, and would
    count as unknown once they are made anew. */
 static void
-make_triggers(Oid source, bool itself)
+make_triggers(Oid source, bool applies)
 {
 	char	   *name = quoted_name(source);
 	int			statements,
@@ -279,19 +298,24 @@ make_triggers(Oid source, bool itself)
 	count_triggers(source, &statements, &rows);
 	if (statements != 3)
 		make_statement_triggers(name);
-	if (!itself || rows == 1)
+	if (!applies || rows == 1)
 		return;
 	execute("CREATE OR REPLACE TRIGGER safebound_applied AFTER INSERT OR UPDATE ON %s FOR EACH ROW EXECUTE FUNCTION safebound.follow()", name);
 	execute("ALTER TABLE %s ENABLE REPLICA TRIGGER safebound_applied", name);
 }
 
-/* Drops the triggers of a table that is no longer watched, as far as tables below it don't need them. */
+/* Drops the triggers of a source of a table that is no longer watched, as far as no other table needs them. */
 static void
 drop_triggers(Oid source)
 {
 	char	   *name = quoted_name(source);
+	bool		applies = false;
+	ListCell   *cell;
 
-	execute("DROP TRIGGER IF EXISTS safebound_applied ON %s", name);
+	foreach(cell, followers_of(source))
+		applies = applies || applies_rows(source, ((Seen *) lfirst(cell))->relation);
+	if (!applies && get_rel_relkind(source) == RELKIND_RELATION)
+		execute("DROP TRIGGER IF EXISTS safebound_applied ON %s", name);
 	if (followers_of(source) != NIL)
 		return;
 	execute("DROP TRIGGER IF EXISTS safebound_begin ON %s", name);
@@ -316,7 +340,7 @@ static bool
 may_have_triggers(Oid relation)
 {
 	Relation	opened = open_owned(relation);
-	bool		may = opened->rd_rel->relkind == RELKIND_RELATION;
+	bool		may = opened->rd_rel->relkind != RELKIND_MATVIEW;
 
 	/* It is dropped at the end of the session without an event. */
 	if (opened->rd_rel->relpersistence == RELPERSISTENCE_TEMP)
@@ -338,7 +362,7 @@ safebound_watch(PG_FUNCTION_ARGS)
 	refuse_old_snapshot();
 	SPI_connect();
 	foreach(cell, triggers ? sources : NIL)
-		make_triggers(lfirst_oid(cell), lfirst_oid(cell) == relation);
+		make_triggers(lfirst_oid(cell), applies_rows(lfirst_oid(cell), relation));
 	LockRelationOid(relation, ShareRowExclusiveLock);
 	CommandCounterIncrement();
 	lists = keep_again(relation, false);
@@ -357,12 +381,14 @@ safebound_unwatch(PG_FUNCTION_ARGS)
 	bool		triggers = may_have_triggers(relation);
 	Seen		seen = {0};
 	bool		were = see_table(relation, NULL, &seen) && seen.sources != NIL;
+	ListCell   *cell;
 
 	SPI_connect();
 	if (were)
 		note_sources(relation, NIL);
-	if (triggers)
-		drop_triggers(relation);
+	foreach(cell, triggers ? sources_of(relation) : NIL)
+		if (lfirst_oid(cell) == relation || is_part_of(lfirst_oid(cell), relation))
+			drop_triggers(lfirst_oid(cell));
 	SPI_finish();
 	PG_RETURN_BOOL(were);
 }
@@ -500,9 +526,13 @@ mark_rewritten(void)
 {
 	Oid			relation = DatumGetObjectId(OidFunctionCall0(F_PG_EVENT_TRIGGER_TABLE_REWRITE_OID));
 	Seen		seen;
+	ListCell   *cell;
 
 	if (see_table(relation, NULL, &seen))
 		mark_not_counted(relation);
+	foreach(cell, followers_of(relation))
+		if (is_part_of(relation, ((Seen *) lfirst(cell))->relation))
+			mark_not_counted(((Seen *) lfirst(cell))->relation);
 }
 
 Datum

@@ -89,6 +89,7 @@ extern void watch_init(void);
 
 /* followed.c: the triggers */
 extern bool is_writing(const Seen *seen);
+extern bool is_part_of(Oid relation, Oid whole);
 extern void mark_not_counted(Oid relation);
 extern void marks_are_gone(void);
 extern void followed_init(void);

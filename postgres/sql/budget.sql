@@ -71,13 +71,21 @@ SET safebound.budget = 1000000000;
 \set VERBOSITY default
 SELECT count(*) FROM r JOIN unknown USING (x);
 \echo :LAST_ERROR_SQLSTATE
-\set VERBOSITY terse
 SELECT count(*) FROM r JOIN generate_series(1, 9) AS x USING (x);
 SELECT count(*) FROM r JOIN (SELECT 1 AS x UNION ALL SELECT 2) AS o USING (x);
 SELECT count(*) FROM r JOIN (SELECT DISTINCT x FROM s) AS o USING (x);
+SELECT count(*) FROM r JOIN s TABLESAMPLE system (50) USING (x);
+CREATE TABLE whole (x integer);
+CREATE TABLE child () INHERITS (whole);
+SELECT count(*) FROM r JOIN whole USING (x);
+DROP TABLE whole CASCADE;
+CREATE VIEW pairs AS SELECT a.x FROM r a LEFT JOIN s b USING (x) LEFT JOIN s c USING (x);
+SELECT count(*) FROM pairs JOIN pairs p2 USING (x) JOIN pairs p3 USING (x) JOIN pairs p4 USING (x) WHERE x = 5;
+DROP VIEW pairs;
 SET join_collapse_limit = 1;
 SELECT count(*) FROM s t1 JOIN s t2 USING (x) JOIN s t3 USING (x) JOIN s t4 USING (x) JOIN s t5 USING (x) JOIN s t6 USING (x) JOIN s t7 USING (x)
     JOIN s t8 USING (x) JOIN s t9 USING (x) JOIN s t10 USING (x) JOIN s t11 USING (x) JOIN s t12 USING (x) JOIN s t13 USING (x) WHERE x = 1;
+\set VERBOSITY terse
 RESET join_collapse_limit;
 SET safebound.unbounded = admit;
 SELECT count(*) FROM r JOIN unknown USING (x);

@@ -2,10 +2,11 @@
 
     postgres/tests/beside.py URL [SEED [SETS [QUERIES]]] [--unwatched]
 
-For each of SETS sets of tables QUERIES queries are asked while three other sessions insert, update, delete, copy, truncate and fold.
-Half of them run in REPEATABLE READ, where the plan's numbers are bounds of the snapshot in which it runs. The others are prepared and
-run in READ COMMITTED under a budget that is near their bound: what is admitted has no join with more rows. With --unwatched nobody
-follows the rows that come, which shows what the test would see; joins above their bound are expected then.
+For each of SETS sets of tables QUERIES queries are asked while three other sessions insert, update, delete, copy,
+truncate and fold. Half of them run in REPEATABLE READ, where the plan's numbers are bounds of the snapshot in which it
+runs. The others are prepared and run in READ COMMITTED under a budget that is near their bound: what is admitted has no
+join with more rows. With --unwatched nobody follows the rows that come, which shows what the test would see; joins
+above their bound are expected then.
 """
 
 from __future__ import annotations
@@ -17,24 +18,20 @@ from collections import Counter
 from collections.abc import Iterator
 
 import psycopg
-from never_under import JOINS, KINDS, PRELUDE, Table, nodes, query, value
+from never_under import JOINS, KINDS, NOT_RUN, PARTITIONED, PRELUDE, Connection, Plan, Table, nodes, query, value
 
 WRITERS = 3
 # States of a query that is refused.
 ABOVE, UNBOUNDED = "SB001", "SB002"
 
 
-def kept_parts(table: Table) -> list[str]:
-    """The tables with rows of their own."""
-    return table.parts() + ([] if table.kind in ("hash", "list") else [table.name])
-
-
-def all_joins(plan: dict, repeated: bool = False) -> Iterator[dict]:
+def all_joins(plan: Plan, repeated: bool = False) -> Iterator[Plan]:
     """The joins of a plan that aren't repeated for each row of others."""
     if plan["Node Type"] in JOINS and plan["Actual Loops"] == 1 and not repeated:
         yield plan
     for below in plan.get("Plans", []):
-        yield from all_joins(below, repeated or (plan["Node Type"] == "Nested Loop" and below["Parent Relationship"] == "Inner"))
+        inner = plan["Node Type"] == "Nested Loop" and below["Parent Relationship"] == "Inner"
+        yield from all_joins(below, repeated or inner)
 
 
 class Writer(threading.Thread):
@@ -53,14 +50,17 @@ class Writer(threading.Thread):
             while not self.stopping.is_set():
                 self.transaction(connection)
 
-    def transaction(self, connection: psycopg.Connection) -> None:
+    def transaction(self, connection: Connection) -> None:
         r = self.r
         if r.random() < 0.2:
             connection.execute("SET TRANSACTION ISOLATION LEVEL REPEATABLE READ")
         try:
             for _ in range(r.choice([1, 1, 1, 3])):
                 self.statement(connection, r.choice(self.tables))
-            connection.rollback() if r.random() < 0.2 else connection.commit()
+            if r.random() < 0.2:
+                connection.rollback()
+            else:
+                connection.commit()
         except psycopg.Error as error:
             connection.rollback()
             self.done[f"error {error.sqlstate}"] += 1
@@ -68,7 +68,7 @@ class Writer(threading.Thread):
     def row(self, table: Table) -> list[str]:
         return [value(self.r, of, distinct, 0.1) for of, distinct in zip(table.columns, table.distinct)]
 
-    def statement(self, connection: psycopg.Connection, table: Table) -> None:
+    def statement(self, connection: Connection, table: Table) -> None:
         r = self.r
         kinds = ["insert", "one", "update", "delete", "copy", "truncate", "fold"]
         kind = r.choices(kinds, [12, 4, 8, 8, 4, 1, 2 if self.watched else 0])[0]
@@ -93,18 +93,18 @@ class Writer(threading.Thread):
         elif kind == "truncate":
             connection.execute(f"TRUNCATE {into} CASCADE")
         else:
-            connection.execute(f"SELECT safebound.fold('{r.choice(kept_parts(table))}')")
+            connection.execute(f"SELECT safebound.fold('{r.choice([table.name, *table.parts()])}')")
         self.done[kind] += 1
 
 
 class Asking:
     """The session that asks, and what it saw."""
 
-    def __init__(self, connection: psycopg.Connection, r: random.Random, watched: bool) -> None:
+    def __init__(self, connection: Connection, r: random.Random, watched: bool) -> None:
         self.connection, self.r, self.watched = connection, r, watched
         self.seen: Counter[str] = Counter()
 
-    def node(self, node: dict, most: int, name: str, text: str) -> None:
+    def node(self, node: Plan, most: int, name: str, text: str) -> None:
         self.seen[name] += 1
         if node["Actual Rows"] > most:
             self.seen["under"] += 1
@@ -116,21 +116,22 @@ class Asking:
         unknown = self.connection.execute('SELECT "table" FROM safebound.kept WHERE NOT known').fetchall()
         self.seen["unknown tables"] += len(unknown)
 
-    def bounded(self, told: list[dict], known: set[str], text: str) -> None:
+    def bounded(self, told: list[Plan], known: set[str], text: str) -> None:
         """Each scan and join of known tables has at most as many rows as the plan says."""
         for node in nodes(told[0]["Plan"], known):
             self.node(node, node["Plan Rows"], f"snapshot {'joins' if node['Node Type'] in JOINS else 'scans'}", text)
 
-    def admitted(self, told: list[dict], budget: int, text: str) -> None:
+    def admitted(self, told: list[Plan], budget: int, text: str) -> None:
         """Each join of an admitted query has at most as many rows as the budget says."""
         self.seen["admitted"] += 1
         for node in all_joins(told[0]["Plan"]):
             self.node(node, budget, "budget joins", text)
 
-    def explained(self, text: str) -> list[dict]:
+    def explained(self, text: str) -> list[Plan]:
         row = self.connection.execute(f"EXPLAIN (ANALYZE, TIMING OFF, FORMAT JSON) {text}").fetchone()
         assert row is not None
-        return row[0]
+        told: list[Plan] = row[0]
+        return told
 
     def in_snapshot(self, text: str, known: set[str]) -> None:
         with self.connection.transaction():
@@ -158,25 +159,26 @@ class Asking:
                 self.connection.execute("SET safebound.budget = 0")
 
     def ask(self, text: str, known: set[str]) -> None:
-        kept = (psycopg.errors.QueryCanceled, psycopg.errors.DeadlockDetected, psycopg.errors.FeatureNotSupported,
-                psycopg.errors.UndefinedFunction, psycopg.errors.DatatypeMismatch)
         try:
-            self.in_snapshot(text, known) if not self.watched or self.r.random() < 0.5 else self.under_budget(text)
+            if not self.watched or self.r.random() < 0.5:
+                self.in_snapshot(text, known)
+            else:
+                self.under_budget(text)
             self.seen["queries"] += 1
-        except kept as error:
+        except (*NOT_RUN, psycopg.errors.DeadlockDetected) as error:
             self.seen[f"not run {error.sqlstate}"] += 1
         self.connection.execute("DEALLOCATE ALL")
 
 
-def make_tables(connection: psycopg.Connection, r: random.Random, watched: bool) -> list[Table]:
+def make_tables(connection: Connection, r: random.Random, watched: bool) -> list[Table]:
     """Plain tables, or also partitions and children; in half of the sets with references to the tables before them."""
     kinds = r.choice([("plain",), KINDS])
     refers = r.random() < 0.5
     tables = [Table(r, f"nu{i}", kinds) for i in range(3)]
     for i, table in enumerate(tables):
         table.make(connection, tables[:i] if refers else [])
-        for part in kept_parts(table) if watched else []:
-            connection.execute(f"SELECT safebound.watch('{part}')")
+        for kept in [table.name, *table.parts()] if watched else []:
+            connection.execute(f"SELECT safebound.watch('{kept}')")
     return tables
 
 
@@ -184,8 +186,9 @@ def one_set(url: str, asking: Asking, r: random.Random, watched: bool, queries: 
     """A set of tables, with writers beside."""
     asking.connection.execute("SET safebound.estimates = off")
     tables = make_tables(asking.connection, r, watched)
-    known = {table.name for table in tables if table.kind == "plain"}
-    asking.connection.execute(f"SET safebound.estimates = bound; SET plan_cache_mode = {r.choice(['force_generic_plan', 'auto'])}")
+    known = {table.name for table in tables if table.kind in ("plain", *PARTITIONED)}
+    asking.connection.execute(f"SET plan_cache_mode = {r.choice(['force_generic_plan', 'auto'])}")
+    asking.connection.execute("SET safebound.estimates = bound")
     for method in ("hashjoin", "mergejoin", "nestloop"):
         asking.connection.execute(f"SET enable_{method} = {r.choice(['on', 'on', 'off'])}")
     writers = [Writer(url, r.randrange(1 << 30), tables, watched) for _ in range(WRITERS)]
@@ -218,7 +221,8 @@ def main() -> int:
         asking = Asking(connection, r, watched)
         for _ in range(sets):
             written += one_set(words[0], asking, r, watched, queries)
-    print(", ".join(f"{name} {count}" for name, count in sorted(asking.seen.items())), "|", ", ".join(f"{name} {count}" for name, count in sorted(written.items())))
+    for counts in (asking.seen, written):
+        print(", ".join(f"{name} {count}" for name, count in sorted(counts.items())))
     under, joins = asking.seen["under"], asking.seen["snapshot joins"] + asking.seen["budget joins"]
     if not watched:
         return 0 if under else 1

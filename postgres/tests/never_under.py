@@ -3,9 +3,9 @@
     postgres/tests/never_under.py URL [SEED [TABLES [QUERIES]]]
 
 The server at URL has the extension installed. For each of TABLES sets of tables QUERIES queries are planned with
-safebound.estimates = bound and run by EXPLAIN ANALYZE, which counts the rows of each node. Tables are plain, partitioned or
-have children; queries read them alone, by a view, a subquery or WITH. Where a join reads what isn't known, PostgreSQL's own
-number stands, and isn't looked at.
+safebound.estimates = bound and run by EXPLAIN ANALYZE, which counts the rows of each node. Tables are plain,
+partitioned or have children; queries read them alone, by a view, a subquery or WITH. Where a join reads what isn't
+known, PostgreSQL's own number stands, and isn't looked at.
 """
 
 from __future__ import annotations
@@ -13,8 +13,14 @@ from __future__ import annotations
 import json
 import random
 import sys
+from collections.abc import Iterator
+from typing import Any, Dict
 
 import psycopg
+
+Connection = psycopg.Connection[Any]
+# A node of a plan, as EXPLAIN tells it.
+Plan = Dict[str, Any]
 
 # Types whose values compare across columns, with a text for a small number.
 TYPES = {
@@ -30,11 +36,15 @@ TYPES = {
 COMPARABLE = [["integer", "bigint", "small"], ["text", "varchar(9)"], ['text COLLATE "C"'], ["caseless"], ["numeric"]]
 JOINS = ("Nested Loop", "Hash Join", "Merge Join")
 SCANS = ("Seq Scan", "Index Scan", "Index Only Scan", "Bitmap Heap Scan")
+# A partitioned table is read by its parts.
+APPENDS = ("Append", "Merge Append")
 # What stands between a join and the tables below it without other rows of its own.
 PASSES = ("Hash", "Sort", "Incremental Sort", "Materialize", "Memoize", "Bitmap Index Scan", "BitmapOr", "BitmapAnd")
 # Of more outer and semi-joins no join is bounded.
 MOST_SPECIAL_JOINS = 6
 KINDS = ("plain", "plain", "plain", "hash", "list", "children")
+# These have no rows but those of their parts, and statistics as a whole.
+PARTITIONED = ("hash", "list")
 PRELUDE = """
 CREATE EXTENSION IF NOT EXISTS safebound;
 CREATE COLLATION IF NOT EXISTS caseless (provider = icu, locale = 'und-u-ks-level2', deterministic = false);
@@ -64,7 +74,11 @@ class Table:
             return []
         return [f"{self.name}_{i}" for i in range(2)]
 
-    def create(self, connection: psycopg.Connection) -> None:
+    def listed(self, part: int) -> str:
+        """The values of a part by lists: one value and NULL, and all others."""
+        return "DEFAULT" if part else f"FOR VALUES IN (NULL, {TYPES[self.columns[0]].format(n=0, zeros='0', case='v')})"
+
+    def create(self, connection: Connection) -> None:
         columns = ", ".join(f"c{i} {of}" for i, of in enumerate(self.columns))
         by = {"hash": " PARTITION BY HASH (c0)", "list": " PARTITION BY LIST (c0)"}.get(self.kind, "")
         connection.execute(f"DROP TABLE IF EXISTS {self.name} CASCADE")
@@ -72,33 +86,35 @@ class Table:
         for i, part in enumerate(self.parts()):
             of = {
                 "hash": f"PARTITION OF {self.name} FOR VALUES WITH (MODULUS 2, REMAINDER {i})",
-                "list": f"PARTITION OF {self.name} " + ("DEFAULT" if i else f"FOR VALUES IN (NULL, {TYPES[self.columns[0]].format(n=0, zeros='0', case='v')})"),
+                "list": f"PARTITION OF {self.name} {self.listed(i)}",
                 "children": f"() INHERITS ({self.name})",
             }[self.kind]
             connection.execute(f"CREATE TABLE {part} {of}")
         connection.execute(f"CREATE VIEW {self.name}_view AS SELECT * FROM {self.name}")
 
-    def make_key(self, connection: psycopg.Connection) -> None:
+    def make_key(self, connection: Connection) -> None:
         """The first column becomes the key: rows without a value there, and all but one of each value, go."""
-        connection.execute(f"DELETE FROM {self.name} a WHERE c0 IS NULL OR EXISTS (SELECT FROM {self.name} b WHERE a.c0 = b.c0 AND a.ctid < b.ctid)")
+        again = f"EXISTS (SELECT FROM {self.name} b WHERE a.c0 = b.c0 AND a.ctid < b.ctid)"
+        connection.execute(f"DELETE FROM {self.name} a WHERE c0 IS NULL OR {again}")
         connection.execute(f"ALTER TABLE {self.name} ADD PRIMARY KEY (c0)")
         self.has_key = True
 
-    def refer(self, connection: psycopg.Connection, other: Table) -> None:
+    def refer(self, connection: Connection, other: Table) -> None:
         """Each column of the other one's type refers to its key: other values go."""
         for i, of in enumerate(self.columns):
             if other.has_key and of == other.columns[0] and (i > 0 or not self.has_key):
-                connection.execute(f"UPDATE {self.name} SET c{i} = NULL WHERE NOT EXISTS (SELECT FROM {other.name} o WHERE o.c0 = {self.name}.c{i})")
+                there = f"EXISTS (SELECT FROM {other.name} o WHERE o.c0 = {self.name}.c{i})"
+                connection.execute(f"UPDATE {self.name} SET c{i} = NULL WHERE NOT {there}")
                 connection.execute(f"ALTER TABLE {self.name} ADD FOREIGN KEY (c{i}) REFERENCES {other.name}")
 
-    def make(self, connection: psycopg.Connection, others: list[Table]) -> None:
+    def make(self, connection: Connection, others: list[Table]) -> None:
         r = self.r
         self.create(connection)
         rows = r.choice([0, 1, 10, 40, 120, 400])
         nulls = [r.choice([0, 0, 0.2, 0.9]) for _ in self.columns]
         if rows:
-            tuples = (f"({', '.join(value(r, of, d, n) for of, d, n in zip(self.columns, self.distinct, nulls))})" for _ in range(rows))
-            connection.execute(f"INSERT INTO {self.name} VALUES {', '.join(tuples)}")
+            tuples = (", ".join(value(r, *of) for of in zip(self.columns, self.distinct, nulls)) for _ in range(rows))
+            connection.execute(f"INSERT INTO {self.name} VALUES ({'), ('.join(tuples)})")
             if self.kind == "children":
                 connection.execute(f"INSERT INTO {self.name}_0 SELECT * FROM ONLY {self.name} LIMIT 30")
         if self.kind == "plain" and r.random() < 0.5:
@@ -107,9 +123,9 @@ class Table:
             self.refer(connection, other)
         if r.random() < 0.5:
             connection.execute(f"CREATE INDEX ON {self.name} (c{r.randrange(len(self.columns))})")
-        for kept in self.parts() + ([] if self.kind in ("hash", "list") else [self.name]):
-            options = f"common => {r.choice([0, 1, 3, 100])}, ranges => {r.choice([0, 1, 3, 64])}, accuracy => {r.choice([1, 2, 8, 64])}"
-            connection.execute(f"SELECT safebound.keep('{kept}', {options})")
+        for kept in [self.name, *self.parts()]:
+            some = f"common => {r.choice([0, 1, 3, 100])}, ranges => {r.choice([0, 1, 3, 64])}"
+            connection.execute(f"SELECT safebound.keep('{kept}', {some}, accuracy => {r.choice([1, 2, 8, 64])})")
 
     def read(self, alias: str, alone: set[str]) -> str:
         """What stands in FROM for the table, without its alias, which is noted where a part is read alone."""
@@ -119,12 +135,17 @@ class Table:
             return self.r.choice(parts)
         if self.bare:
             return self.name
-        return self.r.choice([self.name, self.name, self.name, f"{self.name}_view", f"(SELECT * FROM {self.name})", f"(SELECT DISTINCT * FROM {self.name})", f"with_{self.name}"])
+        subqueries = [f"(SELECT * FROM {self.name})", f"(SELECT DISTINCT * FROM {self.name})"]
+        return self.r.choice([*3 * [self.name], f"{self.name}_view", *subqueries, f"with_{self.name}"])
 
 
 def condition(r: random.Random, alias: str, table: Table) -> str:
     i = r.randrange(len(table.columns))
-    column, one = f"{alias}.c{i}", lambda: value(r, table.columns[i], table.distinct[i] + 2, 0)
+    column = f"{alias}.c{i}"
+
+    def one() -> str:
+        return value(r, table.columns[i], table.distinct[i] + 2, 0)
+
     kind = r.randrange(11)
     if kind == 0:
         return f"{column} IN ({', '.join(one() for _ in range(r.randint(1, 4)))})"
@@ -155,7 +176,8 @@ def equality(r: random.Random, left: tuple[str, Table], right: tuple[str, Table]
     ]
     if not pairs:
         return "true"
-    return " AND ".join(f"{left[0]}.c{i} = {right[0]}.c{j}" for i, j in r.sample(pairs, min(len(pairs), r.choice([1, 1, 2]))))
+    some = r.sample(pairs, min(len(pairs), r.choice([1, 1, 2])))
+    return " AND ".join(f"{left[0]}.c{i} = {right[0]}.c{j}" for i, j in some)
 
 
 def with_tables(r: random.Random, tables: list[Table]) -> str:
@@ -169,7 +191,8 @@ def leaf(r: random.Random, number: int, tables: list[Table], alone: set[str]) ->
     text = f"{table.read(alias, alone)} {alias}"
     if r.random() < 0.15:
         within, other = f"s{number}", r.choice(tables)
-        partner = f"SELECT FROM {other.read(within, alone)} {within} WHERE {equality(r, (alias, table), (within, other))}"
+        read, on = other.read(within, alone), equality(r, (alias, table), (within, other))
+        partner = f"SELECT FROM {read} {within} WHERE {on}"
         text = f"(SELECT {alias}.* FROM {text} WHERE {r.choice(['', 'NOT '])}EXISTS ({partner})) {alias}"
     return text, [(alias, table)]
 
@@ -178,7 +201,9 @@ def is_null(r: random.Random, entry: tuple[str, Table]) -> str:
     return f"{entry[0]}.c{r.randrange(len(entry[1].columns))} IS NULL"
 
 
-def outer_joins(r: random.Random, numbers: range, tables: list[Table], alone: set[str]) -> tuple[str, list[tuple[str, Table]]]:
+def outer_joins(
+    r: random.Random, numbers: range, tables: list[Table], alone: set[str]
+) -> tuple[str, list[tuple[str, Table]]]:
     """Joins of any shape, most of them outer ones, and the tables that they join."""
     if len(numbers) == 1:
         return leaf(r, numbers[0], tables, alone)
@@ -193,12 +218,17 @@ def outer_joins(r: random.Random, numbers: range, tables: list[Table], alone: se
     return f"({left} {kind} {right} ON {on})", lefts + rights
 
 
+def where(conditions: list[str]) -> str:
+    return f" WHERE {' AND '.join(conditions)}" if conditions else ""
+
+
 def special_joins(text: str) -> int:
     return sum(text.count(words) for words in ("LEFT JOIN", "RIGHT JOIN", "FULL JOIN", "EXISTS"))
 
 
 def outer_query(r: random.Random, tables: list[Table]) -> tuple[str, set[str]]:
-    """Outer joins above each other under conditions on sides that may be missing, and the aliases of the parts that it reads alone."""
+    """Outer joins above each other under conditions on sides that may be missing, and the aliases of the parts that it
+    reads alone."""
     alone: set[str] = set()
     text, visible = outer_joins(r, range(r.randint(3, 6)), tables, alone)
     room = MOST_SPECIAL_JOINS - special_joins(text)
@@ -208,10 +238,11 @@ def outer_query(r: random.Random, tables: list[Table]) -> tuple[str, set[str]]:
     for i in range(min(room, r.choice([0, 0, 1, 2]))):
         table = r.choice(tables)
         on = equality(r, r.choice(visible), (f"e{i}", table))
-        wheres.append(f"{r.choice(['', 'NOT ', 'NOT '])}EXISTS (SELECT FROM {table.read(f'e{i}', alone)} e{i} WHERE {on})")
+        there = f"EXISTS (SELECT FROM {table.read(f'e{i}', alone)} e{i} WHERE {on})"
+        wheres.append(r.choice(["", "NOT ", "NOT "]) + there)
     if r.random() < 0.3:
         wheres.append(condition(r, *r.choice(visible)))
-    return f"{with_tables(r, tables)} SELECT 1 FROM {text}" + (f" WHERE {' AND '.join(wheres)}" if wheres else ""), alone
+    return f"{with_tables(r, tables)} SELECT 1 FROM {text}{where(wheres)}", alone
 
 
 def query(r: random.Random, tables: list[Table]) -> tuple[str, set[str]]:
@@ -226,79 +257,114 @@ def query(r: random.Random, tables: list[Table]) -> tuple[str, set[str]]:
         kind = r.choice(["JOIN", "JOIN", "JOIN", "LEFT JOIN", "RIGHT JOIN", "FULL JOIN", "EXISTS", "NOT EXISTS"])
         if kind.endswith("EXISTS"):
             more = f" AND {condition(r, *entry)}" if r.random() < 0.3 else ""
-            wheres.append(f"{kind} (SELECT FROM {entry[1].read(entry[0], alone)} {entry[0]} WHERE {on}{more})")
+            read = entry[1].read(entry[0], alone)
+            wheres.append(f"{kind} (SELECT FROM {read} {entry[0]} WHERE {on}{more})")
             continue
         if kind != "FULL JOIN" and r.random() < 0.3:
             on += f" AND {condition(r, *r.choice([entry, r.choice(visible)]))}"
         text = f"({text} {kind} {entry[1].read(entry[0], alone)} {entry[0]} ON {on})"
         visible.append(entry)
     wheres += [condition(r, *r.choice(visible)) for _ in range(r.choice([0, 1, 1, 2]))]
-    return f"{with_tables(r, tables)} SELECT 1 FROM {text}" + (f" WHERE {' AND '.join(wheres)}" if wheres else ""), alone
+    return f"{with_tables(r, tables)} SELECT 1 FROM {text}{where(wheres)}", alone
 
 
-def is_known(plan: dict, known: set[str]) -> bool:
+def is_known(plan: Plan, known: set[str]) -> bool:
     """Whether a plan reads known tables alone, and joins them and does nothing else.
 
-    Known are names of plain tables, and aliases by which a part is read alone. A part that is read as one of a whole is
-    PostgreSQL's to estimate.
+    Known are names of plain and of partitioned tables, and aliases by which a part is read alone.
     """
     if plan["Node Type"] in SCANS:
-        return plan["Relation Name"] in known or plan["Alias"] in known
+        name = plan["Relation Name"]
+        return name in known or name.rpartition("_")[0] in known or plan["Alias"] in known
     below = [part for part in plan.get("Plans", []) if part["Parent Relationship"] in ("Outer", "Inner", "Member")]
-    return plan["Node Type"] in (*JOINS, *PASSES) and all(is_known(part, known) for part in below)
+    return plan["Node Type"] in (*JOINS, *PASSES, *APPENDS) and all(is_known(part, known) for part in below)
 
 
-def nodes(plan: dict, known: set[str], repeated: bool = False):
-    """The scans and joins whose bound stands for all of their rows: not those that are repeated for each row of others."""
+def nodes(plan: Plan, known: set[str], repeated: bool = False) -> Iterator[Plan]:
+    """The scans and joins whose bound stands for all of their rows, which aren't repeated for each row of others. Parts
+    that are read together have one bound, as a whole."""
     kind = plan["Node Type"]
-    if not repeated and plan["Actual Loops"] == 1 and kind in (*JOINS, *SCANS) and is_known(plan, known):
+    if not repeated and plan["Actual Loops"] == 1 and kind in (*JOINS, *SCANS, *APPENDS) and is_known(plan, known):
         yield plan
+    if kind in APPENDS:
+        return
     for below in plan.get("Plans", []):
-        yield from nodes(below, known, repeated or (kind == "Nested Loop" and below["Parent Relationship"] == "Inner"))
+        inner = kind == "Nested Loop" and below["Parent Relationship"] == "Inner"
+        yield from nodes(below, known, repeated or inner)
+
+
+# A query that isn't run: it takes too long, or compares what has no equality.
+NOT_RUN = (psycopg.errors.QueryCanceled, psycopg.errors.FeatureNotSupported, psycopg.errors.UndefinedFunction,
+           psycopg.errors.DatatypeMismatch)
+
+
+class Counting:
+    """The session that asks, and what it counted."""
+
+    def __init__(self, connection: Connection, r: random.Random, told: str) -> None:
+        self.connection, self.r, self.told = connection, r, told
+        self.queries = self.failed = self.scans = self.under = 0
+        self.tight: list[float] = []
+
+    def node(self, node: Plan, text: str) -> None:
+        if node["Node Type"] in JOINS:
+            self.tight.append(node["Plan Rows"] / max(1, node["Actual Rows"]))
+        else:
+            self.scans += 1
+        if node["Actual Rows"] > node["Plan Rows"]:
+            self.under += 1
+            print(f"{self.told}: {node['Node Type']} has {node['Actual Rows']} rows, not {node['Plan Rows']}: {text}")
+
+    def ask(self, text: str, known: set[str]) -> None:
+        self.queries += 1
+        try:
+            row = self.connection.execute(f"EXPLAIN (ANALYZE, TIMING OFF, FORMAT JSON) {text}").fetchone()
+        except NOT_RUN as error:
+            self.failed += 1
+            if "-v" in sys.argv:
+                print(text, error)
+            return
+        assert row is not None
+        before = self.under
+        for node in nodes(row[0][0]["Plan"], known):
+            self.node(node, text)
+        if self.under > before and "-v" in sys.argv:
+            raise SystemExit(json.dumps(row[0], indent=1))
+
+    def one_set(self, queries: int) -> None:
+        """New tables, and queries over them."""
+        self.connection.execute("SET safebound.estimates = off")
+        tables = [Table(self.r, f"nu{i}") for i in range(3)]
+        for i, table in enumerate(tables):
+            table.make(self.connection, tables[:i])
+        self.connection.execute("ANALYZE nu0, nu1, nu2; SET safebound.estimates = bound")
+        known = {table.name for table in tables if table.kind in ("plain", *PARTITIONED)}
+        for method in ("hashjoin", "mergejoin", "nestloop"):
+            self.connection.execute(f"SET enable_{method} = {self.r.choice(['on', 'on', 'off'])}")
+        for _ in range(queries):
+            text, alone = query(self.r, tables)
+            self.ask(text, known | alone)
+
+    def said(self) -> str:
+        tight = sorted(self.tight) or [0]
+        return (
+            f"{self.queries - self.failed} queries ({self.failed} not run), {self.scans} scans and "
+            f"{len(self.tight)} joins, {self.under} under; bound by rows of a join: "
+            f"median {tight[len(tight) // 2]:.2f}, 90th percentile {tight[len(tight) * 9 // 10]:.1f}"
+        )
 
 
 def main() -> int:
-    url = sys.argv[1]
     numbers = [int(word) for word in sys.argv[2:5]]
     seed, sets, queries = numbers + [1, 20, 40][len(numbers) :]
-    r = random.Random(seed)
-    under = joins = scans = failed = 0
-    tight: list[float] = []
-    with psycopg.connect(url, autocommit=True) as connection:
+    with psycopg.connect(sys.argv[1], autocommit=True) as connection:
         connection.execute(PRELUDE)
         connection.execute("SET jit = off; SET max_parallel_workers_per_gather = 0; SET statement_timeout = '1s'")
+        counting = Counting(connection, random.Random(seed), f"seed {seed}")
         for _ in range(sets):
-            tables = [Table(r, f"nu{i}") for i in range(3)]
-            for i, table in enumerate(tables):
-                table.make(connection, tables[:i])
-            connection.execute("ANALYZE nu0, nu1, nu2; SET safebound.estimates = bound")
-            known = {table.name for table in tables if table.kind == "plain"}
-            for method in ("hashjoin", "mergejoin", "nestloop"):
-                connection.execute(f"SET enable_{method} = {r.choice(['on', 'on', 'off'])}")
-            for _ in range(queries):
-                text, alone = query(r, tables)
-                try:
-                    told = connection.execute(f"EXPLAIN (ANALYZE, TIMING OFF, FORMAT JSON) {text}").fetchone()[0]
-                except (psycopg.errors.QueryCanceled, psycopg.errors.FeatureNotSupported, psycopg.errors.UndefinedFunction, psycopg.errors.DatatypeMismatch) as error:
-                    failed += 1
-                    if "-v" in sys.argv:
-                        print(text, error)
-                    continue
-                for node in nodes(told[0]["Plan"], known | alone):
-                    if node["Node Type"] in JOINS:
-                        joins += 1
-                        tight.append(node["Plan Rows"] / max(1, node["Actual Rows"]))
-                    else:
-                        scans += 1
-                    if node["Actual Rows"] > node["Plan Rows"]:
-                        under += 1
-                        if "-v" in sys.argv:
-                            print(text, json.dumps(told, indent=1))
-                            return 1
-                        print(f"seed {seed}: {node['Node Type']} has {node['Actual Rows']} rows, bound {node['Plan Rows']}: {text}")
-    tight.sort()
-    print(f"{sets * queries - failed} queries ({failed} not run), {scans} scans and {joins} joins, {under} under; bound by rows of a join: median {tight[len(tight) // 2]:.2f}, 90th percentile {tight[len(tight) * 9 // 10]:.1f}")
-    return 1 if under or not joins else 0
+            counting.one_set(queries)
+    print(counting.said())
+    return 1 if counting.under or not counting.tight else 0
 
 
 if __name__ == "__main__":

@@ -2,7 +2,8 @@
 
     postgres/tests/sanitized.py
 
-PostgreSQL itself isn't built so: what is seen is the extension's stack and globals, and memory that it or the library takes by malloc.
+PostgreSQL itself isn't built so: what is seen is the extension's stack and globals, and memory that it or the library
+takes by malloc.
 """
 
 from __future__ import annotations
@@ -24,13 +25,16 @@ FLAGS = "-fno-sanitize=alignment -fno-sanitize-recover=undefined"
 
 
 def library() -> str:
-    return subprocess.run(["gcc", "-print-file-name=libasan.so"], check=True, text=True, stdout=subprocess.PIPE).stdout.strip()
+    words = ["gcc", "-print-file-name=libasan.so"]
+    return subprocess.run(words, check=True, text=True, stdout=subprocess.PIPE).stdout.strip()
 
 
 def starts(preload: dict[str, str]) -> bool:
-    """Whether PostgreSQL comes up below AddressSanitizer. It may hang in a library of the machine's, long before the extension."""
+    """Whether PostgreSQL comes up below AddressSanitizer. It may hang in a library of the machine's, long before the
+    extension."""
     try:
-        return subprocess.run(["postgres", "-V"], stdout=subprocess.DEVNULL, env={**os.environ, **preload}, timeout=30).returncode == 0
+        done = subprocess.run(["postgres", "-V"], stdout=subprocess.DEVNULL, env={**os.environ, **preload}, timeout=30)
+        return done.returncode == 0
     except subprocess.TimeoutExpired:
         return False
 
@@ -46,9 +50,10 @@ def main() -> int:
         preload = {"LD_PRELOAD": library(), "ASAN_OPTIONS": "detect_leaks=0:abort_on_error=1"}
         whole = starts(preload)
         if not whole:
-            print("PostgreSQL doesn't start below AddressSanitizer here: only undefined behaviour is looked for", flush=True)
+            print("PostgreSQL doesn't start below AddressSanitizer: only undefined behaviour is looked for", flush=True)
+        options = f"COPT=-fsanitize={'address,' if whole else ''}undefined {FLAGS}"
         for target in ("all", "install"):
-            subprocess.run(["make", "-s", "-C", str(folder), f"COPT=-fsanitize={'address,' if whole else ''}undefined {FLAGS}", target], check=True)
+            subprocess.run(["make", "-s", "-C", str(folder), options, target], check=True)
         os.environ.update(preload if whole else {})
         with Alone(SETTINGS) as server:
             reach = {**os.environ, "PGHOST": server.folder, "PGUSER": "postgres", "LD_PRELOAD": ""}

@@ -10,17 +10,18 @@ import subprocess
 import sys
 import time
 import unittest
+from typing import Any
 
 import psycopg
 
 sys.dont_write_bytecode = True
 HERE = os.path.dirname(os.path.abspath(__file__))
 sys.path[:0] = [os.path.join(HERE, "..")]
-from installed import Installed
-from server import programs
+from installed import Alone, Installed, programs
 
 # No library in each session: tests say themselves where it is loaded.
-SETTINGS = ("session_preload_libraries=", "wal_level=logical", "max_prepared_transactions=2", "wal_receiver_status_interval=1")
+SETTINGS = ("session_preload_libraries=", "wal_level=logical", "max_prepared_transactions=2",
+            "wal_receiver_status_interval=1")
 JOIN = "SELECT count(*) FROM r JOIN s USING (x)"
 MADE = """
 CREATE EXTENSION IF NOT EXISTS safebound;
@@ -31,6 +32,9 @@ CREATE TABLE s (x integer);
 INSERT INTO s SELECT i % 10 FROM generate_series(1, 100) AS i;
 SELECT safebound.watch('r'), safebound.watch('s');
 """
+
+
+server: Alone
 
 
 def setUpModule() -> None:
@@ -47,8 +51,10 @@ class Connected(unittest.TestCase):
         # The settings of a role are there before the library is.
         self.owner.execute("LOAD 'safebound'")
 
-    def connect(self, user: str = "postgres", database: str = "postgres", options: str = "") -> psycopg.Connection:
-        connection = psycopg.connect(server.url, user=user, dbname=database, options=options, autocommit=True, prepare_threshold=None)
+    def connect(self, user: str = "postgres", database: str = "postgres", options: str = "") -> psycopg.Connection[Any]:
+        connection = psycopg.connect(
+            server.url, user=user, dbname=database, options=options, autocommit=True, prepare_threshold=None
+        )
         self.addCleanup(connection.close)
         return connection
 
@@ -59,7 +65,9 @@ class Connected(unittest.TestCase):
             self.owner.execute(f"ALTER ROLE asker SET {setting}")
         return "asker"
 
-    def refused(self, connection: psycopg.Connection, statement: str = JOIN, state: str = "SB001") -> psycopg.Error:
+    def refused(
+        self, connection: psycopg.Connection[Any], statement: str = JOIN, state: str = "SB001"
+    ) -> psycopg.Error:
         with self.assertRaises(psycopg.Error) as caught:
             connection.execute(statement)
         self.assertEqual(caught.exception.sqlstate, state)
@@ -103,7 +111,9 @@ class Loaded(Connected):
 
 class Running(Connected):
     def test_parallel_workers_dont_ask_again(self) -> None:
-        self.owner.execute("SET parallel_setup_cost = 0; SET parallel_tuple_cost = 0; SET min_parallel_table_scan_size = 0; SET force_parallel_mode = on")
+        for setting in ("parallel_setup_cost = 0", "parallel_tuple_cost = 0", "min_parallel_table_scan_size = 0"):
+            self.owner.execute(f"SET {setting}")
+        self.owner.execute("SET force_parallel_mode = on")
         self.owner.execute("SET safebound.budget = 10000")
         told = self.owner.execute(f"EXPLAIN (ANALYZE, FORMAT JSON) {JOIN}").fetchone()
         self.assertIn("'Workers Launched': ", str(told))
@@ -159,16 +169,19 @@ class Running(Connected):
 class Restored(Connected):
     def test_a_dump(self) -> None:
         """Statistics aren't dumped: what is restored isn't known, takes rows, and is watched anew."""
-        dump = subprocess.run([os.path.join(programs(), "pg_dump"), server.url], check=True, capture_output=True, text=True).stdout
+        words = [os.path.join(programs() or "", "pg_dump"), server.url]
+        dump = subprocess.run(words, check=True, capture_output=True, text=True).stdout
         self.assertIn("safebound_insert", dump)
         self.owner.execute("CREATE DATABASE restored")
         self.addCleanup(self.owner.execute, "DROP DATABASE restored")
         restored = server.url.replace("/postgres?", "/restored?")
-        subprocess.run(["psql", "-q", "-v", "ON_ERROR_STOP=1", restored], input=dump, check=True, text=True, stdout=subprocess.DEVNULL)
+        words = ["psql", "-q", "-v", "ON_ERROR_STOP=1", restored]
+        subprocess.run(words, input=dump, check=True, text=True, stdout=subprocess.DEVNULL)
         connection = self.connect(database="restored")
         self.addCleanup(connection.close)
         connection.execute("LOAD 'safebound'; INSERT INTO r VALUES (1); SET safebound.budget = 1000000")
-        self.assertEqual(connection.execute("SELECT (SELECT count(*) FROM safebound.kept), (SELECT count(*) FROM safebound.kept_delta)").fetchone(), (0, 0))
+        counts = "SELECT (SELECT count(*) FROM safebound.kept), (SELECT count(*) FROM safebound.kept_delta)"
+        self.assertEqual(connection.execute(counts).fetchone(), (0, 0))
         self.refused(connection, state="SB002")
         connection.execute("SELECT safebound.watch('r'), safebound.watch('s')")
         self.assertEqual(connection.execute(JOIN).fetchone(), (10010,))
@@ -178,10 +191,12 @@ class Elsewhere(Connected):
     def test_a_join_that_a_foreign_server_makes(self) -> None:
         self.owner.execute("CREATE EXTENSION postgres_fdw")
         self.addCleanup(self.owner.execute, "DROP EXTENSION postgres_fdw CASCADE")
-        self.owner.execute(f"CREATE SERVER itself FOREIGN DATA WRAPPER postgres_fdw OPTIONS (host '{server.folder}', dbname 'postgres')")
+        options = f"OPTIONS (host '{server.folder}', dbname 'postgres')"
+        self.owner.execute(f"CREATE SERVER itself FOREIGN DATA WRAPPER postgres_fdw {options}")
         self.owner.execute("CREATE USER MAPPING FOR postgres SERVER itself OPTIONS (user 'postgres')")
         for name in ("r", "s"):
-            self.owner.execute(f"CREATE FOREIGN TABLE far_{name} (x integer) SERVER itself OPTIONS (table_name '{name}')")
+            options = f"OPTIONS (table_name '{name}')"
+            self.owner.execute(f"CREATE FOREIGN TABLE far_{name} (x integer) SERVER itself {options}")
         join = "SELECT far_r.x FROM far_r JOIN far_s USING (x)"
         # No local join is left in the plan.
         self.assertNotIn("Hash", str(self.owner.execute(f"EXPLAIN {join}").fetchall()))
@@ -212,13 +227,27 @@ class Replicated(Connected):
 
     def test_what_a_replica_applies(self) -> None:
         self.subscriber.execute("SELECT safebound.watch('r')")
+        self.applied()
+
+    def test_what_a_replica_applies_to_parts(self) -> None:
+        """Rows come to the whole there, and are put into a part."""
+        self.subscriber.execute("DROP TABLE r; CREATE TABLE r (x integer) PARTITION BY HASH (x)")
+        for i in range(2):
+            values = f"VALUES WITH (MODULUS 2, REMAINDER {i})"
+            self.subscriber.execute(f"CREATE TABLE r_{i} PARTITION OF r FOR {values}")
+        self.subscriber.execute("SELECT safebound.watch('r')")
+        self.applied()
+
+    def applied(self) -> None:
         where = f"host={server.folder} port=5432 user=postgres dbname=postgres"
-        self.subscriber.execute(f"CREATE SUBSCRIPTION u CONNECTION '{where}' PUBLICATION p WITH (create_slot = false, slot_name = 'one', copy_data = false)")
+        options = "create_slot = false, slot_name = 'one', copy_data = false"
+        self.subscriber.execute(f"CREATE SUBSCRIPTION u CONNECTION '{where}' PUBLICATION p WITH ({options})")
         self.addCleanup(self.subscriber.execute, "DROP SUBSCRIPTION u")
-        self.assertEqual(self.subscriber.execute("SELECT known FROM safebound.kept WHERE \"table\" = 'r'::regclass").fetchone(), (True,))
+        known = "SELECT known FROM safebound.kept WHERE \"table\" = 'r'::regclass"
+        self.assertEqual(self.subscriber.execute(known).fetchone(), (True,))
         self.owner.execute("INSERT INTO r VALUES (5), (5)")
         self.wait("SELECT count(*) = 2 FROM r")
-        self.assertEqual(self.subscriber.execute("SELECT known FROM safebound.kept WHERE \"table\" = 'r'::regclass").fetchone(), (False,))
+        self.assertEqual(self.subscriber.execute(known).fetchone(), (False,))
         self.subscriber.execute("LOAD 'safebound'; SET safebound.budget = 1000000")
         self.refused(self.subscriber, state="SB002")
         self.subscriber.execute("SELECT safebound.watch('r')")
