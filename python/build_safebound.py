@@ -1,8 +1,11 @@
-"""Builds the package as a wheel and as a source archive (the build backend of pyproject.toml), with the standard library alone.
+"""Builds the package as a wheel and as a source archive (the build backend of pyproject.toml).
 
-A wheel has the shared objects beside the package. They come from the folder that SAFEBOUND_LIBRARY_DIR names, and then from no other;
-from where `make library` and `make command` leave them, in a clone; or from where pkg-config finds this version, as `make install`
-lays it. Where that folder has an archive alone, the C compiler makes the shared object of it.
+It needs the standard library alone.
+
+A wheel has the shared objects beside the package. They come from the folder that SAFEBOUND_LIBRARY_DIR names, and then
+from no other; from where `make library` and `make command` leave them, in a clone; or from where pkg-config finds this
+version, as `make install` lays it. Where that folder has an archive alone, the C compiler makes the shared object of
+it.
 
 A source archive has the package and this file. It builds where one of these folders has the library.
 """
@@ -46,7 +49,8 @@ def read(*path):
 def place_of(name):
     """Where a file of the project lies: in a source archive beside this file, and in a clone in a folder of its own."""
     beside = os.path.join(HERE, name)
-    return beside if os.path.isfile(beside) else os.path.join(HERE, "..", {"safebound.map": "library"}.get(name, ""), name)
+    above = {"safebound.map": "library"}.get(name, "")
+    return beside if os.path.isfile(beside) else os.path.join(HERE, "..", above, name)
 
 
 # ---- the library
@@ -55,7 +59,8 @@ def place_of(name):
 def files_of(folder, name):
     """The shared object and the archive of a library, as far as they are there."""
     ends = (".so", ".so." + VERSION.partition(".")[0]), (".a",)
-    return [next(filter(os.path.isfile, (os.path.join(folder, f"lib{name}{end}") for end in some)), None) for some in ends]
+    named = [[os.path.join(folder, f"lib{name}{end}") for end in some] for some in ends]
+    return [next(filter(os.path.isfile, paths), None) for paths in named]
 
 
 def installed():
@@ -73,7 +78,10 @@ def folder_of_library():
     found = next((folder for folder in folders if folder and any(files_of(folder, "safebound"))), None)
     if found is None:
         looked = ", ".join(os.path.normpath(folder) for folder in folders if folder)
-        raise RuntimeError(f"there is no libsafebound.so and no libsafebound.a in {looked}: make library, or name its folder by {VARIABLE}")
+        raise RuntimeError(
+            f"there is no libsafebound.so and no libsafebound.a in {looked}: "
+            f"make library, or name its folder by {VARIABLE}"
+        )
     return found
 
 
@@ -82,7 +90,8 @@ def linked(archive, name):
     with tempfile.TemporaryDirectory() as room:
         names, made = place_of("safebound.map"), os.path.join(room, "made.so")
         whole = ["-Wl,--whole-archive", archive, "-Wl,--no-whole-archive"]
-        own = [f"-Wl,-soname,lib{name}.so.{VERSION.partition('.')[0]}", f"-Wl,--version-script={names}", "-Wl,-z,defs", "-s"]
+        soname = f"lib{name}.so.{VERSION.partition('.')[0]}"
+        own = [f"-Wl,-soname,{soname}", f"-Wl,--version-script={names}", "-Wl,-z,defs", "-s"]
         subprocess.run([os.environ.get("CC", "cc"), "-shared", "-o", made, *whole, *own], check=True)
         return read(made)
 
@@ -125,7 +134,8 @@ def record(files):
 
 def write(folder, files):
     wheel = f"Wheel-Version: 1.0\nGenerator: build_safebound\nRoot-Is-Purelib: false\nTag: {tag()}\n"
-    files = {**files, f"{INFO}/METADATA": metadata(), f"{INFO}/WHEEL": wheel.encode(), f"{INFO}/LICENSE": read(place_of("LICENSE"))}
+    own = {"METADATA": metadata(), "WHEEL": wheel.encode(), "LICENSE": read(place_of("LICENSE"))}
+    files = {**files, **{f"{INFO}/{name}": data for name, data in own.items()}}
     files[f"{INFO}/RECORD"] = record(files)
     name = f"safebound-{VERSION}-{tag()}.whl"
     with zipfile.ZipFile(os.path.join(folder, name), "w", zipfile.ZIP_DEFLATED) as made:
@@ -145,7 +155,8 @@ def build_editable(wheel_directory, config_settings=None, metadata_directory=Non
 
 def build_sdist(sdist_directory, config_settings=None):
     root = f"safebound-{VERSION}"
-    own = {name: read(place_of(name)) for name in ("LICENSE", "README.md", "build_safebound.py", "pyproject.toml", "safebound.map")}
+    names = ("LICENSE", "README.md", "build_safebound.py", "pyproject.toml", "safebound.map")
+    own = {name: read(place_of(name)) for name in names}
     with tarfile.open(os.path.join(sdist_directory, root + ".tar.gz"), "w:gz") as made:
         for path, data in {**own, "PKG-INFO": metadata(), **sources()}.items():
             entry = tarfile.TarInfo(f"{root}/{path}")

@@ -1,7 +1,7 @@
 """Row bounds of joins that are never too low, and the best plans by them.
 
-Python's side of SafeBound's library. What is known of a query is how many rows each entry has at most, and how often the
-values of each joined column repeat:
+Python's side of SafeBound's library. What is known of a query is how many rows each entry has at most, and how often
+the values of each joined column repeat:
 
 >>> from safebound import Query, degree_sequence
 >>> query = Query(
@@ -14,18 +14,26 @@ values of each joined column repeat:
 9
 """
 
-from . import errors
 from ._library import VERSION as __version__
 from ._library import path, version
 from .bounds import Bounds
 from .command import Output, Plan, append_stats, plan_stats, run
-from .errors import *  # noqa: F401,F403
+from .errors import (
+    BadAccuracy, BadBounds, BadBudget, BadEntries, BadEqualities, BadEquality, BadJoinKind, BadKeys, BadLimit,
+    BadList, BadOtherRun, BadPlan, BadRows, BadRun, BadSum, BudgetExceeded, LibraryNotFound, MissingList,
+    OutOfMemory, PastBits, Refused, SafeBoundError, WorkExceeded, WrongType, WrongValue
+)
 from .joins import joined_rows
 from .lists import Run, Runs, append, compress, cut, degree_sequence, greater, lesser
 from .plans import Join, Order, Tree
 from .query import NO_VALUES, Column, Query
 
-__all__ = [name for name, value in vars(errors).items() if isinstance(value, type)]
+__all__ = [
+    "BadAccuracy", "BadBounds", "BadBudget", "BadEntries", "BadEqualities", "BadEquality", "BadJoinKind", "BadKeys",
+    "BadLimit", "BadList", "BadOtherRun", "BadPlan", "BadRows", "BadRun", "BadSum", "BudgetExceeded",
+    "LibraryNotFound", "MissingList", "OutOfMemory", "PastBits", "Refused", "SafeBoundError", "WorkExceeded",
+    "WrongType", "WrongValue"
+]
 __all__ += ["NO_VALUES", "Bounds", "Column", "Join", "Order", "Output", "Plan", "Query", "Run", "Runs", "Tree"]
 __all__ += ["__version__", "append", "append_stats", "compress", "cut", "degree_sequence", "greater", "joined_rows"]
 __all__ += ["lesser", "path", "plan_stats", "run", "version"]

@@ -55,7 +55,9 @@ WRONG = {
     Status.BAD_KEYS: (errors.BadKeys, "{} keys are more than 2**48"),
     Status.BAD_ACCURACY: (errors.BadAccuracy, "an accuracy is from 1 to 64, not {}"),
     Status.BAD_RUN: (errors.BadRun, "run {} is of nothing, rises, or sums to more than 2**48"),
-    Status.BAD_OTHER_RUN: (errors.BadOtherRun, "run {} of the second list is of nothing, rises, or sums to more than 2**48"),
+    Status.BAD_OTHER_RUN: (
+        errors.BadOtherRun, "run {} of the second list is of nothing, rises, or sums to more than 2**48"
+    ),
     Status.BAD_SUM: (errors.BadSum, "what both lists make has {} rows, more than 2**48"),
     Status.BAD_ENTRIES: (errors.BadEntries, "a query has 1 to 12 entries, not {}"),
     Status.BAD_ROWS: (errors.BadRows, "the row bound of entry {} isn't from 0 to 2**48"),
@@ -73,7 +75,7 @@ WRONG = {
 
 
 def _folders() -> Iterator[Path]:
-    """Where shared objects lie, that of this package first; each with the folder that it has for this machine, if there is one."""
+    """Where shared objects lie, this package first; each with the folder that it has for this machine, if any."""
     here = Path(__file__).resolve().parent
     yield here
     libraries = [folder for folder in here.parents if folder.name == "lib"]
@@ -108,8 +110,8 @@ def path() -> Path:
 
     It is looked for in this order: the file that the variable SAFEBOUND_LIBRARY names, and then no other; beside this
     package; in the folder lib that the package lies below, where `make install` lays it; in lib/ of Python's prefix, of
-    /usr/local and of /usr; and where `make library` leaves it, in a clone of the repository. In each lib the folder of this kind
-    of machine counts too, such as x86_64-linux-gnu.
+    /usr/local and of /usr; and where `make library` leaves it, in a clone of the repository. In each lib the folder of
+    this kind of machine counts too, such as x86_64-linux-gnu.
 
     Raises:
         LibraryNotFound: none is there.

@@ -42,7 +42,9 @@ class Bounds(Mapping[FrozenSet[str], Optional[int]]):
 
     def __getitem__(self, entries: Collection[str]) -> Optional[int]:
         if isinstance(entries, (str, bytes)) or not isinstance(entries, Collection):
-            raise WrongType(f"a set of entries is a collection of their names, such as {{{entries!r}}}, and not {entries!r}")
+            raise WrongType(
+                f"a set of entries is a collection of their names, such as {{{entries!r}}}, and not {entries!r}"
+            )
         return self._bound(sum(self._bit[entry] for entry in set(entries)))
 
     def _bound(self, number: int) -> Optional[int]:
@@ -71,7 +73,10 @@ class Bounds(Mapping[FrozenSet[str], Optional[int]]):
         return f"<Bounds {{{shown}}}{f' and {left} other sets' if left else ''}>"
 
     def __str__(self) -> str:
-        rows = [(", ".join(e for e in self.entries if e in self._names(number)), rows_text(self._bound(number))) for number in self._shown()]
+        rows = [
+            (", ".join(e for e in self.entries if e in self._names(number)), rows_text(self._bound(number)))
+            for number in self._shown()
+        ]
         left = len(self) - len(rows) - 1
         return table(["entries", "rows at most"], rows) + (f"\nand {left} other sets" if left else "")
 

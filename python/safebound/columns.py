@@ -69,7 +69,7 @@ def _of_pandas(values: object) -> Any:
 
 
 def _of_numpy(values: object) -> Any:
-    """An array of numbers or times of numpy as 64-bit numbers, without what is masked, NaN or NaT; None for other ones."""
+    """An array of numbers or times of numpy as 64-bit numbers, without what is masked, NaN or NaT; else None."""
     numpy = sys.modules.get("numpy")
     if numpy is None or not isinstance(values, numpy.ndarray):
         return None
@@ -99,7 +99,10 @@ def _listed(values: object) -> Iterable[object]:
 
 
 def _numbered(values: Iterable[object]) -> array[int]:
-    """A number for each value, the same one where they are equal. None, `pandas.NA` and what isn't equal to itself is no value."""
+    """A number for each value, the same one where they are equal.
+
+    None, `pandas.NA` and what isn't equal to itself is no value.
+    """
     absent = getattr(sys.modules.get("pandas"), "NA", None)
     numbers: dict[object, int] = {}
     keys = array("Q")
@@ -111,7 +114,9 @@ def _numbered(values: Iterable[object]) -> array[int]:
     except (TypeError, ValueError) as error:
         if _is_hashable(value):
             raise
-        raise WrongType(f"value {place} is of {type(value).__name__}, which isn't one value of a column: {error}") from error
+        raise WrongType(
+            f"value {place} is of {type(value).__name__}, which isn't one value of a column: {error}"
+        ) from error
     return keys
 
 
@@ -135,7 +140,8 @@ def _that_lie(values: object) -> Any:
     view = _view(values)
     if view is None or getattr(values, "mask", None) is not None:
         return None
-    fits = view.ndim == 1 and view.itemsize == 8 and view.format.lstrip("@=<") in ("q", "Q", "l", "L") and view.c_contiguous
+    is_flat = view.ndim == 1 and view.c_contiguous
+    fits = is_flat and view.itemsize == 8 and view.format.lstrip("@=<") in ("q", "Q", "l", "L")
     return _as_keys(view) if fits else None
 
 

@@ -46,13 +46,19 @@ def _library() -> ctypes.CDLL:
     if version != VERSION:
         raise errors.LibraryNotFound(f"{where} isn't of version {VERSION}")
     size, number = ctypes.c_size_t, ctypes.POINTER(ctypes.c_uint64)
-    found.safebound_command.argtypes = [ctypes.POINTER(_Text), size, ctypes.POINTER(_File), size, ctypes.c_char_p, size, ctypes.c_char_p, size, number, number]
+    found.safebound_command.argtypes = [
+        ctypes.POINTER(_Text), size, ctypes.POINTER(_File), size, ctypes.c_char_p, size, ctypes.c_char_p, size,
+        number, number
+    ]
     found.safebound_command.restype = ctypes.c_uint32
     return found
 
 
 def _text(value: Any, what: str) -> _Text:
-    """The bytes of a text where they lie. The structure keeps them. `bytes` would make a text of a list of numbers too."""
+    """The bytes of a text where they lie.
+
+    The structure keeps them. `bytes` would make a text of a list of numbers too.
+    """
     if not isinstance(value, (str, bytes, bytearray, memoryview)):
         raise errors.WrongType(f"{what} is {value!r:.60}, and not a text or bytes")
     held = value.encode("utf-8", "surrogateescape") if isinstance(value, str) else bytes(value)
@@ -74,8 +80,8 @@ def _files(files: Any) -> List[_File]:
 def run(words: Iterable[Text], files: Mapping[_Name, Text]) -> Output:
     """Runs the program over files in memory.
 
-    The words are those of its command line, without its own name; files go by the names by which words and tables ask for
-    them. Both texts, the statuses and the limits are the program's: docs/USING.md and docs/ERRORS.md say them.
+    The words are those of its command line, without its own name; files go by the names by which words and tables ask
+    for them. Both texts, the statuses and the limits are the program's: docs/USING.md and docs/ERRORS.md say them.
 
     >>> files = {
     ...     "schema.sql": "CREATE TABLE R (X INTEGER NOT NULL); CREATE TABLE S (X INTEGER NOT NULL)",
@@ -105,7 +111,10 @@ def run(words: Iterable[Text], files: Mapping[_Name, Text]) -> Output:
     while True:
         out, notes = ctypes.create_string_buffer(room), ctypes.create_string_buffer(notes_room)
         length, notes_length = ctypes.c_uint64(), ctypes.c_uint64()
-        status = call(word_array, len(given), file_array, len(named), out, room, notes, notes_room, ctypes.byref(length), ctypes.byref(notes_length))
+        status = call(
+            word_array, len(given), file_array, len(named), out, room, notes, notes_room,
+            ctypes.byref(length), ctypes.byref(notes_length)
+        )
         # A line that finds too little room is cut at any status.
         is_cut = notes_length.value == notes_room
         if not is_cut and not (status == WRITE_FAULT and length.value == room):
@@ -123,8 +132,8 @@ class Plan(NamedTuple):
 def plan_stats(schema: Text, query: Text, stats: Text, budget: Optional[SupportsIndex] = None) -> Plan:
     """Plans a query from the text of a statistics file, without tables.
 
-    The file is what `stats` writes, here or as a program. No bound of the plan is too low for the tables that the file was
-    made from, while their rows stay as they are.
+    The file is what `stats` writes, here or as a program. No bound of the plan is too low for the tables that the file
+    was made from, while their rows stay as they are.
 
     >>> schema = "CREATE TABLE R (X INTEGER NOT NULL)"
     >>> files = {"schema": schema, "query": "SELECT X FROM R", "r.csv": "X\\n1\\n2\\n"}
@@ -142,7 +151,8 @@ def plan_stats(schema: Text, query: Text, stats: Text, budget: Optional[Supports
         OutOfMemory: memory was wanting.
         LibraryNotFound: libsafebound_command.so isn't there, or is of another version.
     """
-    words = ["plan", "schema", "query", "--stats", "stats", *(["--budget", str(_budget(budget))] if budget is not None else [])]
+    words = ["plan", "schema", "query", "--stats", "stats"]
+    words += ["--budget", str(_budget(budget))] if budget is not None else []
     output = run(words, {"schema": schema, "query": query, "stats": stats})
     if output.status:
         raise _refusal(output)
@@ -154,8 +164,8 @@ def plan_stats(schema: Text, query: Text, stats: Text, budget: Optional[Supports
 def append_stats(schema: Text, stats: Text, table: str, rows: Text) -> bytes:
     """The text of a statistics file with new rows of one of its tables, without the rows that were there before.
 
-    Where the file stood for its tables, the new one stands for them with the new rows: no bound of a plan from it is too low
-    for the grown table. Keys are looked at among the new rows alone.
+    Where the file stood for its tables, the new one stands for them with the new rows: no bound of a plan from it is
+    too low for the grown table. Keys are looked at among the new rows alone.
 
     >>> schema = "CREATE TABLE R (X INTEGER NOT NULL)"
     >>> files = {"schema": schema, "query": "SELECT X FROM R", "r.csv": "X\\n1\\n2\\n"}

@@ -1,4 +1,4 @@
-"""What a call raises in place of an answer: one class for each status of the library, and one for the program's refusals."""
+"""What calls raise in place of an answer: a class for each status of the library, one for the program's refusals."""
 
 from __future__ import annotations
 
@@ -6,8 +6,8 @@ from __future__ import annotations
 class SafeBoundError(Exception):
     """What all errors of this package have in common.
 
-    Two are equal where they are of one class and say the same. `args` are what the class was called with, so that an error goes
-    whole from one process to another.
+    Two are equal where they are of one class and say the same. `args` are what the class was called with, so that an
+    error goes whole from one process to another.
     """
 
     def __eq__(self, other: object) -> bool:

@@ -27,11 +27,11 @@ def degree_sequence(values: Iterable[Hashable]) -> list[Run]:
     """The degree sequence of a column: how often each of its values stands there.
 
     Args:
-        values: the column's values, one for each row, in any order: a column of pandas, Arrow or numpy, an `array`, or anything
-            that gives one hashable value after the other. Rows without a value (NULL) are left out: None, NaN, NaT,
-            `pandas.NA` and what is masked. Values are one where Python finds them equal; what your engine finds equal has to
-            be equal here too. Where it takes one NaN as equal to another, or letters of both cases, give one value for these.
-            One-dimensional 64-bit whole numbers are read where they lie.
+        values: the column's values, one for each row, in any order: a column of pandas, Arrow or numpy, an `array`, or
+            anything that gives one hashable value after the other. Rows without a value (NULL) are left out: None, NaN,
+            NaT, `pandas.NA` and what is masked. Values are one where Python finds them equal; what your engine finds
+            equal has to be equal here too. Where it takes one NaN as equal to another, or letters of both cases, give
+            one value for these. One-dimensional 64-bit whole numbers are read where they lie.
 
     Returns:
         Runs of which the degrees fall. Their degrees sum to the number of rows with a value.
@@ -177,7 +177,8 @@ def encoded(runs: Runs, error: type[BadRun] = BadRun, column: object = None) -> 
         pair = (_library.whole(degree), _library.whole(keys))
         if None in pair:
             what, number = ("degree", degree) if pair[0] is None else ("number of keys", keys)
-            raise error(f"{_of(error, column)}the {what} of run {place} is {number}, which isn't from 1 to 2**48", place, column)
+            said = f"{_of(error, column)}the {what} of run {place} is {number}, which isn't from 1 to 2**48"
+            raise error(said, place, column)
         pairs.append(pair)
     return _library.array_of(_library.Run, pairs)
 

@@ -56,7 +56,8 @@ class Order(_OfQuery, _OrderParts):
         return max(self.levels)
 
     def __str__(self) -> str:
-        return table(["level", "joined", "rows at most"], [(at, *level) for at, level in enumerate(zip(self.entries, self.levels), 1)])
+        rows = [(at, *level) for at, level in enumerate(zip(self.entries, self.levels), 1)]
+        return table(["level", "joined", "rows at most"], rows)
 
 
 class Join(NamedTuple):
@@ -73,7 +74,9 @@ class _TreeParts(NamedTuple):
 
 
 class Tree(_OfQuery, _TreeParts):
-    """A join tree over n entries. The nodes 0 to n - 1 are `entries`, and node n + i is `joins[i]`; the last is the root.
+    """A join tree over n entries.
+
+    The nodes 0 to n - 1 are `entries`, and node n + i is `joins[i]`; the last is the root.
 
     >>> print(Tree(("a", "b", "c"), (Join(1, 2, 6), Join(0, 3, 30))))
     join  left  right   rows at most

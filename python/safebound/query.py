@@ -7,13 +7,17 @@ from collections.abc import Collection as SomeCollection
 from collections.abc import Sequence as SomeSequence
 from functools import cached_property
 from types import MappingProxyType
-from typing import Any, Collection, Dict, Hashable, Iterable, List, Mapping, NoReturn, Optional, SupportsIndex, Tuple, TypeVar
+from typing import (
+    Any, Collection, Dict, Hashable, Iterable, List, Mapping, NoReturn, Optional, SupportsIndex, Tuple, TypeVar
+)
 
 from . import _library
 from ._library import Status
 from ._tables import table
 from .bounds import Bounds
-from .errors import BadBudget, BadEntries, BadEquality, BadLimit, BadList, BadPlan, BadRows, MissingList, PastBits, WrongType
+from .errors import (
+    BadBudget, BadEntries, BadEquality, BadLimit, BadList, BadPlan, BadRows, MissingList, PastBits, WrongType
+)
 from .lists import Run, Runs, encoded, wrong_run
 from .plans import Join, Order, QueryPlan, Tree
 
@@ -68,13 +72,14 @@ class Query:
 
     Args:
         entries: the names of the entries, each once. A table that is joined with itself is two entries.
-        equalities: pairs of columns that are equal, of two different entries; a column is a pair of an entry and any name
-            within it.
+        equalities: pairs of columns that are equal, of two different entries; a column is a pair of an entry and any
+            name within it.
         row_bounds: for each entry how many rows it has at most, 0 to 2**48.
         lists: for each column that an equality names the runs that dominate its values, as `degree_sequence`,
-            `compress` and `append` give them. Where they sum to less than the entry's row bound, the other rows are taken
-            for rows without a value, which join with nothing; where they sum to more, they are cut there. Of a column in
-            which no row has a value the list is `NO_VALUES`; an empty one is taken for forgotten, unless the row bound is 0.
+            `compress` and `append` give them. Where they sum to less than the entry's row bound, the other rows are
+            taken for rows without a value, which join with nothing; where they sum to more, they are cut there. Of a
+            column in which no row has a value the list is `NO_VALUES`; an empty one is taken for forgotten, unless the
+            row bound is 0.
 
     A query isn't changed once it is made. Two are equal where all of this is.
 
@@ -89,9 +94,9 @@ class Query:
     12
     >>> query.best_order(budget=12)
     Order(entries=('s', 'r'), levels=(5, 12))
-    >>> query.best_tree(budget=11)
+    >>> query.best_tree(budget=11)  # doctest: +ELLIPSIS
     Traceback (most recent call last):
-    safebound.errors.BudgetExceeded: the best plan has a part of at most 12 rows, which is the least budget that would do
+    safebound.errors.BudgetExceeded: the best plan has a part of at most 12 rows, which is the least budget ...
     """
 
     def __init__(
@@ -144,7 +149,8 @@ class Query:
         for place, (left, right) in enumerate(self.equalities):
             alien = next((column for column in (left, right) if column[0] not in self._entry), None)
             if alien is not None:
-                raise BadEquality(f"equality {place}, {_equality_text((left, right))}, names {alien[0]!r}, which is no entry", place)
+                said = f"equality {place}, {_equality_text((left, right))}, names {alien[0]!r}, which is no entry"
+                raise BadEquality(said, place)
             found.append((self._entry[left[0]], self._number_of(left), self._entry[right[0]], self._number_of(right)))
         return _library.array_of(_library.Equality, found)
 
@@ -162,7 +168,8 @@ class Query:
             own = encoded(given, column=column)
             self._of[column] = NO_VALUES if given is NO_VALUES else tuple(Run(run.degree, run.keys) for run in own)
             without = given is NO_VALUES or (len(own) == 0 and self._rows[self._entry[column[0]]] == 0)
-            found.append((self._entry[column[0]], self._number_of(column), _library.NO_VALUES if without else len(runs), len(own)))
+            first = _library.NO_VALUES if without else len(runs)
+            found.append((self._entry[column[0]], self._number_of(column), first, len(own)))
             runs += [(run.degree, run.keys) for run in own]
             places += [(column, place) for place in range(len(own))]
         return _library.array_of(_library.List, found), _library.array_of(_library.Run, runs), places
@@ -187,24 +194,33 @@ class Query:
         return (Query, self._parts())
 
     def __repr__(self) -> str:
-        shown = {column: runs if runs is NO_VALUES else [tuple(run) for run in runs] for column, runs in self._of.items()}
+        shown = {
+            column: runs if runs is NO_VALUES else [tuple(run) for run in runs] for column, runs in self._of.items()
+        }
         lists = ", ".join(f"{column}: {runs}" for column, runs in shown.items())
-        return f"Query(entries={list(self.entries)}, equalities={list(self.equalities)}, row_bounds={dict(self.row_bounds)}, lists={{{lists}}})"
+        entries, equalities, rows = list(self.entries), list(self.equalities), dict(self.row_bounds)
+        return f"Query(entries={entries}, equalities={equalities}, row_bounds={rows}, lists={{{lists}}})"
 
     def __str__(self) -> str:
         return "\n\n".join(self._known())
 
     def _known(self) -> List[str]:
-        """What is known: the rows of the entries, the equalities, and the lists of their columns. One table for each."""
+        """A table for each of what is known: rows of the entries, equalities, and lists of their columns."""
         named = [column for equality in self.equalities for column in equality]
         used = [column for column in self._of if column in named]
-        lists = [(_text(c), sum(d * k for d, k in self._of[c]), sum(k for _, k in self._of[c]), max((d for d, _ in self._of[c]), default=0)) for c in used]
+        lists = [
+            (_text(c), sum(d * k for d, k in runs), sum(k for _, k in runs), max((d for d, _ in runs), default=0))
+            for c, runs in ((c, self._of[c]) for c in used)
+        ]
         tables = [table(["entry", "rows at most"], list(self.row_bounds.items()))]
-        tables += [table(["equality"], [[_equality_text(equality)] for equality in self.equalities])] if self.equalities else []
+        equal = [[_equality_text(equality)] for equality in self.equalities]
+        tables += [table(["equality"], equal)] if equal else []
         return tables + ([table(["list of", "rows", "values", "rows of the most frequent"], lists)] if lists else [])
 
     def explain(self, plan: Optional[QueryPlan] = None) -> str:
-        """What is known of the query, with the lists that its equalities use, and what follows: the bounds of its sets, or of each step of a plan.
+        """What is known of the query, and what follows: the bounds of its sets, or of each step of a plan.
+
+        Of the lists those are shown that its equalities use.
 
         Args:
             plan: an order or a tree of this query.
@@ -233,10 +249,14 @@ class Query:
         if plan is None:
             return "\n\n".join([*self._known(), str(self.bounds())])
         self._checked(plan)
-        return "\n\n".join([*self._known(), self._levels_table(plan) if isinstance(plan, Order) else self._joins_table(plan)])
+        steps = self._levels_table(plan) if isinstance(plan, Order) else self._joins_table(plan)
+        return "\n\n".join([*self._known(), steps])
 
     def _levels_table(self, order: Order) -> str:
-        rows = [(at + 1, entry, self._between(order.entries[:at], [entry]), level) for at, (entry, level) in enumerate(zip(*order))]
+        rows = [
+            (at + 1, entry, self._between(order.entries[:at], [entry]), level)
+            for at, (entry, level) in enumerate(zip(*order))
+        ]
         return table(["level", "joined", "by", "rows at most"], rows)
 
     def _joins_table(self, tree: Tree) -> str:
@@ -251,7 +271,10 @@ class Query:
     def _between(self, some: Iterable[str], others: Iterable[str]) -> str:
         """The equalities between two sets of entries."""
         left, right = set(some), set(others)
-        used = [e for e in self.equalities if (e[0][0] in left and e[1][0] in right) or (e[0][0] in right and e[1][0] in left)]
+        used = [
+            (one, other) for one, other in self.equalities
+            if (one[0] in left and other[0] in right) or (one[0] in right and other[0] in left)
+        ]
         return ", ".join(map(_equality_text, used))
 
     # ---- what the library answers
@@ -286,7 +309,8 @@ class Query:
             raise BadEquality(f"equality {detail}, {text}, has one entry on both sides", detail)
         if status == Status.MISSING_LIST:
             without = next(column for column in self.equalities[detail] if column not in self._of)
-            raise MissingList(f"{_text(without)} of equality {detail}, {_equality_text(self.equalities[detail])}, has no list", detail)
+            said = f"{_text(without)} of equality {detail}, {_equality_text(self.equalities[detail])}, has no list"
+            raise MissingList(said, detail)
         _library.raise_for(status, detail)
         raise AssertionError(status)
 
@@ -294,12 +318,13 @@ class Query:
         """The bounds of all sets of entries.
 
         Args:
-            limit: the most work that is done. It is counted before it begins: for each set, and for each of at most 16 ways in
-                which it is looked at where equalities close a cycle, 1 and the runs of both lists of each of its equalities.
+            limit: the most work that is done. It is counted before it begins: for each set, and for each of at most 16
+                ways in which it is looked at where equalities close a cycle, 1 and the runs of both lists of each of
+                its equalities.
 
         Returns:
-            A mapping from each of the 2**n sets of names to a number of rows: at most so many choices of one row of each
-            of these entries satisfy all equalities between them. None where the number is past 64 bits.
+            A mapping from each of the 2**n sets of names to a number of rows: at most so many choices of one row of
+            each of these entries satisfy all equalities between them. None where the number is past 64 bits.
 
         Raises:
             BadEntries, BadRows, BadEqualities, BadEquality, BadList, BadRun, MissingList: a value isn't right.
@@ -330,7 +355,9 @@ class Query:
         12
         """
         if isinstance(entries, (str, bytes)) or not isinstance(entries, SomeCollection):
-            raise WrongType(f"a set of entries is a collection of their names, such as {{{entries!r}}}, and not {entries!r}")
+            raise WrongType(
+                f"a set of entries is a collection of their names, such as {{{entries!r}}}, and not {entries!r}"
+            )
         number = sum(1 << self._entry[entry] for entry in set(entries))
         status, detail = _library.ask("set_bound", [*self._given(), number & _library.MOST])
         if status != Status.OK:
@@ -338,7 +365,9 @@ class Query:
         return None if detail == _library.NO_BOUND else detail
 
     def best_order(self, budget: SupportsIndex) -> Order:
-        """The best left-deep order: the least greatest level, then the least sum of levels, then the first by `entries`.
+        """The best left-deep order.
+
+        It has the least greatest level; of such orders the least sum of levels; of these it is the first by `entries`.
 
         Args:
             budget: the most rows that the bound of a level may say, 0 to 2**59.
@@ -370,14 +399,15 @@ class Query:
     def memory(self, plan: QueryPlan) -> int:
         """How many bytes the buffers of SafeBound's own engine take for a plan of this query.
 
-        Each buffer counts with its capacity times the size of an element, and each list of buffers with its own. It is the
-        same number on every machine.
+        Each buffer counts with its capacity times the size of an element, and each list of buffers with its own. It is
+        the same number on every machine.
 
         Args:
             plan: what `best_order` or `best_tree` gave.
 
         Raises:
-            BadPlan: the plan isn't one of this query: another one made it, or its entries, nodes or bounds aren't this one's.
+            BadPlan: the plan isn't one of this query: another one made it, or its entries, nodes or bounds aren't this
+                one's.
             PastBits: 64 bits don't tell the number.
 
         >>> query = Query(["r", "s"], [(("r", "x"), ("s", "x"))], {"r": 6, "s": 5},
@@ -387,7 +417,8 @@ class Query:
         """
         self._checked(plan)
         if isinstance(plan, Order):
-            parts = _library.array_of(_library.Level, [(self._entry[entry], int(bound)) for entry, bound in zip(plan.entries, plan.levels)])
+            levels = [(self._entry[entry], int(bound)) for entry, bound in zip(plan.entries, plan.levels)]
+            parts = _library.array_of(_library.Level, levels)
         else:
             parts = _library.array_of(_library.Join, [tuple(map(int, join)) for join in plan.joins])
         name = "memory" if isinstance(plan, Order) else "tree_memory"
@@ -414,7 +445,8 @@ class Query:
         if sorted(order.entries) != sorted(self.entries):
             raise BadPlan(f"the order has other entries: {', '.join(order.entries)}", len(order.entries))
         if len(order.levels) != len(self.entries):
-            raise BadPlan(f"an order of {len(self.entries)} entries has as many levels, and not {len(order.levels)}", len(order.levels))
+            said = f"an order of {len(self.entries)} entries has as many levels, and not {len(order.levels)}"
+            raise BadPlan(said, len(order.levels))
         bounds = self.bounds()
         for place, level in enumerate(order.levels):
             self._check_bound(f"level {place}", place, level, bounds[order.entries[: place + 1]])
