@@ -71,22 +71,28 @@ expected_rows(BoundedQuery *query, RelOptInfo *rel)
 
 static get_relation_stats_hook_type relation_stats_before;
 
-static const KeptTable *
-table_of_entry(PlannerInfo *root, const RangeTblEntry *entry)
+/* PostgreSQL's statistics of a column, with the number of distinct values that was counted. */
+typedef struct CountedStatistics
 {
-	BoundedQuery *query = query_being_planned(root);
+	bool		looked;
+	bool		may_tell;		/* whether who asks may read the column */
+	HeapTuple	tuple;			/* NULL where there is none */
+} CountedStatistics;
 
-	for (int i = 1; query && i < root->simple_rel_array_size; i++)
-		if (root->simple_rte_array[i] == entry)
-			return query->entries[i].table;
+static Entry *
+entry_asked_for(BoundedQuery *query, const RangeTblEntry *asked)
+{
+	for (int i = 1; i < query->root->simple_rel_array_size; i++)
+		if (query->root->simple_rte_array[i] == asked)
+			return query->entries[i].table ? &query->entries[i] : NULL;
 	return NULL;
 }
 
 /* As many distinct values as the list of all rows has, instead of what ANALYZE has made of a sample. */
 static HeapTuple
-counted_statistics(const RangeTblEntry *entry, AttrNumber column, const DegreeList *list)
+counted_statistics(Oid relation, AttrNumber column, const DegreeList *list)
 {
-	HeapTuple	tuple = SearchSysCacheCopy3(STATRELATTINH, ObjectIdGetDatum(entry->relid), Int16GetDatum(column), BoolGetDatum(false));
+	HeapTuple	tuple = SearchSysCacheCopy3(STATRELATTINH, ObjectIdGetDatum(relation), Int16GetDatum(column), BoolGetDatum(false));
 	double		values = 0;
 
 	if (!HeapTupleIsValid(tuple))
@@ -99,22 +105,54 @@ counted_statistics(const RangeTblEntry *entry, AttrNumber column, const DegreeLi
 	return tuple;
 }
 
+/* What PostgreSQL asks where nobody hooks. */
+static bool
+may_read(const RangeTblEntry *entry, AttrNumber column)
+{
+	Oid			user = entry->checkAsUser ? entry->checkAsUser : GetUserId();
+
+	return entry->securityQuals == NIL &&
+		(pg_class_aclcheck(entry->relid, user, ACL_SELECT) == ACLCHECK_OK || pg_attribute_aclcheck(entry->relid, column, user, ACL_SELECT) == ACLCHECK_OK);
+}
+
+/* They are asked for again and again while a query is planned. */
+static CountedStatistics *
+statistics_asked_for(BoundedQuery *query, const RangeTblEntry *asked, AttrNumber column)
+{
+	Entry	   *entry = entry_asked_for(query, asked);
+	const KeptPair *pair = entry && column > 0 && column <= entry->rel->max_attr ? kept_pair(entry->table, column, 0) : NULL;
+	MemoryContext before;
+
+	if (pair == NULL)
+		return NULL;
+	before = MemoryContextSwitchTo(query->root->planner_cxt);
+	if (entry->statistics == NULL)
+		entry->statistics = palloc0((entry->rel->max_attr + 1) * sizeof(CountedStatistics));
+	if (!entry->statistics[column].looked)
+		entry->statistics[column] = (CountedStatistics) {
+			.looked = true,.may_tell = may_read(asked, column),.tuple = counted_statistics(asked->relid, column, &pair->lists[0].list)
+		};
+	MemoryContextSwitchTo(before);
+	return &entry->statistics[column];
+}
+
+static void
+keep_tuple(HeapTuple tuple)
+{
+}
+
 /* Costs of scans that are repeated for each row of others go by the number of distinct values. */
 static bool
 on_relation_stats(PlannerInfo *root, RangeTblEntry *entry, AttrNumber column, VariableStatData *data)
 {
-	const KeptTable *table = entry->rtekind == RTE_RELATION && !entry->inh && column > 0 ? table_of_entry(root, entry) : NULL;
-	const KeptPair *pair = table ? kept_pair(table, column, 0) : NULL;
-	HeapTuple	tuple = pair ? counted_statistics(entry, column, &pair->lists[0].list) : NULL;
-	Oid			user = entry->checkAsUser ? entry->checkAsUser : GetUserId();
+	BoundedQuery *query = query_being_planned(root);
+	CountedStatistics *counted = query ? statistics_asked_for(query, entry, column) : NULL;
 
-	if (tuple == NULL)
+	if (counted == NULL || counted->tuple == NULL)
 		return relation_stats_before && relation_stats_before(root, entry, column, data);
-	data->statsTuple = tuple;
-	data->freefunc = heap_freetuple;
-	/* What PostgreSQL asks where nobody hooks. */
-	data->acl_ok = entry->securityQuals == NIL &&
-		(pg_class_aclcheck(entry->relid, user, ACL_SELECT) == ACLCHECK_OK || pg_attribute_aclcheck(entry->relid, column, user, ACL_SELECT) == ACLCHECK_OK);
+	data->statsTuple = counted->tuple;
+	data->freefunc = keep_tuple;
+	data->acl_ok = counted->may_tell;
 	return true;
 }
 

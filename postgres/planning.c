@@ -78,6 +78,15 @@ rows_by_mode(double bound, double expected, int relations)
 	return clamp_row_est(Min(bound, mean));
 }
 
+/* Where no condition has a list, the bound is that of the whole table and says nothing of them. */
+static double
+scan_rows(const Entry *entry)
+{
+	bool		blind = estimates_mode == ESTIMATES_MEAN && entry->rel->baserestrictinfo != NIL && entry->used == NULL;
+
+	return blind ? Min(entry->rel->rows, (double) entry->rows) : rows_by_mode((double) entry->rows, entry->rel->rows, 1);
+}
+
 /* All base relations get their numbers before the first of them has its paths for good: the paths of one cost by the rows of others. */
 static void
 set_base_rows(BoundedQuery *query)
@@ -90,7 +99,7 @@ set_base_rows(BoundedQuery *query)
 			continue;
 		note_own_rows(query, entry->rel, entry->rel->rows);
 		if (estimates_mode != ESTIMATES_OFF)
-			entry->rel->rows = rows_by_mode((double) entry->rows, entry->rel->rows, 1);
+			entry->rel->rows = scan_rows(entry);
 	}
 }
 
@@ -155,23 +164,33 @@ set_parameterised_rows(BoundedQuery *query, RelOptInfo *rel, ParamPathInfo *info
 	info->ppi_rows = Min(rel->rows, rows_by_mode((double) joined / Max(outer, 1), expected, bms_num_members(both)));
 }
 
+/* PostgreSQL has made the paths already, with the parameters that scans may have. For the first relation it did so by its own statistics. */
+static void
+make_paths_again(BoundedQuery *query, RelOptInfo *rel, bool first)
+{
+	ListCell   *cell;
+
+	if (first)
+	{
+		rel->ppilist = NIL;
+		make_scan_paths(query->root, rel);
+	}
+	foreach(cell, rel->ppilist)
+		set_parameterised_rows(query, rel, lfirst(cell));
+	if (!first || rel->ppilist != NIL)
+		make_scan_paths(query->root, rel);
+}
+
 static void
 on_rel_paths(PlannerInfo *root, RelOptInfo *rel, Index rti, RangeTblEntry *rte)
 {
 	if (planning != NULL && (estimates_mode != ESTIMATES_OFF || planning->told))
 	{
+		bool		first = query_of(root, false) == NULL;
 		BoundedQuery *query = query_of(root, true);
-		ListCell   *cell;
 
 		if (estimates_mode != ESTIMATES_OFF && rti < (Index) root->simple_rel_array_size && query->entries[rti].rel == rel && query->entries[rti].table)
-		{
-			rel->ppilist = NIL;
-			make_scan_paths(root, rel);
-			foreach(cell, rel->ppilist)
-				set_parameterised_rows(query, rel, lfirst(cell));
-			if (rel->ppilist != NIL)
-				make_scan_paths(root, rel);
-		}
+			make_paths_again(query, rel, first);
 	}
 	if (rel_paths_before)
 		rel_paths_before(root, rel, rti, rte);

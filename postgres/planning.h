@@ -27,6 +27,7 @@ typedef struct Entry
 	uint64		rows;			/* its row bound */
 	int			number;			/* among the relations that are known */
 	Bitmapset  *used;			/* the columns whose conditions have lists */
+	struct CountedStatistics *statistics;	/* by column; NULL: none was asked for */
 } Entry;
 
 /* A joined column under its entry's own conditions. */
