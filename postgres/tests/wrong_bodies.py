@@ -53,6 +53,8 @@ EDITS = [
     Edit("rows that refer count once for each value", "columns.c", [("coding->weights ? coding->weights[row] : 1", "1")], "estimates"),
     Edit("the last degree of a group is lost", "counts.c", [("	add_degree(&degrees, (last & joined_mask) == 0 ? 0 : degree);\n	end_group", "	end_group")], "estimates"),
     Edit("NULLs join", "counts.c", [("			add_degree(&degrees, (last & joined_mask) == 0 ? 0 : degree);", "			add_degree(&degrees, degree);")], "estimates"),
+    Edit("parts of a count are different values", "counts.c", [("(pair == last ? degree : 0) + (number & count_mask)", "number & count_mask")], "estimates"),
+    Edit("rows that don't fit into the memory come by the other column", "counts.c", [("(high << pairs->bits) | low", "(low << pairs->bits) | high")], "keep"),
     Edit("a delta isn't read", "deltas.c", [("table->deltas == NULL || table->deltas->rows == 0", "true")], "rows"),
     Edit("deltas have no rows", "deltas.c", [("all.rows = list.rows + table->deltas->rows", "all.rows = list.rows")], "rows"),
     Edit("values that a delta doesn't tell are different ones", "deltas.c", [("{.degree = rows, .keys = 1}", "{.degree = 1, .keys = rows}")], "rows"),
