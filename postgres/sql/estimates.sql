@@ -88,7 +88,17 @@ SET join_collapse_limit = 1;
 SELECT relations, bound >= (SELECT count(*) FROM f JOIN f g USING (x)) AS whole FROM safebound.bounds('SELECT FROM (f JOIN f g USING (x)) JOIN d ON f.k = d.k WHERE c = ''a''') WHERE 'd' <> ALL (relations);
 RESET join_collapse_limit;
 SELECT safebound.bounds('VACUUM');
-DROP TABLE f, d;
+-- What is expected follows the lists along a reference and the counted numbers of distinct values. A condition without lists is PostgreSQL's.
+CREATE TABLE g (k integer);
+INSERT INTO g SELECT generate_series(1, 1000);
+ALTER TABLE g ALTER k SET (n_distinct = 10);
+ANALYZE d, f, g;
+SELECT safebound.keep('g') > 0 AS g, rows_of('SELECT k FROM g GROUP BY k') = 1000 AS bound_groups;
+SET safebound.estimates = mean;
+SELECT rows_of('SELECT FROM f JOIN d USING (k) WHERE n = 1') BETWEEN 95 AND 100 AS expected, rows_of('SELECT k FROM g GROUP BY k') = 1000 AS groups,
+       rows_of('SELECT FROM d WHERE c <> ''a''') = 8 AS no_list;
 SET safebound.estimates = off;
+SELECT rows_of('SELECT FROM f JOIN d USING (k) WHERE n = 1') < 20 AS own, rows_of('SELECT k FROM g GROUP BY k') = 10 AS own_groups;
+DROP TABLE f, d, g;
 DROP TABLE r, s;
 DROP FUNCTION rows_of;
