@@ -149,23 +149,30 @@ may_read(const RangeTblEntry *entry, AttrNumber column)
 		(pg_class_aclcheck(entry->relid, user, ACL_SELECT) == ACLCHECK_OK || pg_attribute_aclcheck(entry->relid, column, user, ACL_SELECT) == ACLCHECK_OK);
 }
 
+static CountedStatistics
+look_at_statistics(const Entry *entry, const RangeTblEntry *asked, AttrNumber column)
+{
+	const KeptPair *pair = kept_pair(entry->table, column, 0);
+
+	return (CountedStatistics) {
+		.looked = true,.may_tell = may_read(asked, column),.tuple = pair ? counted_statistics(asked->relid, column, &pair->lists[0].list) : NULL
+	};
+}
+
 /* They are asked for again and again while a query is planned. */
 static CountedStatistics *
 statistics_asked_for(BoundedQuery *query, const RangeTblEntry *asked, AttrNumber column)
 {
 	Entry	   *entry = entry_asked_for(query, asked);
-	const KeptPair *pair = entry && column > 0 && column <= entry->rel->max_attr ? kept_pair(entry->table, column, 0) : NULL;
 	MemoryContext before;
 
-	if (pair == NULL)
+	if (entry == NULL || column <= 0 || column > entry->rel->max_attr)
 		return NULL;
 	before = MemoryContextSwitchTo(query->root->planner_cxt);
 	if (entry->statistics == NULL)
 		entry->statistics = palloc0((entry->rel->max_attr + 1) * sizeof(CountedStatistics));
 	if (!entry->statistics[column].looked)
-		entry->statistics[column] = (CountedStatistics) {
-			.looked = true,.may_tell = may_read(asked, column),.tuple = counted_statistics(asked->relid, column, &pair->lists[0].list)
-		};
+		entry->statistics[column] = look_at_statistics(entry, asked, column);
 	MemoryContextSwitchTo(before);
 	return &entry->statistics[column];
 }
