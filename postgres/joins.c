@@ -15,7 +15,7 @@
 /* Of more relations of one query no more are known: a set of them is a number of 64 bits. */
 #define MOST_KNOWN 64
 
-static Var *
+Var *
 var_of(Expr *expression)
 {
 	while (expression && IsA(expression, RelabelType))
@@ -25,7 +25,7 @@ var_of(Expr *expression)
 	return NULL;
 }
 
-static Entry *
+Entry *
 entry_of(BoundedQuery *query, int relid)
 {
 	return relid > 0 && relid < query->root->simple_rel_array_size && query->entries[relid].table ? &query->entries[relid] : NULL;

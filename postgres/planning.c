@@ -69,11 +69,11 @@ note_own_rows(BoundedQuery *query, RelOptInfo *rel, double rows)
 }
 
 /* The number to plan with: the bound, or a geometric mean of bound and expectation, which is never above the bound. Both count alike for
-   one relation. At each join of a bound the busiest ends meet, so of more relations it counts for less. */
+   one relation. At each join of a bound the busiest ends meet, so of n relations it counts for 1/n^2. */
 static double
 rows_by_mode(double bound, double expected, int relations)
 {
-	double		weight = 0.5 / relations;
+	double		weight = relations > 1 ? 1.0 / (relations * relations) : 0.5;
 	double		mean = estimates_mode == ESTIMATES_MEAN ? pow(bound, weight) * pow(Max(expected, LEAST_EXPECTED), 1 - weight) : bound;
 
 	return clamp_row_est(Min(bound, mean));

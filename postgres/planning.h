@@ -77,6 +77,8 @@ typedef struct BoundedQuery
 } BoundedQuery;
 
 /* joins.c */
+extern Var *var_of(Expr *expression);
+extern Entry *entry_of(BoundedQuery *query, int relid);
 extern BoundedQuery *bounded_query(PlannerInfo *root);
 extern uint64 bound_of_set(BoundedQuery *query, Relids relids);
 extern List *special_joins_within(BoundedQuery *query, Relids relids);
