@@ -130,9 +130,9 @@ set_distinct_values(Form_pg_statistic statistics, const DegreeList *list)
 }
 
 static HeapTuple
-counted_statistics(Oid relation, AttrNumber column, const DegreeList *list)
+counted_statistics(const RangeTblEntry *asked, AttrNumber column, const DegreeList *list)
 {
-	HeapTuple	tuple = SearchSysCacheCopy3(STATRELATTINH, ObjectIdGetDatum(relation), Int16GetDatum(column), BoolGetDatum(false));
+	HeapTuple	tuple = SearchSysCacheCopy3(STATRELATTINH, ObjectIdGetDatum(asked->relid), Int16GetDatum(column), BoolGetDatum(asked->inh));
 
 	if (HeapTupleIsValid(tuple))
 		set_distinct_values((Form_pg_statistic) GETSTRUCT(tuple), list);
@@ -155,7 +155,7 @@ look_at_statistics(const Entry *entry, const RangeTblEntry *asked, AttrNumber co
 	const KeptPair *pair = kept_pair(entry->table, column, 0);
 
 	return (CountedStatistics) {
-		.looked = true,.may_tell = may_read(asked, column),.tuple = pair ? counted_statistics(asked->relid, column, &pair->lists[0].list) : NULL
+		.looked = true,.may_tell = may_read(asked, column),.tuple = pair ? counted_statistics(asked, column, &pair->lists[0].list) : NULL
 	};
 }
 

@@ -156,6 +156,8 @@ EDITS = [
          "partitions"),
     Edit("a partitioned table has the rows of PostgreSQL's numbers of its parts", "planning.c",
          [("set_path_rows(path, path->param_info ? path->param_info->ppi_rows : rel->rows);", ";")], "partitions"),
+    Edit("distinct values of the whole are PostgreSQL's", "expected.c",
+         [("BoolGetDatum(asked->inh)", "BoolGetDatum(false)")], "partitions"),
     Edit("any user changes the budget", "admit.c", [("INT_MAX, PGC_SUSET", "INT_MAX, PGC_USERSET")], "budget"),
 ]
 
