@@ -226,7 +226,8 @@ share_found(BoundedQuery *query, Var *looked, Var *looking)
 static double
 share_of_scan(BoundedQuery *query, const IndexPath *path)
 {
-	RestrictInfo *info = list_length(path->indexclauses) == 1 ? linitial_node(IndexClause, path->indexclauses)->rinfo : NULL;
+	bool		whole = path->indexinfo->indpred == NIL;
+	RestrictInfo *info = whole && list_length(path->indexclauses) == 1 ? linitial_node(IndexClause, path->indexclauses)->rinfo : NULL;
 	OpExpr	   *equality = info ? (OpExpr *) info->clause : NULL;
 	Var		   *left,
 			   *right;

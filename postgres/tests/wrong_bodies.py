@@ -68,6 +68,8 @@ EDITS = [
          [("\tget_relation_stats_hook = on_relation_stats;", "\t(void) on_relation_stats;")], "estimates"),
     Edit("a bound that no condition has made counts", "planning.c",
          [("entry->used == NULL;", "false;")], "estimates"),
+    Edit("an index with a condition finds all rows", "expected.c",
+         [("whole = path->indexinfo->indpred == NIL", "whole = true")], "estimates"),
     Edit("rows that refer count once for each value", "columns.c",
          [("coding->weights ? coding->weights[row] : 1", "1")], "estimates"),
     Edit("the last degree of a group is lost", "counts.c",
