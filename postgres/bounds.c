@@ -2,6 +2,7 @@
 #include "admit.h"
 
 #include "executor/executor.h"
+#include "optimizer/optimizer.h"
 #include "funcapi.h"
 #include "optimizer/pathnode.h"
 #include "tcop/tcopprot.h"
@@ -109,7 +110,7 @@ put_join(ReturnSetInfo *into, BoundedQuery *query, Relids relids)
 	}
 	values[0] = text_array(names);
 	values[1] = Int64GetDatum((int64) bound);
-	values[2] = Int64GetDatum(rel ? (int64) Min(own_rows(query, rel), 9e18) : 0);
+	values[2] = Int64GetDatum(rel ? (int64) Min(clamp_row_est(own_rows(query, rel)), 9e18) : 0);
 	values[3] = text_array(statistics);
 	tuplestore_putvalues(into->setResult, into->setDesc, values, nulls);
 }

@@ -241,7 +241,7 @@ code_column(const Making *making, Column *column, Tuplesortstate *sort, TupleDes
 	column->common = palloc((making->most_common + 1) * sizeof(CommonValue));
 	if (keeps_order(column->attribute->attcollation))
 		column->leaves = palloc((making->most_leaves + 1) * sizeof(Leaf));
-	coding.by_row = sorted_begin(rows, 63);
+	coding.by_row = sorted_begin(rows, 0, 63);
 	code_values(&coding, sort, sorted);
 	ExecDropSingleTupleTableSlot(sorted);
 	tuplesort_end(sort);

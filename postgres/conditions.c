@@ -25,6 +25,7 @@ typedef struct Conditioned
 	AttrNumber	joined;
 	const Reference *reference; /* NULL: the relation has them itself */
 	Bitmapset **used;			/* the columns whose conditions had lists */
+	bool	   *loose;			/* set where more rows are counted than pass: a list of other values, or of one of several conditions */
 } Conditioned;
 
 static bool list_of_clause(const Conditioned *of, Node *clause, DegreeList *list);
@@ -304,13 +305,14 @@ list_of_equality(const Conditioned *of, OpExpr *clause, DegreeList *list)
 	if (kept == NULL)
 		return false;
 	*of->used = bms_add_member(*of->used, column);
+	*of->loose |= kept->kind != LIST_VALUE;
 	*list = kept->list;
 	return true;
 }
 
 /* The sum of the lists of the values of an array: a common value counts once, others each. */
 static bool
-sum_of_values(const KeptPair *pair, ScalarArrayOpExpr *clause, ArrayType *array, DegreeList *list)
+sum_of_values(const Conditioned *of, const KeptPair *pair, ScalarArrayOpExpr *clause, ArrayType *array, DegreeList *list)
 {
 	Oid			type = ARR_ELEMTYPE(array);
 	bool	   *used = palloc0((pair->length + 1) * sizeof(bool));
@@ -335,6 +337,7 @@ sum_of_values(const KeptPair *pair, ScalarArrayOpExpr *clause, ArrayType *array,
 		if (kept == NULL || used[kept - pair->lists])
 			continue;
 		used[kept - pair->lists] = kept->kind == LIST_VALUE;
+		*of->loose |= kept->kind != LIST_VALUE;
 		*list = summed(*list, kept->list);
 	}
 	return true;
@@ -353,7 +356,7 @@ list_of_array(const Conditioned *of, ScalarArrayOpExpr *clause, DegreeList *list
 		return false;
 	if (!IsA(values, Const) || ((Const *) values)->constisnull)
 		return false;
-	if (!sum_of_values(pair, clause, DatumGetArrayTypeP(((Const *) values)->constvalue), list))
+	if (!sum_of_values(of, pair, clause, DatumGetArrayTypeP(((Const *) values)->constvalue), list))
 		return false;
 	*of->used = bms_add_member(*of->used, column);
 	return true;
@@ -395,11 +398,19 @@ add_range(List **ranges, const Range *range)
 	*ranges = lappend(*ranges, known);
 }
 
+/* The lesser of what so many conditions have left and of what one more leaves. */
+static void
+add_list(const Conditioned *of, DegreeList *list, const DegreeList *one, int taken)
+{
+	*of->loose |= taken > 0;
+	*list = taken > 0 ? lesser(*list, *one) : *one;
+}
+
 /* AND: the lesser of what is understood. */
 static bool
 list_of_all(const Conditioned *of, List *clauses, DegreeList *list)
 {
-	bool		any = false;
+	int			taken = 0;
 	List	   *ranges = NIL;
 	ListCell   *cell;
 
@@ -407,25 +418,27 @@ list_of_all(const Conditioned *of, List *clauses, DegreeList *list)
 	{
 		DegreeList	one;
 		Range		range;
+		bool		is_range = range_of_clause(of, lfirst(cell), &range);
 
-		if (range_of_clause(of, lfirst(cell), &range))
+		if (is_range)
 		{
 			add_range(&ranges, &range);
 			*of->used = bms_add_member(*of->used, range.column);
 		}
 		if (!list_of_clause(of, lfirst(cell), &one))
+		{
+			*of->loose |= !is_range;
 			continue;
-		*list = any ? lesser(*list, one) : one;
-		any = true;
+		}
+		add_list(of, list, &one, taken++);
 	}
 	foreach(cell, ranges)
 	{
 		DegreeList	one = list_of_range(lfirst(cell));
 
-		*list = any ? lesser(*list, one) : one;
-		any = true;
+		add_list(of, list, &one, taken++);
 	}
-	return any;
+	return taken > 0;
 }
 
 /* OR: the sum, where each side is understood. */
@@ -473,7 +486,8 @@ DegreeList
 list_under(const KeptTable *table, RelOptInfo *rel, AttrNumber joined, Bitmapset **used)
 {
 	const KeptPair *all = kept_pair(table, joined, 0);
-	Conditioned of = {.relation = table->relation,.entry = rel->relid,.table = table,.joined = joined,.used = used};
+	bool		loose = false;
+	Conditioned of = {.relation = table->relation,.entry = rel->relid,.table = table,.joined = joined,.used = used,.loose = &loose};
 	DegreeList	whole = all->lists[0].list;
 	DegreeList	list;
 
@@ -484,9 +498,11 @@ list_under(const KeptTable *table, RelOptInfo *rel, AttrNumber joined, Bitmapset
 /* The list of a joined column over the rows that refer to a row that passes the conditions of its relation. False where there is none.
    Where rows that come are followed, what is referred to has to be as it was: a change there brings rows without a statement here. */
 bool
-list_along(const KeptTable *table, const Reference *reference, RelOptInfo *referred, AttrNumber joined, DegreeList *list, Bitmapset **used)
+list_along(const KeptTable *table, const Reference *reference, RelOptInfo *referred, AttrNumber joined, DegreeList *list, Bitmapset **used, bool *loose)
 {
-	Conditioned of = {.relation = reference->referred,.entry = referred->relid,.table = table,.joined = joined,.reference = reference,.used = used};
+	Conditioned of = {
+		.relation = reference->referred,.entry = referred->relid,.table = table,.joined = joined,.reference = reference,.used = used,.loose = loose
+	};
 	bool		holds = table->deltas ? list_member_oid(table->unchanged, reference->referred) : !kept_fresh_only;
 
 	if (!holds || !list_of_all(&of, referred->baserestrictinfo, list))

@@ -10,7 +10,7 @@
 
 /* sorted.c: numbers below 2^63 sorted, in memory where that many fit, else in files. */
 typedef struct Sorted Sorted;
-extern Sorted *sorted_begin(uint64 most, int bits);
+extern Sorted *sorted_begin(uint64 most, int from, int bits);
 extern void sorted_put(Sorted *sorted, uint64 number);
 extern void sorted_perform(Sorted *sorted);
 extern bool sorted_get(Sorted *sorted, uint64 *number);

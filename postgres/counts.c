@@ -6,14 +6,25 @@
 #include "utils/datum.h"
 #include "utils/memutils.h"
 
-/* How many keys have each degree, by rising degree. */
+/* Degrees below this one are counted without being looked for. */
+#define FEW 32
+
+/* How many keys have each degree. */
 typedef struct Degrees
 {
 	uint64		rows;
+	uint64		few[FEW];		/* the keys of each low degree */
 	int			length;
 	int			capacity;
-	safebound_run *runs;
+	safebound_run *runs;		/* the higher ones, by rising degree */
 } Degrees;
+
+static void
+empty(Degrees *degrees)
+{
+	degrees->rows = degrees->length = 0;
+	memset(degrees->few, 0, sizeof(degrees->few));
+}
 
 /* The place of a degree, or where it belongs. */
 static int
@@ -35,12 +46,10 @@ place_of(const Degrees *degrees, uint64 degree)
 }
 
 static void
-add_degree(Degrees *degrees, uint64 degree)
+add_high_degree(Degrees *degrees, uint64 degree)
 {
 	int			place = place_of(degrees, degree);
 
-	if (degree == 0)
-		return;
 	if (place < degrees->length && degrees->runs[place].degree == degree)
 	{
 		degrees->runs[place].keys++;
@@ -57,14 +66,27 @@ add_degree(Degrees *degrees, uint64 degree)
 	degrees->length++;
 }
 
+/* A key of degree 0 is none. */
+static inline void
+add_degree(Degrees *degrees, uint64 degree)
+{
+	if (degree >= FEW)
+		add_high_degree(degrees, degree);
+	else if (degree > 0)
+		degrees->few[degree]++;
+}
+
 /* The same as a list, whose degrees fall. */
 static DegreeList
 list_of_degrees(const Degrees *degrees)
 {
-	DegreeList	list = {degrees->rows, degrees->length, palloc((degrees->length + 1) * sizeof(safebound_run))};
+	DegreeList	list = {degrees->rows, degrees->length, palloc((degrees->length + FEW) * sizeof(safebound_run))};
 
-	for (int i = 0; i < list.length; i++)
-		list.runs[i] = degrees->runs[list.length - 1 - i];
+	for (int i = 0; i < degrees->length; i++)
+		list.runs[i] = degrees->runs[degrees->length - 1 - i];
+	for (int degree = FEW - 1; degree > 0; degree--)
+		if (degrees->few[degree] > 0)
+			list.runs[list.length++] = (safebound_run) {.degree = degree,.keys = degrees->few[degree]};
 	return list;
 }
 
@@ -149,12 +171,6 @@ end_group(Counting *counting, uint32 code, const Degrees *degrees, int *common)
 	MemoryContextReset(counting->group);
 }
 
-static uint32
-next_code(const Column *column)
-{
-	return column ? codes_get(column->codes) : 0;
-}
-
 /* The bits of a column's codes. */
 static int
 bits_of(const Column *column)
@@ -162,68 +178,158 @@ bits_of(const Column *column)
 	return column && column->highest ? pg_leftmost_one_pos32(column->highest) + 1 : 0;
 }
 
-/* The codes of both columns of each row, one above the other's bits. A column may be both. */
-static Sorted *
-sorted_codes(const Making *making, const Column *high, const Column *low, uint32 (*part) (const Column *, uint32))
+/* The rows of a table by rising code of a joined column, which is done once for all filter columns. */
+typedef struct Order
 {
-	Sorted	   *sorted = sorted_begin(making->rows, bits_of(high) + bits_of(low));
+	const Column *joined;
+	uint32	   *ends;			/* by code: how many rows have it or a lower one */
+	uint32	   *rows;			/* NULL: they don't fit into the memory, and each pair of columns is sorted */
+} Order;
 
-	if (high)
-		codes_rewind(high->codes);
-	if (low && low != high)
-		codes_rewind(low->codes);
+static bool
+fits(uint64 numbers)
+{
+	/* Sorting may have the other half. */
+	return numbers * sizeof(uint32) <= (uint64) maintenance_work_mem * 1024 / 2;
+}
+
+/* How many rows have each code. */
+static uint32 *
+count_codes(const Making *making, const Column *column)
+{
+	uint32	   *counts = MemoryContextAllocExtended(CurrentMemoryContext, ((Size) column->highest + 2) * sizeof(uint32), MCXT_ALLOC_HUGE | MCXT_ALLOC_ZERO);
+
+	codes_rewind(column->codes);
+	for (uint32 row = 0; row < making->rows; row++)
+		counts[codes_get(column->codes)]++;
+	return counts;
+}
+
+/* From how many rows have each code to how many have a lower one. */
+static void
+sum_up(uint32 *counts, uint32 highest)
+{
+	uint32		sum = 0;
+
+	for (uint32 code = 0; code <= highest; code++)
+	{
+		uint32		count = counts[code];
+
+		counts[code] = sum;
+		sum += count;
+	}
+}
+
+static Order
+order_rows(const Making *making, const Column *joined)
+{
+	Order		order = {.joined = joined};
+
+	/* Codes of a filter column stand beside. */
+	if (joined == NULL || !fits(2 * (uint64) making->rows + joined->highest + 2))
+		return order;
+	order.ends = count_codes(making, joined);
+	sum_up(order.ends, joined->highest);
+	order.rows = MemoryContextAllocHuge(CurrentMemoryContext, ((Size) making->rows + 1) * sizeof(uint32));
+	codes_rewind(joined->codes);
+	for (uint32 row = 0; row < making->rows; row++)
+		order.rows[order.ends[codes_get(joined->codes)]++] = row;
+	return order;
+}
+
+/* The codes of both columns of each row, by rising code of the joined column. */
+typedef struct Pairs
+{
+	const Order *order;
+	uint32	   *filter;			/* by row; NULL: no filter column, or sorted */
+	uint32		at;
+	uint32		code;			/* of the joined column */
+	Sorted	   *sorted;			/* NULL: rows are in order */
+	int			bits;
+} Pairs;
+
+static uint32
+next_code(const Column *column)
+{
+	return column ? codes_get(column->codes) : 0;
+}
+
+static void
+sort_pairs(Pairs *pairs, const Making *making, const Column *joined, const Column *filter)
+{
+	pairs->bits = bits_of(filter);
+	pairs->sorted = sorted_begin(making->rows, 0, bits_of(joined) + pairs->bits);
+	if (joined)
+		codes_rewind(joined->codes);
 	for (uint32 row = 0; row < making->rows; row++)
 	{
-		uint64		one = next_code(high);
-		uint32		other = low == high ? (uint32) one : next_code(low);
+		uint64		high = next_code(joined);
+		/* A column may be both. */
+		uint64		low = filter == joined ? high : next_code(filter);
 
 		CHECK_FOR_INTERRUPTS();
-		sorted_put(sorted, (one << bits_of(low)) | (part ? part(low, other) : other));
+		sorted_put(pairs->sorted, (high << pairs->bits) | low);
 	}
-	sorted_perform(sorted);
-	return sorted;
+	sorted_perform(pairs->sorted);
 }
 
-/* One list for each code of the filter column, and one for NULL though no row has it. Without a filter column all rows are one group. */
-static void
-count_groups(Counting *counting)
+static Pairs
+pairs_begin(const Making *making, const Order *order, const Column *filter)
 {
-	Sorted	   *sorted = sorted_codes(counting->making, counting->filter, counting->joined, NULL);
-	Degrees		degrees = {0};
-	int			bits = bits_of(counting->joined);
-	uint64		mask = (UINT64CONST(1) << bits) - 1;
-	uint64		last = 0;
-	uint64		degree = 0;
-	uint64		number;
-	int			common = 0;
+	Pairs		pairs = {.order = order};
 
-	while (sorted_get(sorted, &number))
+	if (filter)
+		codes_rewind(filter->codes);
+	if (order->rows == NULL)
+		sort_pairs(&pairs, making, order->joined, filter);
+	else if (filter)
 	{
-		if (number != last)
-			add_degree(&degrees, (last & mask) == 0 ? 0 : degree);
-		if (number >> bits != last >> bits)
-		{
-			end_group(counting, last >> bits, &degrees, &common);
-			degrees.rows = degrees.length = 0;
-		}
-		degree = number == last ? degree + 1 : 1;
-		degrees.rows++;
-		last = number;
+		pairs.filter = MemoryContextAllocHuge(CurrentMemoryContext, ((Size) making->rows + 1) * sizeof(uint32));
+		for (uint32 row = 0; row < making->rows; row++)
+			pairs.filter[row] = codes_get(filter->codes);
 	}
-	add_degree(&degrees, (last & mask) == 0 ? 0 : degree);
-	end_group(counting, last >> bits, &degrees, &common);
-	sorted_end(sorted);
+	return pairs;
 }
 
-/* The part of the filter column's values that a code lies in, from 1 on; 0 is NULL. */
-static uint32
+static bool
+next_pair(Pairs *pairs, uint32 *joined, uint32 *filter)
+{
+	const Order *order = pairs->order;
+	uint64		number;
+
+	if (pairs->sorted)
+	{
+		if (!sorted_get(pairs->sorted, &number))
+			return false;
+		*joined = (uint32) (number >> pairs->bits);
+		*filter = (uint32) (number & ((UINT64CONST(1) << pairs->bits) - 1));
+		return true;
+	}
+	while (pairs->at == order->ends[pairs->code])
+		if (pairs->code++ == order->joined->highest)
+			return false;
+	*joined = pairs->code;
+	*filter = pairs->filter ? pairs->filter[order->rows[pairs->at]] : 0;
+	pairs->at++;
+	return true;
+}
+
+static void
+pairs_end(Pairs *pairs)
+{
+	if (pairs->sorted)
+		sorted_end(pairs->sorted);
+	if (pairs->filter)
+		pfree(pairs->filter);
+}
+
+/* The part of the filter column's values that a code lies in. */
+static int
 leaf_of(const Column *filter, uint32 code)
 {
 	int			from = 0;
 	int			to = filter->leaves_length;
 
-	if (code == 0)
-		return 0;
 	while (from < to)
 	{
 		int			middle = (from + to) / 2;
@@ -233,7 +339,7 @@ leaf_of(const Column *filter, uint32 code)
 		else
 			to = middle;
 	}
-	return from + 1;
+	return from;
 }
 
 /* Leaves and the nodes above them: each node is two of the level below, and the last one may be one. */
@@ -241,121 +347,238 @@ typedef struct Nodes
 {
 	int			leaves;
 	int			length;			/* of all levels */
+	int		   *above;			/* the node above each one; -1 above the last */
 	Degrees    *degrees;
-	uint64	   *counts;			/* how often the last joined value stands in each leaf */
+	uint64	   *counts;			/* how often the joined value stands in each node */
+	int		   *touched;		/* the nodes that it stands in */
+	int			touched_length;
 } Nodes;
 
-/* Adds up two by two, and answers how many there are then. */
-static int
-halve(uint64 *counts, int length)
+static void
+touch_leaf(Nodes *nodes, int leaf, uint64 count)
 {
-	for (int i = 0; i < length / 2; i++)
-		counts[i] = counts[2 * i] + counts[2 * i + 1];
-	if (length % 2)
-		counts[length / 2] = counts[length - 1];
-	return (length + 1) / 2;
+	for (int node = leaf; node >= 0; node = nodes->above[node])
+	{
+		if (nodes->counts[node] == 0)
+			nodes->touched[nodes->touched_length++] = node;
+		nodes->counts[node] += count;
+	}
 }
 
-/* Adds a joined value's degrees, or how many rows there are, to all nodes. */
+/* Adds a joined value's degrees to the nodes that it stands in; NULL joins with nothing. */
 static void
-add_counts(Nodes *nodes, bool rows)
+end_joined(Nodes *nodes, uint32 joined)
 {
-	int			length = nodes->leaves;
-	int			level = 0;
-
-	for (int node = 0; node < nodes->length; node++)
+	for (int i = 0; i < nodes->touched_length; i++)
 	{
-		if (node == level + length)
-		{
-			level = node;
-			length = halve(nodes->counts, length);
-		}
-		if (rows)
-			nodes->degrees[node].rows = nodes->counts[node - level];
-		else
-			add_degree(&nodes->degrees[node], nodes->counts[node - level]);
+		int			node = nodes->touched[i];
+
+		if (joined > 0)
+			add_degree(&nodes->degrees[node], nodes->counts[node]);
+		nodes->counts[node] = 0;
 	}
-	memset(nodes->counts, 0, nodes->leaves * sizeof(uint64));
+	nodes->touched_length = 0;
+}
+
+/* How many rows each node has. */
+static void
+set_node_rows(Nodes *nodes, const Leaf *leaves)
+{
+	for (int i = 0; i < nodes->leaves; i++)
+		touch_leaf(nodes, i, leaves[i].end - (i ? leaves[i - 1].end : 0));
+	for (int i = 0; i < nodes->length; i++)
+		nodes->degrees[i].rows = nodes->counts[i];
+	end_joined(nodes, 0);
 }
 
 static Nodes
 nodes_of(const Column *filter)
 {
-	Nodes		nodes = {.leaves = filter->leaves_length};
+	Nodes		nodes = {.leaves = filter->leaves ? filter->leaves_length : 0};
 
 	for (int length = nodes.leaves; length > 0; length = length > 1 ? (length + 1) / 2 : 0)
 		nodes.length += length;
+	nodes.above = palloc(nodes.length * sizeof(int) + 1);
 	nodes.degrees = palloc0(nodes.length * sizeof(Degrees) + 1);
-	nodes.counts = palloc0((nodes.leaves + 1) * sizeof(uint64));
-	for (int i = 0; i < nodes.leaves; i++)
-		nodes.counts[i] = filter->leaves[i].end - (i ? filter->leaves[i - 1].end : 0);
-	add_counts(&nodes, true);
+	nodes.counts = palloc0(nodes.length * sizeof(uint64) + 1);
+	nodes.touched = palloc(nodes.length * sizeof(int) + 1);
+	for (int level = 0, length = nodes.leaves; length > 0; level += length, length = length > 1 ? (length + 1) / 2 : 0)
+		for (int i = 0; i < length; i++)
+			nodes.above[level + i] = length > 1 ? level + length + i / 2 : -1;
+	set_node_rows(&nodes, filter->leaves);
 	return nodes;
 }
 
-/* The degrees of each node: rows come by their joined value. */
 static void
-count_nodes(Counting *counting, Nodes *nodes)
+put_nodes(Counting *counting, const Nodes *nodes)
 {
-	Sorted	   *sorted = sorted_codes(counting->making, counting->joined, counting->filter, leaf_of);
-	int			bits = bits_of(counting->filter);
-	uint64		mask = (UINT64CONST(1) << bits) - 1;
-	uint32		last = 0;
-	uint64		number;
+	for (int i = 0; i < nodes->length; i++)
+		put_kept_list(counting, i < nodes->leaves ? LIST_LEAF : LIST_NODE, i < nodes->leaves ? &counting->filter->leaves[i].greatest : NULL,
+					  list_of_degrees(&nodes->degrees[i]));
+}
 
-	while (sorted_get(sorted, &number))
+/* Pairs of codes with how often they stand: the filter column's above the joined one's, and the count below. A count that is too high
+   for its bits is put in parts. */
+typedef struct Counted
+{
+	Sorted	   *sorted;
+	int			joined_bits;
+	int			count_bits;
+} Counted;
+
+static void
+put_counted(Counted *counted, uint32 joined, uint32 filter, uint32 count)
+{
+	uint64		most = (UINT64CONST(1) << counted->count_bits) - 1;
+	uint64		pair = ((((uint64) filter) << counted->joined_bits) | joined) << counted->count_bits;
+
+	for (; count > most; count -= (uint32) most)
+		sorted_put(counted->sorted, pair | most);
+	sorted_put(counted->sorted, pair | count);
+}
+
+/* Goes through the rows by their joined value: for the nodes of ranges, and for the groups of the filter column, which are sorted then. */
+static void
+count_pairs(Counting *counting, const Order *order, Counted *counted, Nodes *nodes)
+{
+	Pairs		pairs = pairs_begin(counting->making, order, counting->filter);
+	uint32		joined = 0;
+	uint32		filter = 0;
+	uint32		last_joined = 0;
+	uint32		last_filter = 0;
+	uint32		count = 0;
+	bool		more;
+
+	do
 	{
-		if (number >> bits != last)
-			add_counts(nodes, false);
-		last = number >> bits;
-		if (last != 0 && (number & mask) != 0)
-			nodes->counts[(number & mask) - 1]++;
-	}
-	add_counts(nodes, false);
-	sorted_end(sorted);
+		CHECK_FOR_INTERRUPTS();
+		more = next_pair(&pairs, &joined, &filter);
+		if (count > 0 && (!more || joined != last_joined || filter != last_filter))
+		{
+			put_counted(counted, last_joined, last_filter, count);
+			if (nodes->length > 0 && last_filter > 0)
+				touch_leaf(nodes, leaf_of(counting->filter, last_filter), count);
+			count = 0;
+		}
+		if (!more || joined != last_joined)
+			end_joined(nodes, last_joined);
+		last_joined = joined;
+		last_filter = filter;
+		count++;
+	} while (more);
+	pairs_end(&pairs);
 }
 
+/* One list for each code of the filter column, and one for NULL though no row has it. Without a filter column all rows are one group. */
 static void
-put_nodes(Counting *counting)
+put_groups(Counting *counting, Counted *counted)
 {
-	Nodes		nodes = nodes_of(counting->filter);
+	Degrees		degrees = {0};
+	uint64		joined_mask = (UINT64CONST(1) << counted->joined_bits) - 1;
+	uint64		count_mask = (UINT64CONST(1) << counted->count_bits) - 1;
+	uint64		last = 0;
+	uint64		degree = 0;
+	uint64		number;
+	int			common = 0;
 
-	if (counting->joined && nodes.length)
-		count_nodes(counting, &nodes);
-	for (int i = 0; i < nodes.length; i++)
-		put_kept_list(counting, i < nodes.leaves ? LIST_LEAF : LIST_NODE, i < nodes.leaves ? &counting->filter->leaves[i].greatest : NULL,
-					  list_of_degrees(&nodes.degrees[i]));
+	while (sorted_get(counted->sorted, &number))
+	{
+		uint64		pair = number >> counted->count_bits;
+
+		if (pair != last)
+			add_degree(&degrees, (last & joined_mask) == 0 ? 0 : degree);
+		if (pair >> counted->joined_bits != last >> counted->joined_bits)
+		{
+			end_group(counting, last >> counted->joined_bits, &degrees, &common);
+			empty(&degrees);
+		}
+		degree = (pair == last ? degree : 0) + (number & count_mask);
+		degrees.rows += number & count_mask;
+		last = pair;
+	}
+	add_degree(&degrees, (last & joined_mask) == 0 ? 0 : degree);
+	end_group(counting, last >> counted->joined_bits, &degrees, &common);
+}
+
+static Counted
+counted_begin(const Counting *counting)
+{
+	Counted		counted = {.joined_bits = bits_of(counting->joined)};
+	int			bits = bits_of(counting->filter) + counted.joined_bits;
+
+	counted.count_bits = Min(63 - bits, 31);
+	/* Pairs come by their joined code. */
+	counted.sorted = sorted_begin(counting->making->rows, counted.count_bits + counted.joined_bits, counted.count_bits + bits);
+	return counted;
+}
+
+/* Without a joined column: how many rows have each code. */
+static void
+put_row_counts(Counting *counting)
+{
+	uint32	   *counts = counting->filter ? count_codes(counting->making, counting->filter) : NULL;
+	uint32		highest = counting->filter ? counting->filter->highest : 0;
+	int			common = 0;
+
+	for (uint32 code = 0; code <= highest; code++)
+	{
+		Degrees		degrees = {.rows = counts ? counts[code] : counting->making->rows};
+
+		end_group(counting, code, &degrees, &common);
+	}
+	if (counts)
+		pfree(counts);
 }
 
 static void
-keep_pair(Making *making, const Column *joined, const Column *filter)
+keep_pair(Making *making, const Order *order, const Column *filter)
 {
 	MemoryContext pair = AllocSetContextCreate(CurrentMemoryContext, "safebound pair", ALLOCSET_DEFAULT_SIZES);
 	MemoryContext before = MemoryContextSwitchTo(pair);
-	Counting	counting = {.making = making,.joined = joined,.filter = filter};
+	Counting	counting = {.making = making,.joined = order->joined,.filter = filter};
+	Nodes		nodes = {0};
 
 	counting.group = AllocSetContextCreate(pair, "safebound group", ALLOCSET_DEFAULT_SIZES);
 	initStringInfo(&counting.bytes);
-	count_groups(&counting);
+	if (filter)
+		nodes = nodes_of(filter);
+	if (order->joined == NULL && (filter == NULL || fits(filter->highest)))
+		put_row_counts(&counting);
+	else
+	{
+		Counted		counted = counted_begin(&counting);
+
+		count_pairs(&counting, order, &counted, &nodes);
+		sorted_perform(counted.sorted);
+		put_groups(&counting, &counted);
+		sorted_end(counted.sorted);
+	}
 	if (filter)
 	{
 		put_kept_list(&counting, LIST_OTHER, NULL, counting.other);
 		put_kept_list(&counting, LIST_ANY, NULL, counting.any);
 	}
-	if (filter && filter->leaves)
-		put_nodes(&counting);
-	save_pair(making, joined, filter, &counting.bytes);
+	put_nodes(&counting, &nodes);
+	save_pair(making, order->joined, filter, &counting.bytes);
 	MemoryContextSwitchTo(before);
 	MemoryContextDelete(pair);
 }
 
-/* The lists of one joined column, or of rows alone. */
+/* The lists of one joined column by all filter columns, or with NULL of rows alone. No filter columns: the list of all rows. */
 static void
 keep_joined(Making *making, const Column *joined, const Column *filters, int length)
 {
+	MemoryContext own = AllocSetContextCreate(CurrentMemoryContext, "safebound order", ALLOCSET_DEFAULT_SIZES);
+	MemoryContext before = MemoryContextSwitchTo(own);
+	Order		order = order_rows(making, joined);
+
+	if (filters == NULL)
+		keep_pair(making, &order, NULL);
 	for (int i = 0; i < length; i++)
 		if (filters[i].filter)
-			keep_pair(making, joined, &filters[i]);
+			keep_pair(making, &order, &filters[i]);
+	MemoryContextSwitchTo(before);
+	MemoryContextDelete(own);
 }
 
 void
@@ -371,8 +594,5 @@ keep_filters(Making *making, const Column *filters, int length)
 void
 keep_whole(Making *making)
 {
-	keep_pair(making, NULL, NULL);
-	for (int i = 0; i < making->length; i++)
-		if (making->columns[i].joined)
-			keep_pair(making, &making->columns[i], NULL);
+	keep_filters(making, NULL, 0);
 }

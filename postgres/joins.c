@@ -15,7 +15,7 @@
 /* Of more relations of one query no more are known: a set of them is a number of 64 bits. */
 #define MOST_KNOWN 64
 
-static Var *
+Var *
 var_of(Expr *expression)
 {
 	while (expression && IsA(expression, RelabelType))
@@ -25,7 +25,7 @@ var_of(Expr *expression)
 	return NULL;
 }
 
-static Entry *
+Entry *
 entry_of(BoundedQuery *query, int relid)
 {
 	return relid > 0 && relid < query->root->simple_rel_array_size && query->entries[relid].table ? &query->entries[relid] : NULL;
@@ -161,20 +161,27 @@ make_room_for_carried(BoundedQuery *query)
 }
 
 /* The list of a column, by its number here, under the conditions of what its relation refers to. */
-static const DegreeList *
+const DegreeList *
 carried_list(BoundedQuery *query, Carried *carried, int column)
 {
 	AttrNumber	joined = column < query->columns_length ? query->columns[column].number : 0;
 	DegreeList	list;
 
 	if (!carried->looked[column] &&
-		list_along(query->entries[carried->referring].table, &carried->reference, query->entries[carried->referred].rel, joined, &list, &carried->used))
+		list_along(query->entries[carried->referring].table, &carried->reference, query->entries[carried->referred].rel, joined, &list, &carried->used, &carried->loose))
 	{
 		carried->lists[column] = palloc(sizeof(DegreeList));
 		*carried->lists[column] = shortened(list);
 	}
 	carried->looked[column] = true;
 	return carried->lists[column];
+}
+
+/* Whether the conditions of what a relation refers to hold for its rows within a join of these relations. */
+bool
+is_carried(const Carried *carried, Relids relids)
+{
+	return bms_is_member(carried->referring, relids) && bms_is_member(carried->referred, relids) && bms_is_subset(carried->required, relids);
 }
 
 /* A list of a relation, in a set of which it may refer to others. */
@@ -188,7 +195,7 @@ list_in_set(BoundedQuery *query, Relids relids, Index relid, int column, DegreeL
 		Carried    *carried = lfirst(cell);
 		const DegreeList *other;
 
-		if (carried->referring != relid || !bms_is_member(carried->referred, relids) || !bms_is_subset(carried->required, relids))
+		if (carried->referring != relid || !is_carried(carried, relids))
 			continue;
 		other = carried_list(query, carried, column);
 		if (other != NULL)

@@ -15,6 +15,9 @@
 
 int			estimates_mode = ESTIMATES_OFF;
 
+/* PostgreSQL may expect nearly nothing of many joins. */
+#define LEAST_EXPECTED 0.01
+
 static planner_hook_type planner_before;
 static set_rel_pathlist_hook_type rel_paths_before;
 static set_join_pathlist_hook_type join_paths_before;
@@ -65,13 +68,24 @@ note_own_rows(BoundedQuery *query, RelOptInfo *rel, double rows)
 	own->rows = rows;
 }
 
-/* The number to plan with: the bound, or the geometric mean of bound and estimate, which is never above the bound. */
+/* The number to plan with: the bound, or a geometric mean of bound and expectation, which is never above the bound. Both count alike for
+   one relation. At each join of a bound the busiest ends meet, so of n relations it counts for 1/n^2. */
 static double
-rows_by_mode(double bound, double estimate)
+rows_by_mode(double bound, double expected, int relations)
 {
-	double		mean = estimates_mode == ESTIMATES_MEAN ? sqrt(bound) * sqrt(Max(estimate, 1)) : bound;
+	double		weight = relations > 1 ? 1.0 / (relations * relations) : 0.5;
+	double		mean = estimates_mode == ESTIMATES_MEAN ? pow(bound, weight) * pow(Max(expected, LEAST_EXPECTED), 1 - weight) : bound;
 
 	return clamp_row_est(Min(bound, mean));
+}
+
+/* Where no condition has a list, the bound is that of the whole table and says nothing of them. */
+static double
+scan_rows(const Entry *entry)
+{
+	bool		blind = estimates_mode == ESTIMATES_MEAN && entry->rel->baserestrictinfo != NIL && entry->used == NULL;
+
+	return blind ? Min(entry->rel->rows, (double) entry->rows) : rows_by_mode((double) entry->rows, entry->rel->rows, 1);
 }
 
 /* All base relations get their numbers before the first of them has its paths for good: the paths of one cost by the rows of others. */
@@ -86,7 +100,7 @@ set_base_rows(BoundedQuery *query)
 			continue;
 		note_own_rows(query, entry->rel, entry->rel->rows);
 		if (estimates_mode != ESTIMATES_OFF)
-			entry->rel->rows = rows_by_mode((double) entry->rows, entry->rel->rows);
+			entry->rel->rows = scan_rows(entry);
 	}
 }
 
@@ -111,6 +125,13 @@ query_of(PlannerInfo *root, bool make)
 	return query;
 }
 
+/* The query of a PlannerInfo whose rows are given; NULL where they are PostgreSQL's own. */
+BoundedQuery *
+query_being_planned(PlannerInfo *root)
+{
+	return estimates_mode != ESTIMATES_OFF && planning ? query_of(root, false) : NULL;
+}
+
 /* What allpaths.c makes for a plain table. */
 static void
 make_scan_paths(PlannerInfo *root, RelOptInfo *rel)
@@ -133,11 +154,32 @@ make_scan_paths(PlannerInfo *root, RelOptInfo *rel)
 static void
 set_parameterised_rows(BoundedQuery *query, RelOptInfo *rel, ParamPathInfo *info)
 {
+	Relids		both = bms_union(info->ppi_req_outer, rel->relids);
 	uint64		outer = bound_of_set(query, info->ppi_req_outer);
-	uint64		joined = outer == UNKNOWN ? UNKNOWN : bound_of_set(query, bms_union(info->ppi_req_outer, rel->relids));
+	uint64		joined = outer == UNKNOWN ? UNKNOWN : bound_of_set(query, both);
+	double		expected;
 
-	if (joined != UNKNOWN)
-		info->ppi_rows = Min(rel->rows, rows_by_mode((double) joined / Max(outer, 1), info->ppi_rows));
+	if (joined == UNKNOWN)
+		return;
+	expected = info->ppi_rows * expected_share(query, both) / expected_share(query, info->ppi_req_outer);
+	info->ppi_rows = Min(rel->rows, rows_by_mode((double) joined / Max(outer, 1), expected, bms_num_members(both)));
+}
+
+/* PostgreSQL has made the paths already, with the parameters that scans may have. For the first relation it did so by its own statistics. */
+static void
+make_paths_again(BoundedQuery *query, RelOptInfo *rel, bool first)
+{
+	ListCell   *cell;
+
+	if (first)
+	{
+		rel->ppilist = NIL;
+		make_scan_paths(query->root, rel);
+	}
+	foreach(cell, rel->ppilist)
+		set_parameterised_rows(query, rel, lfirst(cell));
+	if (!first || rel->ppilist != NIL)
+		make_scan_paths(query->root, rel);
 }
 
 /* Sets the rows of a path, and of the only part that it appends: the plan has that one in its place. */
@@ -178,21 +220,14 @@ on_rel_paths(PlannerInfo *root, RelOptInfo *rel, Index rti, RangeTblEntry *rte)
 {
 	if (planning != NULL && (estimates_mode != ESTIMATES_OFF || planning->told))
 	{
+		bool		first = query_of(root, false) == NULL;
 		BoundedQuery *query = query_of(root, true);
 		bool		known = estimates_mode != ESTIMATES_OFF && rti < (Index) root->simple_rel_array_size && query->entries[rti].rel == rel && query->entries[rti].table;
-		ListCell   *cell;
 
 		if (known && rte->inh)
 			set_append_rows(query, rel);
 		else if (known)
-		{
-			rel->ppilist = NIL;
-			make_scan_paths(root, rel);
-			foreach(cell, rel->ppilist)
-				set_parameterised_rows(query, rel, lfirst(cell));
-			if (rel->ppilist != NIL)
-				make_scan_paths(root, rel);
-		}
+			make_paths_again(query, rel, first);
 	}
 	if (rel_paths_before)
 		rel_paths_before(root, rel, rti, rte);
@@ -218,7 +253,7 @@ own_join_rows(BoundedQuery *query, RelOptInfo *joinrel, RelOptInfo *outer, RelOp
 
 	if (type != JOIN_SEMI && type != JOIN_ANTI)
 		rows *= own_rows(query, inner) / Max(inner->rows, 1);
-	return clamp_row_est(rows);
+	return rows;
 }
 
 /* Sets a join relation's rows and takes its paths away, where it has a bound; they are to be made again. */
@@ -230,7 +265,7 @@ set_join_rows(BoundedQuery *query, RelOptInfo *joinrel, double estimate)
 	note_own_rows(query, joinrel, estimate);
 	if (bound == UNKNOWN)
 		return false;
-	joinrel->rows = rows_by_mode((double) bound, estimate);
+	joinrel->rows = rows_by_mode((double) bound, expected_rows(query, joinrel), bms_num_members(joinrel->relids));
 	joinrel->pathlist = NIL;
 	joinrel->partial_pathlist = NIL;
 	joinrel->ppilist = NIL;
@@ -247,7 +282,7 @@ is_new(BoundedQuery *query, RelOptInfo *joinrel)
 static void
 on_join_paths(PlannerInfo *root, RelOptInfo *joinrel, RelOptInfo *outer, RelOptInfo *inner, JoinType type, JoinPathExtraData *extra)
 {
-	BoundedQuery *query = estimates_mode != ESTIMATES_OFF && planning && !root->join_search_private ? query_of(root, false) : NULL;
+	BoundedQuery *query = root->join_search_private ? NULL : query_being_planned(root);
 
 	if (query != NULL && is_new(query, joinrel) &&
 		set_join_rows(query, joinrel, own_join_rows(query, joinrel, outer, inner, extra->sjinfo->jointype)))
@@ -296,7 +331,7 @@ finish_level(PlannerInfo *root, int level)
 static RelOptInfo *
 on_join_search(PlannerInfo *root, int levels, List *initial)
 {
-	BoundedQuery *query = estimates_mode != ESTIMATES_OFF && planning ? query_of(root, false) : NULL;
+	BoundedQuery *query = query_being_planned(root);
 	RelOptInfo *rel;
 
 	if (join_search_before)
@@ -365,6 +400,7 @@ plan_and_tell(Query *query, const char *text, List **queries)
 void
 planning_init(void)
 {
+	expected_init();
 	planner_before = planner_hook;
 	planner_hook = on_planner;
 	rel_paths_before = set_rel_pathlist_hook;

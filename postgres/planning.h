@@ -30,6 +30,7 @@ typedef struct Entry
 	uint64		rows;			/* its row bound */
 	int			number;			/* among the relations that are known */
 	Bitmapset  *used;			/* the columns whose conditions have lists */
+	struct CountedStatistics *statistics;	/* by column; NULL: none was asked for */
 } Entry;
 
 /* A joined column under its entry's own conditions. */
@@ -58,6 +59,8 @@ typedef struct Carried
 	bool	   *looked;			/* by column, and the last one is its rows alone: whether the list was looked for */
 	DegreeList **lists;			/* NULL where there is none */
 	Bitmapset  *used;			/* the columns of the referred relation whose conditions have lists */
+	bool		loose;			/* the lists may have more rows than refer */
+	double		share;			/* of expected.c; 0: not looked at */
 } Carried;
 
 typedef struct BoundedQuery
@@ -74,12 +77,22 @@ typedef struct BoundedQuery
 } BoundedQuery;
 
 /* joins.c */
+extern Var *var_of(Expr *expression);
+extern Entry *entry_of(BoundedQuery *query, int relid);
 extern BoundedQuery *bounded_query(PlannerInfo *root);
 extern uint64 bound_of_set(BoundedQuery *query, Relids relids);
 extern List *special_joins_within(BoundedQuery *query, Relids relids);
 extern uint64 bound_of_join(BoundedQuery *query, Relids relids);
+extern const DegreeList *carried_list(BoundedQuery *query, Carried *carried, int column);
+extern bool is_carried(const Carried *carried, Relids relids);
+
+/* expected.c */
+extern double expected_rows(BoundedQuery *query, RelOptInfo *rel);
+extern double expected_share(BoundedQuery *query, Relids relids);
+extern void expected_init(void);
 
 /* planning.c */
+extern BoundedQuery *query_being_planned(PlannerInfo *root);
 extern double own_rows(BoundedQuery *query, RelOptInfo *rel);
 extern PlannedStmt *plan_and_tell(Query *query, const char *text, List **queries);
 extern void planning_init(void);

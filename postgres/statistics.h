@@ -119,6 +119,6 @@ extern void kept_init(void);
 extern Oid	equality_family(Oid relation, AttrNumber column, Oid collation);
 extern bool is_equality(Oid relation, AttrNumber column, Oid operator, Oid collation);
 extern DegreeList list_under(const KeptTable *table, RelOptInfo *rel, AttrNumber joined, Bitmapset **used);
-extern bool list_along(const KeptTable *table, const Reference *reference, RelOptInfo *referred, AttrNumber joined, DegreeList *list, Bitmapset **used);
+extern bool list_along(const KeptTable *table, const Reference *reference, RelOptInfo *referred, AttrNumber joined, DegreeList *list, Bitmapset **used, bool *loose);
 
 #endif

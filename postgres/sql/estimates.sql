@@ -88,7 +88,36 @@ SET join_collapse_limit = 1;
 SELECT relations, bound >= (SELECT count(*) FROM f JOIN f g USING (x)) AS whole FROM safebound.bounds('SELECT FROM (f JOIN f g USING (x)) JOIN d ON f.k = d.k WHERE c = ''a''') WHERE 'd' <> ALL (relations);
 RESET join_collapse_limit;
 SELECT safebound.bounds('VACUUM');
-DROP TABLE f, d;
+-- What is expected follows the lists along a reference and the counted numbers of distinct values. A condition without lists is PostgreSQL's.
+CREATE TABLE g (k integer);
+INSERT INTO g SELECT generate_series(1, 1000);
+ALTER TABLE g ALTER k SET (n_distinct = 10);
+ANALYZE d, f, g;
+SELECT safebound.keep('g') > 0 AS g, rows_of('SELECT k FROM g GROUP BY k') = 1000 AS bound_groups;
+SET safebound.estimates = mean;
+SELECT rows_of('SELECT FROM f JOIN d USING (k) WHERE n = 1') BETWEEN 95 AND 100 AS expected, rows_of('SELECT k FROM g GROUP BY k') = 1000 AS groups,
+       rows_of('SELECT FROM d WHERE c <> ''a''') = 8 AS no_list;
 SET safebound.estimates = off;
+SELECT rows_of('SELECT FROM f JOIN d USING (k) WHERE n = 1') < 20 AS own, rows_of('SELECT k FROM g GROUP BY k') = 10 AS own_groups;
+DROP TABLE f, d, g;
+-- An index with a condition finds fewer rows than its column has for a value: it costs what PostgreSQL expects.
+CREATE FUNCTION cost_by(mode text) RETURNS float8 LANGUAGE plpgsql AS $$
+DECLARE told json;
+BEGIN
+    PERFORM set_config('safebound.estimates', mode, true);
+    EXECUTE 'EXPLAIN (FORMAT JSON) SELECT FROM q LEFT JOIN p ON p.k = q.k AND p.c = ''x''' INTO told;
+    RETURN told->0->'Plan'->>'Total Cost';
+END $$;
+CREATE TABLE p (k integer, c text);
+INSERT INTO p SELECT i % 100, CASE WHEN i <= 1000 THEN 'x' ELSE 'y' END FROM generate_series(1, 20000) i;
+CREATE INDEX ON p (k) WHERE c = 'x';
+CREATE TABLE q (k integer PRIMARY KEY);
+INSERT INTO q SELECT generate_series(0, 99);
+ANALYZE p, q;
+SET enable_hashjoin = off; SET enable_mergejoin = off; SET enable_material = off;
+SELECT safebound.keep('p') > 0 AS p, safebound.keep('q') > 0 AS q, cost_by('mean') < 2 * cost_by('off') AS cost;
+RESET enable_hashjoin; RESET enable_mergejoin; RESET enable_material;
+DROP TABLE p, q;
+DROP FUNCTION cost_by;
 DROP TABLE r, s;
 DROP FUNCTION rows_of;

@@ -129,6 +129,15 @@ INSERT INTO things SELECT CASE WHEN i IN (7, 8) THEN 1 ELSE 2 + i % 2 END, i FRO
 SELECT safebound.watch('kinds') > 0 AS kinds, safebound.watch('things') > 0 AS things;
 SELECT most('SELECT FROM things t JOIN kinds ON t.kind = id WHERE kinds.kind = ''rare''') = 2 AS rare;
 DROP TABLE things, kinds;
+-- The counted number of distinct values, where ANALYZE has a lower one of the whole.
+CREATE TABLE many (k integer, x integer) PARTITION BY HASH (k);
+CREATE TABLE many_0 PARTITION OF many FOR VALUES WITH (MODULUS 2, REMAINDER 0);
+CREATE TABLE many_1 PARTITION OF many FOR VALUES WITH (MODULUS 2, REMAINDER 1);
+INSERT INTO many SELECT i, i FROM generate_series(1, 1000) AS i;
+ALTER TABLE many ALTER x SET (n_distinct_inherited = 10);
+ANALYZE many;
+SELECT safebound.keep('many') > 0 AS many, most('SELECT x FROM many GROUP BY x') = 1000 AS groups;
+DROP TABLE many;
 SELECT safebound.forget('parts');
 DROP TABLE parts, s;
 DROP FUNCTION most, known, deltas, triggers, asks;

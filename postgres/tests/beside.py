@@ -18,7 +18,8 @@ from collections import Counter
 from collections.abc import Iterator
 
 import psycopg
-from never_under import JOINS, KINDS, NOT_RUN, PARTITIONED, PRELUDE, Connection, Plan, Table, nodes, query, value
+from never_under import ASKING, JOINS, KINDS, NOT_RUN, PARTITIONED, PRELUDE
+from never_under import Connection, Plan, Table, nodes, query, value
 
 WRITERS = 3
 # States of a query that is refused.
@@ -184,11 +185,11 @@ def make_tables(connection: Connection, r: random.Random, watched: bool) -> list
 
 def one_set(url: str, asking: Asking, r: random.Random, watched: bool, queries: int) -> Counter[str]:
     """A set of tables, with writers beside."""
-    asking.connection.execute("SET safebound.estimates = off")
+    asking.connection.execute("SET safebound.estimates = off; SET statement_timeout = 0")
     tables = make_tables(asking.connection, r, watched)
     known = {table.name for table in tables if table.kind in ("plain", *PARTITIONED)}
     asking.connection.execute(f"SET plan_cache_mode = {r.choice(['force_generic_plan', 'auto'])}")
-    asking.connection.execute("SET safebound.estimates = bound")
+    asking.connection.execute(ASKING)
     for method in ("hashjoin", "mergejoin", "nestloop"):
         asking.connection.execute(f"SET enable_{method} = {r.choice(['on', 'on', 'off'])}")
     writers = [Writer(url, r.randrange(1 << 30), tables, watched) for _ in range(WRITERS)]
@@ -217,7 +218,7 @@ def main() -> int:
     written: Counter[str] = Counter()
     with psycopg.connect(words[0], autocommit=True, prepare_threshold=None) as connection:
         connection.execute(PRELUDE)
-        connection.execute("SET jit = off; SET max_parallel_workers_per_gather = 0; SET statement_timeout = '1s'")
+        connection.execute("SET jit = off; SET max_parallel_workers_per_gather = 0")
         asking = Asking(connection, r, watched)
         for _ in range(sets):
             written += one_set(words[0], asking, r, watched, queries)

@@ -42,6 +42,8 @@ APPENDS = ("Append", "Merge Append")
 PASSES = ("Hash", "Sort", "Incremental Sort", "Materialize", "Memoize", "Bitmap Index Scan", "BitmapOr", "BitmapAnd")
 # Of more outer and semi-joins no join is bounded.
 MOST_SPECIAL_JOINS = 6
+# Some queries would take minutes; what makes their tables isn't cut short.
+ASKING = "SET safebound.estimates = bound; SET statement_timeout = '1s'"
 KINDS = ("plain", "plain", "plain", "hash", "list", "children")
 # These have no rows but those of their parts, and statistics as a whole.
 PARTITIONED = ("hash", "list")
@@ -333,11 +335,12 @@ class Counting:
 
     def one_set(self, queries: int) -> None:
         """New tables, and queries over them."""
-        self.connection.execute("SET safebound.estimates = off")
+        self.connection.execute("SET safebound.estimates = off; SET statement_timeout = 0")
         tables = [Table(self.r, f"nu{i}") for i in range(3)]
         for i, table in enumerate(tables):
             table.make(self.connection, tables[:i])
-        self.connection.execute("ANALYZE nu0, nu1, nu2; SET safebound.estimates = bound")
+        self.connection.execute("ANALYZE nu0, nu1, nu2")
+        self.connection.execute(ASKING)
         known = {table.name for table in tables if table.kind in ("plain", *PARTITIONED)}
         for method in ("hashjoin", "mergejoin", "nestloop"):
             self.connection.execute(f"SET enable_{method} = {self.r.choice(['on', 'on', 'off'])}")
@@ -359,7 +362,7 @@ def main() -> int:
     seed, sets, queries = numbers + [1, 20, 40][len(numbers) :]
     with psycopg.connect(sys.argv[1], autocommit=True) as connection:
         connection.execute(PRELUDE)
-        connection.execute("SET jit = off; SET max_parallel_workers_per_gather = 0; SET statement_timeout = '1s'")
+        connection.execute("SET jit = off; SET max_parallel_workers_per_gather = 0")
         counting = Counting(connection, random.Random(seed), f"seed {seed}")
         for _ in range(sets):
             counting.one_set(queries)

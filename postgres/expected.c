@@ -1,0 +1,284 @@
+/* What is expected of joins: PostgreSQL's own number, corrected by what statistics tell beside bounds. */
+#include "planning.h"
+
+#include <math.h>
+
+#include "access/amapi.h"
+#include "access/htup_details.h"
+#include "catalog/pg_statistic.h"
+#include "miscadmin.h"
+#include "optimizer/optimizer.h"
+#include "optimizer/plancat.h"
+#include "utils/acl.h"
+#include "utils/index_selfuncs.h"
+#include "utils/selfuncs.h"
+#include "utils/syscache.h"
+
+/* What a bound of two relations weighs. */
+#define WEIGHT_OF_TWO 0.25
+
+/* A semi-join's right side makes no rows. */
+static bool
+is_in_semi_join(BoundedQuery *query, const Carried *carried)
+{
+	ListCell   *cell;
+
+	foreach(cell, query->root->join_info_list)
+	{
+		SpecialJoinInfo *join = lfirst(cell);
+
+		if ((join->jointype == JOIN_SEMI || join->jointype == JOIN_ANTI) &&
+			(bms_is_member(carried->referring, join->syn_righthand) || bms_is_member(carried->referred, join->syn_righthand)))
+			return true;
+	}
+	return false;
+}
+
+/* By how much more of the referring rows than of the others pass the other relation's conditions. PostgreSQL expects as many. */
+static double
+share_along(BoundedQuery *query, Carried *carried)
+{
+	const DegreeList *list = is_in_semi_join(query, carried) ? NULL : carried_list(query, carried, query->columns_length);
+	const KeptTable *table = query->entries[carried->referring].table;
+	RelOptInfo *referred = query->entries[carried->referred].rel;
+	double		all = list ? with_deltas(table, 0, kept_pair(table, 0, 0)->lists[0].list).rows : 0;
+	double		share;
+
+	if (all < 1 || referred->tuples < 1)
+		return 1;
+	share = (Max(list->rows, 1) / all) / (own_rows(query, referred) / referred->tuples);
+	return carried->loose && share > 1 ? pow(share, WEIGHT_OF_TWO) : share;
+}
+
+double
+expected_share(BoundedQuery *query, Relids relids)
+{
+	double		product = 1;
+	ListCell   *cell;
+
+	foreach(cell, query->carried)
+	{
+		Carried    *carried = lfirst(cell);
+
+		if (!is_carried(carried, relids))
+			continue;
+		if (carried->share == 0)
+			carried->share = share_along(query, carried);
+		product *= carried->share;
+	}
+	return product;
+}
+
+double
+expected_rows(BoundedQuery *query, RelOptInfo *rel)
+{
+	return own_rows(query, rel) * expected_share(query, rel->relids);
+}
+
+static get_relation_stats_hook_type relation_stats_before;
+
+/* PostgreSQL's statistics of a column, with the number of distinct values that was counted. */
+typedef struct CountedStatistics
+{
+	bool		looked;
+	bool		may_tell;		/* whether who asks may read the column */
+	HeapTuple	tuple;			/* NULL where there is none */
+} CountedStatistics;
+
+static Entry *
+entry_asked_for(BoundedQuery *query, const RangeTblEntry *asked)
+{
+	for (int i = 1; i < query->root->simple_rel_array_size; i++)
+		if (query->root->simple_rte_array[i] == asked)
+			return query->entries[i].table ? &query->entries[i] : NULL;
+	return NULL;
+}
+
+/* The share of a column's rows that is found for a value: where each value is looked for once, or as often as it stands; 0 where there is
+   none. */
+static double
+share_of_value(const DegreeList *list, bool as_often)
+{
+	double		values = 0;
+	double		rows = 0;
+	double		squares = 0;
+
+	for (int i = 0; list && i < list->length; i++)
+	{
+		values += list->runs[i].keys;
+		rows += (double) list->runs[i].keys * list->runs[i].degree;
+		squares += (double) list->runs[i].keys * list->runs[i].degree * list->runs[i].degree;
+	}
+	if (values == 0)
+		return 0;
+	return as_often ? squares / (rows * rows) : 1 / values;
+}
+
+/* A number of distinct values that ANALYZE has made of a sample is often far too low; then it is made of the counted list. PostgreSQL takes
+   all values for equally frequent, so what is found for one is a mean of what is found where each is looked for once, and where each is as
+   often as it stands. */
+static void
+set_distinct_values(Form_pg_statistic statistics, const DegreeList *list)
+{
+	double		once = share_of_value(list, false);
+	double		share = pow(once, 1 - WEIGHT_OF_TWO) * pow(share_of_value(list, true), WEIGHT_OF_TWO);
+	double		told = statistics->stadistinct < 0 ? -statistics->stadistinct * list->rows : statistics->stadistinct;
+
+	/* Many values become more as rows come: ANALYZE tells them as a part of the rows. */
+	if (once > 0 && told < 0.95 / once)
+		statistics->stadistinct = share * list->rows < 10 ? -1 / share / list->rows : 1 / share;
+}
+
+static HeapTuple
+counted_statistics(const RangeTblEntry *asked, AttrNumber column, const DegreeList *list)
+{
+	HeapTuple	tuple = SearchSysCacheCopy3(STATRELATTINH, ObjectIdGetDatum(asked->relid), Int16GetDatum(column), BoolGetDatum(asked->inh));
+
+	if (HeapTupleIsValid(tuple))
+		set_distinct_values((Form_pg_statistic) GETSTRUCT(tuple), list);
+	return HeapTupleIsValid(tuple) ? tuple : NULL;
+}
+
+/* What PostgreSQL asks where nobody hooks. */
+static bool
+may_read(const RangeTblEntry *entry, AttrNumber column)
+{
+	Oid			user = entry->checkAsUser ? entry->checkAsUser : GetUserId();
+
+	return entry->securityQuals == NIL &&
+		(pg_class_aclcheck(entry->relid, user, ACL_SELECT) == ACLCHECK_OK || pg_attribute_aclcheck(entry->relid, column, user, ACL_SELECT) == ACLCHECK_OK);
+}
+
+static CountedStatistics
+look_at_statistics(const Entry *entry, const RangeTblEntry *asked, AttrNumber column)
+{
+	const KeptPair *pair = kept_pair(entry->table, column, 0);
+
+	return (CountedStatistics) {
+		.looked = true,.may_tell = may_read(asked, column),.tuple = pair ? counted_statistics(asked, column, &pair->lists[0].list) : NULL
+	};
+}
+
+/* They are asked for again and again while a query is planned. */
+static CountedStatistics *
+statistics_asked_for(BoundedQuery *query, const RangeTblEntry *asked, AttrNumber column)
+{
+	Entry	   *entry = entry_asked_for(query, asked);
+	MemoryContext before;
+
+	if (entry == NULL || column <= 0 || column > entry->rel->max_attr)
+		return NULL;
+	before = MemoryContextSwitchTo(query->root->planner_cxt);
+	if (entry->statistics == NULL)
+		entry->statistics = palloc0((entry->rel->max_attr + 1) * sizeof(CountedStatistics));
+	if (!entry->statistics[column].looked)
+		entry->statistics[column] = look_at_statistics(entry, asked, column);
+	MemoryContextSwitchTo(before);
+	return &entry->statistics[column];
+}
+
+static void
+keep_tuple(HeapTuple tuple)
+{
+}
+
+/* The numbers of distinct values, by which PostgreSQL expects rows of joins, and costs of scans that are repeated for each row of others. */
+static bool
+on_relation_stats(PlannerInfo *root, RangeTblEntry *entry, AttrNumber column, VariableStatData *data)
+{
+	BoundedQuery *query = query_being_planned(root);
+	CountedStatistics *counted = query ? statistics_asked_for(query, entry, column) : NULL;
+
+	if (counted == NULL || counted->tuple == NULL)
+		return relation_stats_before && relation_stats_before(root, entry, column, data);
+	data->statsTuple = counted->tuple;
+	data->freefunc = keep_tuple;
+	data->acl_ok = counted->may_tell;
+	return true;
+}
+
+static const DegreeList *
+whole_list(BoundedQuery *query, Var *var)
+{
+	Entry	   *entry = var ? entry_of(query, var->varno) : NULL;
+	const KeptPair *pair = entry ? kept_pair(entry->table, var->varattno, 0) : NULL;
+
+	return pair ? &pair->lists[0].list : NULL;
+}
+
+/* The share of rows that an index finds by one column for a value of another: where that one is unique each value is looked for once, and
+   where it is the same column as often as it stands there. Else it is PostgreSQL's, and 0 here. */
+static double
+share_found(BoundedQuery *query, Var *looked, Var *looking)
+{
+	const DegreeList *list = whole_list(query, looked);
+	const DegreeList *other = whole_list(query, looking);
+
+	if (list == NULL || other == NULL)
+		return 0;
+	if (other->length == 1 && other->runs[0].degree == 1)
+		return share_of_value(list, false);
+	if (looked->varattno == looking->varattno && query->entries[looked->varno].table->relation == query->entries[looking->varno].table->relation)
+		return share_of_value(list, true);
+	return 0;
+}
+
+static double
+share_of_scan(BoundedQuery *query, const IndexPath *path)
+{
+	bool		whole = path->indexinfo->indpred == NIL;
+	RestrictInfo *info = whole && list_length(path->indexclauses) == 1 ? linitial_node(IndexClause, path->indexclauses)->rinfo : NULL;
+	OpExpr	   *equality = info ? (OpExpr *) info->clause : NULL;
+	Var		   *left,
+			   *right;
+
+	if (equality == NULL || !IsA(equality, OpExpr) || list_length(equality->args) != 2 || info->mergeopfamilies == NIL)
+		return 0;
+	left = var_of(linitial(equality->args));
+	right = var_of(lsecond(equality->args));
+	if (left == NULL || right == NULL || left->varno == right->varno)
+		return 0;
+	return left->varno == (int) path->indexinfo->rel->relid ? share_found(query, left, right) : share_found(query, right, left);
+}
+
+/* Costs of a scan that is repeated for each row of others. */
+static void
+cost_btree(PlannerInfo *root, IndexPath *path, double loops, Cost *startup, Cost *total, Selectivity *selectivity, double *correlation, double *pages)
+{
+	BoundedQuery *query = query_being_planned(root);
+	double		share = query && path->path.param_info ? share_of_scan(query, path) : 0;
+	double		times;
+
+	btcostestimate(root, path, loops, startup, total, selectivity, correlation, pages);
+	times = share > 0 && *selectivity > 0 ? share / *selectivity : 1;
+	*total = *startup + (*total - *startup) * times;
+	*selectivity *= times;
+	*pages *= times;
+}
+
+static get_relation_info_hook_type relation_info_before;
+
+static void
+on_relation_info(PlannerInfo *root, Oid relation, bool with_children, RelOptInfo *rel)
+{
+	ListCell   *cell;
+
+	if (relation_info_before)
+		relation_info_before(root, relation, with_children, rel);
+	foreach(cell, rel->indexlist)
+	{
+		IndexOptInfo *index = lfirst(cell);
+
+		if (index->amcostestimate == (void (*) ()) btcostestimate)
+			index->amcostestimate = (void (*) ()) cost_btree;
+	}
+}
+
+void
+expected_init(void)
+{
+	relation_stats_before = get_relation_stats_hook;
+	get_relation_stats_hook = on_relation_stats;
+	relation_info_before = get_relation_info_hook;
+	get_relation_info_hook = on_relation_info;
+}
