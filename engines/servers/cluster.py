@@ -10,11 +10,11 @@ import contextlib
 import os
 import re
 import secrets
-import shutil
 from concurrent.futures import ThreadPoolExecutor
-from typing import Callable, Iterable
+from functools import partial
+from typing import Any, Callable, Iterable
 
-from server import GoneOnLeaving, Server, connected_by, free_ports, new_folder, owner
+from server import GoneOnLeaving, Server, connected_by, free_ports, new_folder, own
 
 SERVERS = 2
 PART_BY_PART = ("enable_partitionwise_join=on", "enable_partitionwise_aggregate=on")
@@ -39,15 +39,18 @@ class Cluster:
         for server, port in zip(self.all, free_ports(len(self.all))):
             server.port = port
             os.mkdir(server.folder, 0o700)
-            if owner():
-                shutil.chown(server.folder, owner())
-        at_once((lambda server=server: server.make(self.password) or server.start()) for server in self.all)
+            own(server.folder)
+        at_once(partial(self._started, server) for server in self.all)
         self._link(self.coordinator.database)
+
+    def _started(self, server: Server) -> None:
+        server.make(self.password)
+        server.start()
 
     def add_database(self, name: str) -> None:
         """A database of this name on each server, those of the coordinator's reached from there. Whoever started the
         cluster adds it."""
-        at_once((lambda server=server: server.add_database(name)) for server in self.all)
+        at_once(partial(server.add_database, name) for server in self.all)
         self._link(name)
 
     def _link(self, database: str) -> None:
@@ -82,7 +85,7 @@ class Cluster:
                 else:
                     coordinator.execute(statement)
 
-    def _partitioned(self, coordinator, name: str, columns: str) -> None:
+    def _partitioned(self, coordinator: Any, name: str, columns: str) -> None:
         """Keys are of single parts, and the whole table has none."""
         keyless = re.sub(r"\s+(PRIMARY KEY|UNIQUE)\b", " NOT NULL", columns)
         coordinator.execute(f"CREATE TABLE {name} ({keyless}) PARTITION BY HASH ({columns.split()[0]})")
@@ -96,7 +99,7 @@ class Cluster:
         texts = [
             statement.replace("{number}", str(number)).replace("{servers}", str(SERVERS)) for number in range(SERVERS)
         ]
-        at_once((lambda server=server, text=text: _executed(server, text)) for server, text in zip(self.servers, texts))
+        at_once(partial(_executed, server, text) for server, text in zip(self.servers, texts))
 
 
 def _executed(server: Server, statement: str) -> None:
@@ -104,7 +107,7 @@ def _executed(server: Server, statement: str) -> None:
         connection.execute(statement)
 
 
-def connected(server: Server) -> contextlib.AbstractContextManager:
+def connected(server: Server) -> contextlib.AbstractContextManager[Any]:
     return connected_by(server.url)
 
 

@@ -10,7 +10,7 @@ import shutil
 import socket
 import subprocess
 import tempfile
-from typing import Iterator
+from typing import Any, Iterator
 
 SETTINGS = ("fsync=off", "full_page_writes=off", "synchronous_commit=off", "max_wal_size=4GB")
 
@@ -29,6 +29,13 @@ def owner() -> str | None:
     return "postgres" if os.geteuid() == 0 else None
 
 
+def own(path: str) -> None:
+    """Makes a file or a folder the servers' own."""
+    user = owner()
+    if user:
+        shutil.chown(path, user)
+
+
 def free_ports(count: int) -> list[int]:
     """Ports of this machine that nobody listens on."""
     sockets = [socket.socket() for _ in range(count)]
@@ -42,13 +49,12 @@ def free_ports(count: int) -> list[int]:
 
 def new_folder() -> str:
     folder = tempfile.mkdtemp(prefix="safebound-sql-")
-    if owner():
-        shutil.chown(folder, owner())
+    own(folder)
     return folder
 
 
 @contextlib.contextmanager
-def connected_by(url: str) -> Iterator:
+def connected_by(url: str) -> Iterator[Any]:
     import psycopg
 
     with psycopg.connect(url, autocommit=True) as connection:
@@ -71,8 +77,7 @@ class Server:
         with tempfile.NamedTemporaryFile("w", dir=self.folder) as file:
             file.write(password)
             file.flush()
-            if owner():
-                shutil.chown(file.name, owner())
+            own(file.name)
             self._run("initdb", *words, "--auth-host=scram-sha-256", f"--pwfile={file.name}")
 
     def start(self) -> None:
@@ -88,8 +93,11 @@ class Server:
             connection.execute(f"CREATE DATABASE {name} TEMPLATE template0")
 
     def _run(self, program: str, *words: str) -> None:
-        front = ["runuser", "-u", owner(), "--"] if owner() else []
-        command = front + [os.path.join(programs(), program), *words]
+        user, folder = owner(), programs()
+        if folder is None:
+            raise RuntimeError("PostgreSQL isn't installed")
+        front = ["runuser", "-u", user, "--"] if user else []
+        command = front + [os.path.join(folder, program), *words]
         # To a file, since the server that pg_ctl starts would hold a pipe.
         with tempfile.TemporaryFile("w+") as said:
             done = subprocess.run(command, cwd=self.folder, stdout=said, stderr=subprocess.STDOUT)
@@ -118,7 +126,7 @@ class GoneOnLeaving:
     def stop(self) -> None:
         raise NotImplementedError
 
-    def __exit__(self, *_) -> None:
+    def __exit__(self, *_: object) -> None:
         try:
             self.stop()
         finally:

@@ -16,10 +16,11 @@ sys.path[:0] = [os.path.join(ROOT, "python"), os.path.join(ROOT, "cases")]
 os.environ.setdefault("PYTHONPATH", sys.path[0])
 
 from safebound import _library  # noqa: E402
-from safebound._library import NO_BOUND, NO_VALUES, Status  # noqa: E402,F401
+from safebound._library import Status  # noqa: E402
 
 PROGRAM = os.environ.get("SAFEBOUND_CALLS", os.path.join(ROOT, "library", "out", "calls"))
 MOST_ROWS, MOST_BUDGET = 2**48, 2**59
+NO_BOUND, NO_VALUES = _library.NO_BOUND, _library.NO_VALUES
 UNTOUCHED = 0xA5A5A5A5A5A5A5A5
 
 NUMBER, BYTE = ctypes.c_uint64, ctypes.c_char

@@ -6,12 +6,14 @@ numpy and pandas are tested where they are there; library/test runs this file on
 import ctypes
 import datetime
 import decimal
+import importlib
 import random
 import unittest
 from array import array
 from collections import Counter, OrderedDict, deque
 
-import calls  # noqa: F401
+# First of all, since it says where the package lies.
+importlib.import_module("calls")
 
 import safebound
 from safebound import WrongType, degree_sequence

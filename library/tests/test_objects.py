@@ -7,13 +7,12 @@ import os
 import pickle
 import shutil
 import subprocess
-import sys
 import unittest
 
 import calls
 
 import safebound
-from safebound import BadPlan, Bounds, Join, Order, Query, Run, Tree, WrongType, errors
+from safebound import BadPlan, Join, Order, Query, Run, Tree, WrongType, errors
 
 R, S = ("r", "x"), ("s", "x")
 GIVEN = dict(entries=["r", "s"], equalities=[(R, S)], row_bounds={"r": 6, "s": 5}, lists={R: [(3, 2)], S: [(2, 2), (1, 1)]})
