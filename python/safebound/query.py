@@ -94,9 +94,10 @@ class Query:
     12
     >>> query.best_order(budget=12)
     Order(entries=('s', 'r'), levels=(5, 12))
-    >>> query.best_tree(budget=11)  # doctest: +ELLIPSIS
+    >>> query.best_tree(budget=11)  # doctest: +NORMALIZE_WHITESPACE
     Traceback (most recent call last):
-    safebound.errors.BudgetExceeded: the best plan has a part of at most 12 rows, which is the least budget ...
+    safebound.errors.BudgetExceeded: the best plan has a part of at most 12 rows,
+    which is the least budget that would do
     """
 
     def __init__(
