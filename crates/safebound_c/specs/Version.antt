@@ -1,6 +1,6 @@
 -- The library's version as C reads it.
 use Rattle.std.specs.Prelude.{ℕ, List, [], ◌∷◌}
 
--- 0.2.0 and a 0 at its end
+-- 0.3.0 and a 0 at its end
 abbrev pub version_text : List ℕ
-version_text = 48 ∷ 46 ∷ 50 ∷ 46 ∷ 48 ∷ 0 ∷ []
+version_text = 48 ∷ 46 ∷ 51 ∷ 46 ∷ 48 ∷ 0 ∷ []

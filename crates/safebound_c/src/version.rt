@@ -8,7 +8,7 @@ use crate::status::told;
 use safebound_lists::Refusal;
 
 // The text and a 0 at its end.
-const VERSION: &[u8; 6] = b"0.2.0\0";
+const VERSION: &[u8; 6] = b"0.3.0\0";
 
 fn version(into: &mut [u8]) -> Result<u64, Refusal>
     ensures done { IfOk result (IsFilled version_text into.old into.new) }
