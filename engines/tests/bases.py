@@ -53,7 +53,8 @@ class SqliteBase:
             self.connection.execute("COMMIT")
 
     def rows(self, sql: str) -> list[Row]:
-        return self.connection.execute(sql).fetchall()
+        rows: list[Row] = self.connection.execute(sql).fetchall()
+        return rows
 
     def close(self) -> None:
         self.connection.close()
@@ -82,7 +83,8 @@ class PostgresBase:
                 into.write_row(row)
 
     def rows(self, sql: str) -> list[Row]:
-        return self.connection.execute(sql).fetchall()
+        rows: list[Row] = self.connection.execute(sql).fetchall()
+        return rows
 
     def close(self) -> None:
         self.connection.close()
