@@ -5,7 +5,7 @@ import os
 from collections.abc import Callable
 from typing import TYPE_CHECKING
 
-from . import VERSION, program
+from . import program, version
 from .table import BY_WORD, DATA, EXPLAIN, HELP, JSON, VERSION as VERSION_OPTION
 from .words import Misused, lacks_schema, options, read_line
 
@@ -171,7 +171,7 @@ def show_version() -> int:
     from . import places
     path = places.program()
     said = f"{path}: {program.released()}" if path == places.RELEASED else path or "not built yet (make build)"
-    program.write(1, f"safebound {VERSION}\nprogram: {said}\n")
+    program.write(1, f"safebound {version()}\nprogram: {said}\n")
     return 0
 
 
