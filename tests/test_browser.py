@@ -33,7 +33,11 @@ PICTURES = (
     ("films", "schema.sql one.sql", "no level has more than 600 rows"),
     ("films", "schema.sql one.sql --bushy", "no node has more than 600 rows"),
     ("branches", "schema.sql query.sql --bushy", "no node has more than 8,000 rows"),
-    ("branches", "schema.sql query.sql --bushy --budget 7999", "is refused: its best join tree has a node of up to 8,000 rows"),
+    (
+        "branches",
+        "schema.sql query.sql --bushy --budget 7999",
+        "is refused: its best join tree has a node of up to 8,000 rows",
+    ),
 )
 ONE = "SELECT T.ID FROM TITLE T"
 SHOTS = os.environ.get("SHOTS")
@@ -53,7 +57,10 @@ def look_at_places(driver: Any) -> list[tuple[str, float, float, float, float]]:
         want(x >= 0 and y >= 0 and x + wide <= width and y + high <= height, f"{words!r} is cut")
         numeral = words.replace(",", "").isdigit() and x > 100
         # A letter's box has room above and below; the digits themselves fill about its middle.
-        want(not any(numeral and y + high * 0.2 < line < y + high * 0.75 for line in lines), f"{words!r} stands on the budget's line")
+        want(
+            not any(numeral and y + high * 0.2 < line < y + high * 0.75 for line in lines),
+            f"{words!r} stands on the budget's line",
+        )
     return texts
 
 
@@ -70,7 +77,14 @@ def opened(room: str) -> Any:
         return None
     options = webdriver.ChromeOptions()
     options.binary_location = chromium
-    for word in ("--headless=new", "--no-sandbox", "--disable-gpu", "--hide-scrollbars", "--window-size=1360,860", f"--user-data-dir={os.path.join(room, 'profile')}"):
+    for word in (
+        "--headless=new",
+        "--no-sandbox",
+        "--disable-gpu",
+        "--hide-scrollbars",
+        "--window-size=1360,860",
+        f"--user-data-dir={os.path.join(room, 'profile')}",
+    ):
         options.add_argument(word)
     options.set_capability("goog:loggingPrefs", {"browser": "ALL"})
     for left in (2, 1, 0):
@@ -124,7 +138,10 @@ class Pictures(unittest.TestCase):
             self.drawn(example, words, "plan.svg")
             self.keep(f"picture-{number}")
             texts = look_at_places(self.driver)
-            want(title in texts[0][0] or any(title in text[0] for text in texts), f"{example} {words}: no title {title!r}")
+            want(
+                title in texts[0][0] or any(title in text[0] for text in texts),
+                f"{example} {words}: no title {title!r}",
+            )
             want(any("logarithmic" in text[0] for text in texts), "the scale isn't said")
 
     def test_a_click_shows_a_level(self) -> None:
@@ -132,17 +149,31 @@ class Pictures(unittest.TestCase):
         path, driver = self.drawn("films", "schema.sql query.sql", "plan.html"), self.driver
         with open(path, encoding="utf-8") as f:
             text = f.read()
-        want("<script" not in text and "src=" not in text and text.count("http") == text.count("http://www.w3.org/2000/svg"), "the page asks for another file")
+        want(
+            "<script" not in text
+            and "src=" not in text
+            and text.count("http") == text.count("http://www.w3.org/2000/svg"),
+            "the page asks for another file",
+        )
         look_at_places(driver)
         parts = driver.find_elements(By.CSS_SELECTOR, "aside section")
         want(len(parts) == 10 and not any(part.is_displayed() for part in parts), "a part is shown before a click")
         driver.find_elements(By.CSS_SELECTOR, "svg a[href='#step-4']")[-1].click()
         seen = [part.text for part in parts if part.is_displayed()]
-        want(len(seen) == 1 and "At most 1,304 rows, and there are 34." in seen[0] and "CI.TITLE = T.ID" in seen[0], f"a click on the bar of level 4 shows {seen}")
+        want(
+            len(seen) == 1 and "At most 1,304 rows, and there are 34." in seen[0] and "CI.TITLE = T.ID" in seen[0],
+            f"a click on the bar of level 4 shows {seen}",
+        )
         self.keep("page-level")
         driver.find_element(By.CSS_SELECTOR, ".tree a[href='#entry-3']").click()
         seen = [part.text for part in parts if part.is_displayed()]
-        want(len(seen) == 1 and "At most 900 rows" in seen[0] and "MC.COMPANY of all rows" in seen[0] and "MC.TITLE of all rows" in seen[0], f"a click on a scan of the tree shows {seen}")
+        want(
+            len(seen) == 1
+            and "At most 900 rows" in seen[0]
+            and "MC.COMPANY of all rows" in seen[0]
+            and "MC.TITLE of all rows" in seen[0],
+            f"a click on a scan of the tree shows {seen}",
+        )
         self.keep("page-entry")
         want(not [line for line in driver.get_log("browser") if line["level"] == "SEVERE"], driver.get_log("browser"))
 
@@ -150,7 +181,9 @@ class Pictures(unittest.TestCase):
         from selenium.webdriver.common.by import By
         self.drawn("branches", "schema.sql query.sql --bushy --budget 7999", "plan.html")
         self.driver.find_element(By.CSS_SELECTOR, ".tree a.past").click()
-        seen = [part.text for part in self.driver.find_elements(By.CSS_SELECTOR, "aside section") if part.is_displayed()]
+        seen = [
+            part.text for part in self.driver.find_elements(By.CSS_SELECTOR, "aside section") if part.is_displayed()
+        ]
         want(len(seen) == 1 and "past the budget of 7,999 rows" in seen[0] and "8,000" in seen[0], seen)
         self.keep("page-refused")
 

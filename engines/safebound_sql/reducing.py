@@ -62,7 +62,8 @@ def partners(query: Query) -> Joined:
 
 
 def components(joined: Joined) -> Iterable[list[tuple[int, int | None]]]:
-    """The entries that equalities connect, a list for each group: every entry with the one from which it was reached."""
+    """The entries that equalities connect, a list for each group: every entry with the one from which it was
+    reached."""
     seen: set[int] = set()
     for start in joined:
         if start in seen:

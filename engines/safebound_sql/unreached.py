@@ -82,7 +82,6 @@ class UnreachedDialect(Dialect):
         return before.startswith(("DATE", "TIME")) or (at + 1 < len(pieces) and pieces[at + 1].says("AS", "::"))
 
 
-
 def reading_again(dialect: UnreachedDialect) -> UnreachedDialect:
     """The dialect of an engine that reads a part again wherever it is named, and with it the parts that it names."""
     return replace(dialect, most_parts_of_a_part=200, most_scans=100)

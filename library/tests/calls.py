@@ -33,9 +33,16 @@ OF_RUNS = ("degrees", "compress", "append", "lesser", "greater", "cut")
 OF_NUMBERS = ("bounds", "bounds_within", "set_bound", "joined_rows")
 ELEMENTS: dict[str, Any] = {**dict.fromkeys(OF_RUNS, _library.Run), **dict.fromkeys(OF_NUMBERS, NUMBER),
             "order": _library.Level, "tree": _library.Join, "version": BYTE}
-ARRAYS: dict[str, list[Any]] = {"degrees": [NUMBER], "compress": [_library.Run], "cut": [_library.Run], "order": [NUMBER], "tree": [NUMBER],
-          **dict.fromkeys(("append", "lesser", "greater"), [_library.Run] * 2),
-          **dict.fromkeys(("bounds", "bounds_within", "set_bound"), QUERY), "version": []}
+ARRAYS: dict[str, list[Any]] = {
+    "degrees": [NUMBER],
+    "compress": [_library.Run],
+    "cut": [_library.Run],
+    "order": [NUMBER],
+    "tree": [NUMBER],
+    **dict.fromkeys(("append", "lesser", "greater"), [_library.Run] * 2),
+    **dict.fromkeys(("bounds", "bounds_within", "set_bound"), QUERY),
+    "version": [],
+}
 WITHOUT_ROOM = {"set_bound", "joined_rows"}
 
 
@@ -107,10 +114,14 @@ def by_ctypes(call: Call) -> Answer:
 
 def by_c(lines: list[str]) -> Iterator[tuple[Answer, int]]:
     """The answers of the C program, each with how many requests for memory there were."""
-    done = subprocess.run([PROGRAM], input="".join(line + "\n" for line in lines), capture_output=True, text=True, timeout=300)
+    done = subprocess.run(
+        [PROGRAM], input="".join(line + "\n" for line in lines), capture_output=True, text=True, timeout=300
+    )
     if done.returncode != 0:
         at = done.stdout.count("\n")
-        raise AssertionError(f"{done.stderr.strip()} (status {done.returncode}): {lines[at] if at < len(lines) else ''}"[:2000])
+        raise AssertionError(
+            f"{done.stderr.strip()} (status {done.returncode}): {lines[at] if at < len(lines) else ''}"[:2000]
+        )
     for line, told in zip(lines, done.stdout.splitlines()):
         words = told.split()
         name = next(word for word in line.split() if word in ELEMENTS)

@@ -1,4 +1,5 @@
-"""The whole program over files in memory, from Python, and from C with requests for memory refused: `library/test-command` runs it.
+"""The whole program over files in memory, from Python, and from C with requests for memory refused:
+`library/test-command` runs it.
 
 SAFEBOUND_COMMAND names the C program (command.c), linked with both libraries.
 """
@@ -27,7 +28,12 @@ SCHEMA = "CREATE TABLE R (X INTEGER NOT NULL); CREATE TABLE S (X INTEGER NOT NUL
 QUERY = "SELECT R.X FROM R, S WHERE R.X = S.X"
 RUN, PLAN = ["run", "schema.sql", "query.sql"], ["plan", "schema.sql", "query.sql"]
 # The worked tables of docs/DEFINITIONS.md.
-FILES: dict[str, str] = {"schema.sql": SCHEMA, "query.sql": QUERY, "r.csv": "X\r\n1\r\n1\r\n1\r\n2\r\n2\r\n3\r\n", "s.csv": "X\r\n1\r\n1\r\n4\r\n5\r\n6\r\n"}
+FILES: dict[str, str] = {
+    "schema.sql": SCHEMA,
+    "query.sql": QUERY,
+    "r.csv": "X\r\n1\r\n1\r\n1\r\n2\r\n2\r\n3\r\n",
+    "s.csv": "X\r\n1\r\n1\r\n4\r\n5\r\n6\r\n",
+}
 NOTES = b"scan R 6\nscan S 5\nlevel 1 S 5\nlevel 2 R 12\n"
 ROWS = b"X\r\n" + 6 * b"1\r\n"
 
@@ -40,12 +46,20 @@ class Texts(unittest.TestCase):
     def test_a_run_and_a_plan(self) -> None:
         self.assertEqual(safebound.run(RUN, FILES), (0, ROWS, NOTES))
         self.assertEqual(safebound.run(PLAN, FILES), (0, b"", NOTES))
-        self.assertEqual(safebound.run((word.encode() for word in RUN), {name.encode(): memoryview(text.encode()) for name, text in FILES.items()}), (0, ROWS, NOTES))
+        self.assertEqual(
+            safebound.run(
+                (word.encode() for word in RUN),
+                {name.encode(): memoryview(text.encode()) for name, text in FILES.items()},
+            ),
+            (0, ROWS, NOTES),
+        )
 
     def test_texts_that_are_larger_than_the_first_rooms(self) -> None:
         table = "X\n" + "7\n" * 600
         output = safebound.run(RUN, {**FILES, "r.csv": table, "s.csv": table})
-        self.assertEqual(output, (0, b"X\r\n" + 360_000 * b"7\r\n", b"scan R 600\nscan S 600\nlevel 1 R 600\nlevel 2 S 360000\n"))
+        self.assertEqual(
+            output, (0, b"X\r\n" + 360_000 * b"7\r\n", b"scan R 600\nscan S 600\nlevel 1 R 600\nlevel 2 S 360000\n")
+        )
         for length in (4096 - 12, 4096 - 11, 4096 - 10, 100_000):
             name = "s" * length
             self.assertEqual(safebound.run(["plan", name, "q"], {}), (3, b"", f"error read {name}\n".encode()))
@@ -79,7 +93,20 @@ class Texts(unittest.TestCase):
         self.assertEqual(safebound.run(["run", "é\0", ""], odd), (0, ROWS, NOTES))
         self.assertEqual(safebound.run(["run"] * 100_000, FILES), (2, b"", b"error usage\n"))
         self.assertEqual(safebound.run(["run"] * 20 + [b"\xff"], FILES), (15, b"", b""))
-        longest = ["run", "--budget", "1000", "--accuracy", "64", "--memory", "1000000", "--reduce", "--bushy", "--", "schema.sql", "query.sql"]
+        longest = [
+            "run",
+            "--budget",
+            "1000",
+            "--accuracy",
+            "64",
+            "--memory",
+            "1000000",
+            "--reduce",
+            "--bushy",
+            "--",
+            "schema.sql",
+            "query.sql",
+        ]
         self.assertEqual(safebound.run(longest, FILES).status, 0)
 
 
@@ -120,7 +147,12 @@ class Statistics(unittest.TestCase):
         grown = safebound.append_stats(SCHEMA, self.stats, "r", rows)
         self.assertEqual(safebound.plan_stats(SCHEMA, QUERY, grown).scans, (("R", 8), ("S", 5)))
         self.assertEqual(safebound.append_stats(SCHEMA, self.stats, "R", "X\n"), self.stats)
-        self.assertEqual(safebound.run(["append", "schema.sql", "f", "R", "new.csv"], {"schema.sql": SCHEMA, "f": self.stats, "new.csv": rows}), (0, grown, b""))
+        self.assertEqual(
+            safebound.run(
+                ["append", "schema.sql", "f", "R", "new.csv"], {"schema.sql": SCHEMA, "f": self.stats, "new.csv": rows}
+            ),
+            (0, grown, b""),
+        )
         for stats, table, rows, status, line in [
             (b"", "R", rows, 14, "stats syntax 1"),
             (self.stats, "T", rows, 14, "stats missing 0"),
@@ -135,7 +167,10 @@ class Statistics(unittest.TestCase):
 class Library(unittest.TestCase):
     def test_threads(self) -> None:
         answers: list[safebound.Output] = []
-        threads = [threading.Thread(target=lambda: answers.extend(safebound.run(RUN, FILES) for _ in range(50))) for _ in range(4)]
+        threads = [
+            threading.Thread(target=lambda: answers.extend(safebound.run(RUN, FILES) for _ in range(50)))
+            for _ in range(4)
+        ]
         for thread in threads:
             thread.start()
         for thread in threads:
@@ -147,7 +182,12 @@ class Library(unittest.TestCase):
         script = "import safebound\ntry: safebound.run([], {})\nexcept safebound.LibraryNotFound as error: print(error)"
         with tempfile.TemporaryDirectory() as folder:
             where = os.path.join(folder, "none.so")
-            done = subprocess.run([sys.executable, "-c", script], env={**os.environ, "SAFEBOUND_COMMAND_LIBRARY": where}, capture_output=True, text=True)
+            done = subprocess.run(
+                [sys.executable, "-c", script],
+                env={**os.environ, "SAFEBOUND_COMMAND_LIBRARY": where},
+                capture_output=True,
+                text=True,
+            )
         self.assertEqual((done.stdout, done.stderr), (f"no libsafebound_command.so: looked for {where}\n", ""))
 
     def test_exits_are_the_header_s(self) -> None:
@@ -164,7 +204,9 @@ class Memory(unittest.TestCase):
             for name, text in FILES.items():
                 with open(os.path.join(folder, name), "w", newline="", encoding="utf-8") as f:
                     f.write(text)
-            done = subprocess.run([PROGRAM, *words], cwd=folder, env={**os.environ, "REFUSE": str(refuse)}, capture_output=True)
+            done = subprocess.run(
+                [PROGRAM, *words], cwd=folder, env={**os.environ, "REFUSE": str(refuse)}, capture_output=True
+            )
         return done.returncode, done.stdout, done.stderr
 
     def test_each_request_refused(self) -> None:

@@ -34,7 +34,9 @@ def degrees_of(runs: Iterable[Pair]) -> list[int]:
 
 
 def random_degrees(pick: random.Random) -> list[int]:
-    return sorted((pick.choice([1, 2, 3, 5, 40, 1000]) * pick.randint(1, 3) for _ in range(pick.randint(0, 12))), reverse=True)
+    return sorted(
+        (pick.choice([1, 2, 3, 5, 40, 1000]) * pick.randint(1, 3) for _ in range(pick.randint(0, 12))), reverse=True
+    )
 
 
 class Lists(unittest.TestCase):
@@ -125,10 +127,11 @@ class Lists(unittest.TestCase):
         ])
 
     def test_ten_billion_rows(self) -> None:
-        """One value in 4,000,000,000 rows, one in 3,000,000,000, a thousand in 2,000,000 each, a billion in one row each.
+        """One value in 4,000,000,000 rows, one in 3,000,000,000, a thousand in 2,000,000 each, a billion in one row
+        each.
 
-        At accuracy 1 the second degree isn't below half of the first, so the head stays: rows 1 to 8,000,000,000 have it, in
-        two elements. They lie within the first two values and 500 of the thousand, so 500 of these are left.
+        At accuracy 1 the second degree isn't below half of the first, so the head stays: rows 1 to 8,000,000,000 have
+        it, in two elements. They lie within the first two values and 500 of the thousand, so 500 of these are left.
         """
         table = [(4_000_000_000, 1), (3_000_000_000, 1), (2_000_000, 1000), (1, 1_000_000_000)]
         self.check_runs([
@@ -150,7 +153,8 @@ class GivenLists(reading.ListBounds):  # type: ignore[misc]
 
 
 def with_values(rows: list[int], lists: DegreeLists, equalities: list[Equality]) -> tuple[list[int], DegreeLists]:
-    """Row bounds and lists where these equalities hold: a row without a value in one of their columns is equal to none."""
+    """Row bounds and lists where these equalities hold: a row without a value in one of their columns is equal to
+    none."""
     rows = list(rows)
     for entry, column in itertools.chain(*equalities):
         rows[entry] = min(rows[entry], sum(lists[entry, column]))
@@ -170,7 +174,9 @@ class RandomQuery:
             return None if pick.random() < nulls else pick.randint(1, spread)
 
         most = 6 if self.entries < 5 else 4
-        self.tables = [[[value() for _ in range(columns)] for _ in range(pick.randint(0, most))] for _ in range(self.entries)]
+        self.tables = [
+            [[value() for _ in range(columns)] for _ in range(pick.randint(0, most))] for _ in range(self.entries)
+        ]
         if pick.random() < 0.2:
             self.tables[1] = self.tables[0]
         pairs = list(itertools.combinations(range(self.entries), 2))
@@ -182,7 +188,10 @@ class RandomQuery:
         for _ in range(pick.randint(0, self.entries + 1)):
             one, other = pick.sample(pick.choice(pairs), 2)
             self.equalities.append((place(one), place(other)))
-        self.whole = [self.tables[e] + ([[value() for _ in range(columns)]] if pick.random() < 0.3 else []) for e in range(self.entries)]
+        self.whole = [
+            self.tables[e] + ([[value() for _ in range(columns)]] if pick.random() < 0.3 else [])
+            for e in range(self.entries)
+        ]
         self.rows = [len(table) + pick.choice([0, 0, 1]) for table in self.tables]
         self.lists = {side: self.list_of(*side) for equality in self.equalities for side in equality}
 
@@ -225,7 +234,10 @@ class RandomQuery:
         """What is to be done at most: in each turn of each set one, and the runs of its equalities."""
         length = {side: len(runs_of(degrees)) for side, degrees in self.lists.items()}
         sets = [[e for e in range(self.entries) if number >> e & 1] for number in range(2**self.entries)]
-        return sum(min(max(len(own), 1), 16) * (1 + sum(length[side] for e in own for side in e)) for own in map(self.within, sets))
+        return sum(
+            min(max(len(own), 1), 16) * (1 + sum(length[side] for e in own for side in e))
+            for own in map(self.within, sets)
+        )
 
     def counted(self, entries: list[int]) -> int:
         """How many choices of one row of each entry of a set satisfy the equalities between them, by nested loops."""
@@ -254,7 +266,8 @@ class Bounds(unittest.TestCase):
         self.assertGreater(equal, 100)
 
     def test_rows_without_values(self) -> None:
-        """Two tables of a million rows, of which ten and all have a value, all different: at most ten can join. Alone each has its rows."""
+        """Two tables of a million rows, of which ten and all have a value, all different: at most ten can join. Alone
+        each has its rows."""
         million = 10**6
         lists, runs = [(0, 0, 0, 1), (1, 0, 1, 1)], [(1, 10), (1, million)]
         none = [(0, 0, NO_VALUES, 0), (1, 0, 1, 1)]
@@ -273,10 +286,13 @@ class Bounds(unittest.TestCase):
         calls = [query.call() for query in queries]
         for call, answer in zip(calls, answers(calls)):
             alone = answers([Call("set_bound", call.arrays, 0, number) for number in range(call.room)])
-            self.assertEqual([(one.status, one.detail) for one in alone], [(Status.OK, bound) for bound in answer.elements], call)
+            self.assertEqual(
+                [(one.status, one.detail) for one in alone], [(Status.OK, bound) for bound in answer.elements], call
+            )
 
     def test_limits_of_work(self) -> None:
-        """With a limit that does the bounds are the same; with one less they are refused, and the limit that does is told."""
+        """With a limit that does the bounds are the same; with one less they are refused, and the limit that does is
+        told."""
         queries = [RandomQuery(seed) for seed in range(RUNS)]
         calls = [query.call() for query in queries]
         for query, call, answer in zip(queries, calls, answers(calls)):
@@ -286,7 +302,8 @@ class Bounds(unittest.TestCase):
             self.assertEqual(less, (Status.WORK, work, []), call)
 
     def test_a_limit_ends_at_once(self) -> None:
-        """All pairs of twelve entries, each by columns of its own: the bounds take more than a second, and the refusal next to nothing."""
+        """All pairs of twelve entries, each by columns of its own: the bounds take more than a second, and the refusal
+        next to nothing."""
         equalities = [(a, b, b, a) for a, b in itertools.combinations(range(12), 2)]
         lists = [(entry, column, 0, 12) for entry in range(12) for column in range(12) if column != entry]
         runs = [(12 - at, 1000) for at in range(12)]
@@ -303,7 +320,12 @@ class Bounds(unittest.TestCase):
 
     def test_saturated_bounds(self) -> None:
         """Two columns of one value each have the product of their rows; twelve of 2**48 rows are past every number."""
-        for rows, expected in [((2**31, 2**32), 2**63), ((2**32, 2**32), NO_BOUND), ((2**32 - 1, 2**32 + 1), NO_BOUND), ((2**48, 2**48), NO_BOUND)]:
+        for rows, expected in [
+            ((2**31, 2**32), 2**63),
+            ((2**32, 2**32), NO_BOUND),
+            ((2**32 - 1, 2**32 + 1), NO_BOUND),
+            ((2**48, 2**48), NO_BOUND),
+        ]:
             lists, runs = [(0, 0, 0, 1), (1, 0, 1, 1)], [(rows[0], 1), (rows[1], 1)]
             (answer,) = answers([Call("bounds", [rows, [(0, 0, 1, 0)], lists, runs], 4)])
             self.assertEqual(answer.elements, [1, rows[0], rows[1], expected])
@@ -416,7 +438,12 @@ def best_tree(bounds: list[int], entries: int) -> tuple[int, int, Place, list[tu
 
 def random_bounds(pick: random.Random, entries: int) -> list[int]:
     kind = pick.choice(["few", "few", "many", "large", "none"])
-    least = {"few": [1, 2, 3], "many": range(1000), "large": range(2**58, 2**58 + 9), "none": [2**59, 2**60, NO_BOUND]}[kind]
+    least = {
+        "few": [1, 2, 3],
+        "many": range(1000),
+        "large": range(2**58, 2**58 + 9),
+        "none": [2**59, 2**60, NO_BOUND],
+    }[kind]
     bounds = [pick.choice(least) for _ in range(2**entries)]
     if pick.random() < 0.3:
         bounds[pick.randrange(1, 2**entries)] = NO_BOUND
@@ -434,7 +461,9 @@ class Plans(unittest.TestCase):
             cost, found = best(bounds, entries)
             for budget in {min(cost, 2**59), max(min(cost, 2**59) - 1, 0), 2**59}:
                 calls.append(Call(name, [bounds], len(found), budget))
-                refusal: tuple[int, int | None, list[Any]] = (Status.PAST_BITS, None, []) if cost == NO_BOUND else (Status.BUDGET, cost, [])
+                refusal: tuple[int, int | None, list[Any]] = (
+                    (Status.PAST_BITS, None, []) if cost == NO_BOUND else (Status.BUDGET, cost, [])
+                )
                 expected.append((Status.OK, len(found), found) if cost <= budget else refusal)
         found = answers(calls)
         for call, answer, wanted in zip(calls, found, expected):
@@ -456,7 +485,8 @@ class Plans(unittest.TestCase):
         self.check("tree", best)
 
     def test_twelve_entries(self) -> None:
-        """A chain of twelve entries, each with a thousand keys once: a set has a thousand rows for each run of neighbours in it."""
+        """A chain of twelve entries, each with a thousand keys once: a set has a thousand rows for each run of
+        neighbours in it."""
         ends = [bin(number & ~(number >> 1)).count("1") for number in range(4096)]
         equalities = [(e, 0, e + 1, 0) for e in range(11)]
         lists, runs = [(e, 0, e, 1) for e in range(12)], [(1, 1000)] * 12
@@ -464,7 +494,8 @@ class Plans(unittest.TestCase):
         self.assertEqual(bounds, [1000**count for count in ends])
         order, tree = answers([Call("order", [bounds], 12, 1000), Call("tree", [bounds], 11, 1000)])
         self.assertEqual(order, (Status.OK, 12, [(e, 1000) for e in range(12)]))
-        # Of trees with one cost and one sum the one counts whose left sets are the least: each entry beside all later ones.
+        # Of trees with one cost and one sum the one counts whose left sets are the least: each entry beside all later
+        # ones.
         self.assertEqual(tree, (Status.OK, 11, [(10, 11, 1000)] + [(9 - k, 12 + k, 1000) for k in range(10)]))
 
 

@@ -45,8 +45,29 @@ class Columns(unittest.TestCase):
 
 class Python(Columns):
     def test_any_iterable_of_hashables(self) -> None:
-        values = [3, 1, 3, "a", (1, 2), (1, 2), datetime.date(2020, 1, 1), 1.5, frozenset([1]), b"a", decimal.Decimal("1.50"), True]
-        for column in (values, tuple(values), iter(values), (v for v in values), deque(values), dict(enumerate(values)).values(), map(lambda v: v, values)):
+        values = [
+            3,
+            1,
+            3,
+            "a",
+            (1, 2),
+            (1, 2),
+            datetime.date(2020, 1, 1),
+            1.5,
+            frozenset([1]),
+            b"a",
+            decimal.Decimal("1.50"),
+            True,
+        ]
+        for column in (
+            values,
+            tuple(values),
+            iter(values),
+            (v for v in values),
+            deque(values),
+            dict(enumerate(values)).values(),
+            map(lambda v: v, values),
+        ):
             self.gives(column, values)
         self.gives([], [])
 
@@ -98,7 +119,8 @@ class Python(Columns):
 
 
 class ArrowLike:
-    """What a column of Arrow offers: `to_pylist`, and scalars where it is walked through, which aren't None where they are null."""
+    """What a column of Arrow offers: `to_pylist`, and scalars where it is walked through, which aren't None where they
+    are null."""
 
     shape: tuple[int, ...]
 
@@ -127,10 +149,19 @@ class Arrow(Columns):
         pyarrow = module("pyarrow")
         if pyarrow is None:
             self.skipTest("pyarrow isn't here")
-        columns: tuple[list[Any], ...] = ([1, None, 1], ["a", "b", None, "a"], [1.5, NAN, None, 1.5], [datetime.datetime(2020, 1, 1), None])
+        columns: tuple[list[Any], ...] = (
+            [1, None, 1],
+            ["a", "b", None, "a"],
+            [1.5, NAN, None, 1.5],
+            [datetime.datetime(2020, 1, 1), None],
+        )
         for values in columns:
             known = [v for v in values if v is not None and v == v]
-            for column in (pyarrow.array(values), pyarrow.chunked_array([values, values[:1]]), pyarrow.array(values).dictionary_encode()):
+            for column in (
+                pyarrow.array(values),
+                pyarrow.chunked_array([values, values[:1]]),
+                pyarrow.array(values).dictionary_encode(),
+            ):
                 self.gives(column, known + (values[:1] if isinstance(column, pyarrow.ChunkedArray) else []))
         self.refuses(pyarrow.table({"x": [1, 1]}))
 
@@ -142,7 +173,13 @@ class Numpy(Columns):
         for kind in "bBhHiIlLqQ?fdg":
             values = [pick.choice([0, 1, 1, 5, 100]) for _ in range(50)]
             column = numpy.array(values, dtype=kind)
-            for given in (column, column[::2], column[::-1], column.astype(column.dtype.newbyteorder(">")), numpy.asfortranarray(column)):
+            for given in (
+                column,
+                column[::2],
+                column[::-1],
+                column.astype(column.dtype.newbyteorder(">")),
+                numpy.asfortranarray(column),
+            ):
                 self.gives(given, given.tolist())
         self.gives(numpy.array([2**63, 2**64 - 1, 2**63], dtype="u8"), [2**63, 2**64 - 1, 2**63])
         self.gives(numpy.array([], dtype="f8"), [])
@@ -174,11 +211,21 @@ class Numpy(Columns):
         self.gives(numpy.ma.array([7, 7, NAN, 8, 9], mask=mask), [7, 8])
         self.gives(numpy.ma.array(list("aaabc"), mask=mask), "aab")
         self.gives(numpy.ma.array(list("aaabc"), mask=mask, dtype=object), "aab")
-        self.gives(numpy.ma.array(["2020-01-01", "2020-01-01", "NaT", "2021-01-01", "2020-01-01"], mask=mask, dtype="M8[D]"), "ab")
+        self.gives(
+            numpy.ma.array(["2020-01-01", "2020-01-01", "NaT", "2021-01-01", "2020-01-01"], mask=mask, dtype="M8[D]"),
+            "ab",
+        )
         self.gives([1, numpy.ma.masked, 1], [1, 1])
 
     def test_more_than_one_dimension(self) -> None:
-        for wrong in (numpy.ones((2, 2)), numpy.ones((4, 1)), numpy.ones((1, 1, 1)), numpy.ma.ones((2, 2)), numpy.ones((2, 2), dtype=object), numpy.array([["a"]])):
+        for wrong in (
+            numpy.ones((2, 2)),
+            numpy.ones((4, 1)),
+            numpy.ones((1, 1, 1)),
+            numpy.ma.ones((2, 2)),
+            numpy.ones((2, 2), dtype=object),
+            numpy.array([["a"]]),
+        ):
             self.refuses(wrong, type(wrong).__name__, f"{wrong.ndim} dimensions")
         self.refuses(numpy.array(5), "0 dimensions")
         self.refuses(numpy.int64(5))
@@ -229,10 +276,16 @@ class Joins(unittest.TestCase):
     def test_a_frame_s_column_bounds_its_join(self) -> None:
         """Four rows of one value on both sides join to 16 rows. The names of a frame's columns would say four."""
         column = [1, 1, 1, 1]
-        kinds = [column] + ([numpy.array(column)] if numpy else []) + ([pandas.DataFrame({"x": column})["x"]] if pandas else [])
+        kinds = (
+            [column]
+            + ([numpy.array(column)] if numpy else [])
+            + ([pandas.DataFrame({"x": column})["x"]] if pandas else [])
+        )
         for kind in kinds:
             list_of = degree_sequence(kind)
-            query = safebound.Query(["r", "s"], [(("r", "x"), ("s", "x"))], {"r": 4, "s": 4}, {("r", "x"): list_of, ("s", "x"): list_of})
+            query = safebound.Query(
+                ["r", "s"], [(("r", "x"), ("s", "x"))], {"r": 4, "s": 4}, {("r", "x"): list_of, ("s", "x"): list_of}
+            )
             self.assertEqual(query.bounds()[{"r", "s"}], 16)
 
 

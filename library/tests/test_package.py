@@ -1,4 +1,5 @@
-"""The Python package: what its pages show, its errors, several threads, and how it is installed and finds the library."""
+"""The Python package: what its pages show, its errors, several threads, and how it is installed and finds the
+library."""
 
 from __future__ import annotations
 
@@ -23,7 +24,12 @@ PAIR = [(("r", "x"), ("s", "x"))]
 
 
 def pair(**changed: Any) -> safebound.Query:
-    given: dict[str, Any] = dict(entries=["r", "s"], equalities=PAIR, row_bounds={"r": 6, "s": 5}, lists={("r", "x"): [(3, 2)], ("s", "x"): [(2, 2), (1, 1)]})
+    given: dict[str, Any] = dict(
+        entries=["r", "s"],
+        equalities=PAIR,
+        row_bounds={"r": 6, "s": 5},
+        lists={("r", "x"): [(3, 2)], ("s", "x"): [(2, 2), (1, 1)]},
+    )
     return safebound.Query(**{**given, **changed})
 
 
@@ -44,7 +50,9 @@ class Pages(unittest.TestCase):
 
 
 class Errors(unittest.TestCase):
-    def raises(self, kind: type[safebound.WrongValue], place: Any, make: Callable[[], object], column: object = None) -> None:
+    def raises(
+        self, kind: type[safebound.WrongValue], place: Any, make: Callable[[], object], column: object = None
+    ) -> None:
         with self.assertRaises(kind) as caught:
             make()
         self.assertIs(type(caught.exception), kind)
@@ -111,7 +119,11 @@ class Errors(unittest.TestCase):
     def test_what_is_no_number(self) -> None:
         text: Any = "1"
         broken: Any = 1.0
-        for make in (lambda: safebound.compress([(1, 1)], text), lambda: safebound.compress([(broken, 1)], 1), lambda: pair(row_bounds={"r": "6", "s": 5})):
+        for make in (
+            lambda: safebound.compress([(1, 1)], text),
+            lambda: safebound.compress([(broken, 1)], 1),
+            lambda: pair(row_bounds={"r": "6", "s": 5}),
+        ):
             self.assertRaises(TypeError, make)
 
 
@@ -119,10 +131,17 @@ class Answers(unittest.TestCase):
     def test_by_name(self) -> None:
         """A triangle: three equalities that close a cycle."""
         columns = [(entry, column) for entry in "rst" for column in ("x", "y")]
-        asked = safebound.Query(list("rst"), [(("r", "x"), ("s", "x")), (("s", "y"), ("t", "x")), (("t", "y"), ("r", "y"))],
-                                dict.fromkeys("rst", 3), {column: [(2, 1), (1, 1)] for column in columns})
+        asked = safebound.Query(
+            list("rst"),
+            [(("r", "x"), ("s", "x")), (("s", "y"), ("t", "x")), (("t", "y"), ("r", "y"))],
+            dict.fromkeys("rst", 3),
+            {column: [(2, 1), (1, 1)] for column in columns},
+        )
         bounds = asked.bounds()
-        self.assertEqual({"".join(sorted(names)): bounds[names] for names in bounds}, {"": 1, "r": 3, "s": 3, "t": 3, "rs": 5, "rt": 5, "st": 5, "rst": 9})
+        self.assertEqual(
+            {"".join(sorted(names)): bounds[names] for names in bounds},
+            {"": 1, "r": 3, "s": 3, "t": 3, "rs": 5, "rt": 5, "st": 5, "rst": 9},
+        )
         self.assertEqual(bounds["r", "s", "r"], 5)
         self.assertEqual(len(bounds), 8)
         self.assertRaises(KeyError, lambda: bounds[{"u"}])
@@ -132,8 +151,11 @@ class Answers(unittest.TestCase):
         self.assertEqual((tree.joins, tree.shape), (((1, 2, 5), (0, 3, 9)), ("r", ("s", "t"))))
 
     def test_no_rows_and_no_values(self) -> None:
-        """An empty table has empty lists; of a column with the list (1, 1) one row has a value, and at most that one is joined."""
-        empty = pair(row_bounds={"r": 0, "s": 5}, lists={("r", "x"): safebound.degree_sequence([]), ("s", "x"): [(2, 2), (1, 1)]})
+        """An empty table has empty lists; of a column with the list (1, 1) one row has a value, and at most that one is
+        joined."""
+        empty = pair(
+            row_bounds={"r": 0, "s": 5}, lists={("r", "x"): safebound.degree_sequence([]), ("s", "x"): [(2, 2), (1, 1)]}
+        )
         self.assertEqual((empty.bounds()[{"r"}], empty.bounds()[{"r", "s"}]), (0, 0))
         without = pair(lists={("r", "x"): [(1, 1)], ("s", "x"): [(2, 2), (1, 1)]})
         self.assertEqual((without.bounds()[{"r"}], without.bounds()[{"r", "s"}]), (6, 2))
@@ -166,7 +188,10 @@ class Answers(unittest.TestCase):
 
     def test_threads(self) -> None:
         """Four threads at once get what one gets."""
-        asked = [pair(row_bounds={"r": 6, "s": rows}, lists={("r", "x"): [(3, 2)], ("s", "x"): [(2, 2), (1, rows)]}) for rows in range(5, 205)]
+        asked = [
+            pair(row_bounds={"r": 6, "s": rows}, lists={("r", "x"): [(3, 2)], ("s", "x"): [(2, 2), (1, rows)]})
+            for rows in range(5, 205)
+        ]
         alone = [(q.bounds()[{"r", "s"}], q.best_order(2**30)) for q in asked]
         keys = [array("Q", [pick % 97 for pick in range(at, 20000 + at)]) for at in range(4)]
         sequences = [safebound.degree_sequence(key) for key in keys]
@@ -174,8 +199,15 @@ class Answers(unittest.TestCase):
 
         def work(at: int) -> None:
             for q, expected in zip(asked, alone):
-                other = safebound.Query(q.entries, PAIR, {"r": 6, "s": q._rows[1]}, {("r", "x"): [(3, 2)], ("s", "x"): [(2, 2), (1, q._rows[1])]})
-                if (other.bounds()[{"r", "s"}], other.best_order(2**30)) != expected or safebound.degree_sequence(keys[at]) != sequences[at]:
+                other = safebound.Query(
+                    q.entries,
+                    PAIR,
+                    {"r": 6, "s": q._rows[1]},
+                    {("r", "x"): [(3, 2)], ("s", "x"): [(2, 2), (1, q._rows[1])]},
+                )
+                if (other.bounds()[{"r", "s"}], other.best_order(2**30)) != expected or safebound.degree_sequence(
+                    keys[at]
+                ) != sequences[at]:
                     wrong.append(at)
 
         threads = [threading.Thread(target=work, args=(at,)) for at in range(4)]
@@ -199,11 +231,22 @@ class Installed(unittest.TestCase):
 
     def run_python(self, *words: str, **variables: str) -> subprocess.CompletedProcess[str]:
         clean = {name: value for name, value in os.environ.items() if name not in ("SAFEBOUND_LIBRARY", "PYTHONPATH")}
-        return subprocess.run([sys.executable, *words], cwd=self.folder, env={**clean, **variables}, capture_output=True, text=True, timeout=120)
+        return subprocess.run(
+            [sys.executable, *words],
+            cwd=self.folder,
+            env={**clean, **variables},
+            capture_output=True,
+            text=True,
+            timeout=120,
+        )
 
     def copy(self) -> str:
         package = os.path.join(self.folder, "safebound")
-        shutil.copytree(os.path.join(calls.ROOT, "python", "safebound"), package, ignore=shutil.ignore_patterns("*.so", "__pycache__"))
+        shutil.copytree(
+            os.path.join(calls.ROOT, "python", "safebound"),
+            package,
+            ignore=shutil.ignore_patterns("*.so", "__pycache__"),
+        )
         return package
 
     def test_where_it_looks(self) -> None:
@@ -225,8 +268,13 @@ class Installed(unittest.TestCase):
         self.assertIn("isn't of version 0.0.1", done.stderr)
 
     def test_pip(self) -> None:
-        """As docs/EMBEDDING.md says, from a copy of the repository's folders, with the library where `make library` leaves it."""
-        shutil.copytree(os.path.join(calls.ROOT, "python"), os.path.join(self.folder, "python"), ignore=shutil.ignore_patterns("*.so", "__pycache__", "build", "*.egg-info"))
+        """As docs/EMBEDDING.md says, from a copy of the repository's folders, with the library where `make library`
+        leaves it."""
+        shutil.copytree(
+            os.path.join(calls.ROOT, "python"),
+            os.path.join(self.folder, "python"),
+            ignore=shutil.ignore_patterns("*.so", "__pycache__", "build", "*.egg-info"),
+        )
         os.makedirs(os.path.join(self.folder, "library", "out"))
         shutil.copy(self.library, os.path.join(self.folder, "library", "out"))
         for name in ("LICENSE", os.path.join("library", "safebound.map")):
@@ -236,7 +284,11 @@ class Installed(unittest.TestCase):
         self.assertEqual(done.returncode, 0, done.stderr)
         shutil.rmtree(os.path.join(self.folder, "library"))
         found = self.run_python("-c", SAY, PYTHONPATH=target)
-        self.assertEqual(found.stdout.split(), [safebound.__version__, os.path.join(target, "safebound", "libsafebound.so")], found.stderr)
+        self.assertEqual(
+            found.stdout.split(),
+            [safebound.__version__, os.path.join(target, "safebound", "libsafebound.so")],
+            found.stderr,
+        )
 
 
 if __name__ == "__main__":

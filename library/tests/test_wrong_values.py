@@ -48,7 +48,13 @@ def replaced(array: list[_E], place: int, element: _E) -> list[_E]:
     return array[:place] + [element] + array[place + 1 :]
 
 
-def bounds_of(rows: list[int] = ROWS, equalities: list[Equality] = EQUALITIES, lists: list[Equality] = LISTS, runs: list[Pair] = RUNS, room: int = 8) -> Call:
+def bounds_of(
+    rows: list[int] = ROWS,
+    equalities: list[Equality] = EQUALITIES,
+    lists: list[Equality] = LISTS,
+    runs: list[Pair] = RUNS,
+    room: int = 8,
+) -> Call:
     return Call("bounds", [rows, equalities, lists, runs], room)
 
 
@@ -59,7 +65,12 @@ class WrongValues(unittest.TestCase):
             self.assertEqual(got, Answer(status, detail, []), call)
 
     def test_accuracy(self) -> None:
-        self.check([(Call("compress", [RIGHT], 8, k), Status.BAD_ACCURACY, k) for k in (0, 65, 256, 257, 2**32 + 1, 2**64 - 1)])
+        self.check(
+            [
+                (Call("compress", [RIGHT], 8, k), Status.BAD_ACCURACY, k)
+                for k in (0, 65, 256, 257, 2**32 + 1, 2**64 - 1)
+            ]
+        )
 
     def test_runs_of_lists(self) -> None:
         self.check([(Call("compress", [runs], 8, 1), Status.BAD_RUN, place) for runs, place in WRONG_LISTS])
@@ -78,7 +89,12 @@ class WrongValues(unittest.TestCase):
         ])
 
     def test_number_of_entries(self) -> None:
-        self.check([(bounds_of(rows=[1] * n, equalities=[], lists=[], runs=[]), Status.BAD_ENTRIES, n) for n in (0, 13, 64, 256)])
+        self.check(
+            [
+                (bounds_of(rows=[1] * n, equalities=[], lists=[], runs=[]), Status.BAD_ENTRIES, n)
+                for n in (0, 13, 64, 256)
+            ]
+        )
 
     def test_rows(self) -> None:
         for number in (MOST_ROWS + 1, 2**63, 2**64 - 1):
@@ -89,19 +105,52 @@ class WrongValues(unittest.TestCase):
         self.assertEqual(answer(bounds_of(equalities=EQUALITIES[:1] * 256)).status, Status.OK)
 
     def test_equalities(self) -> None:
-        for wrong in [(3, 0, 1, 7), (0, 0, 3, 7), (12, 0, 1, 7), (256, 0, 1, 7), (0, 0, 257, 7), (2**32 - 1, 0, 1, 7), (0, 0, 0, 0), (1, 7, 1, 8)]:
-            self.check([(bounds_of(equalities=replaced(EQUALITIES, place, wrong)), Status.BAD_EQUALITY, place) for place in (0, 1)])
+        for wrong in [
+            (3, 0, 1, 7),
+            (0, 0, 3, 7),
+            (12, 0, 1, 7),
+            (256, 0, 1, 7),
+            (0, 0, 257, 7),
+            (2**32 - 1, 0, 1, 7),
+            (0, 0, 0, 0),
+            (1, 7, 1, 8),
+        ]:
+            self.check(
+                [
+                    (bounds_of(equalities=replaced(EQUALITIES, place, wrong)), Status.BAD_EQUALITY, place)
+                    for place in (0, 1)
+                ]
+            )
 
     def test_lists(self) -> None:
-        for wrong in [(3, 9, 0, 1), (256, 0, 0, 1), (2**32 - 1, 0, 0, 1), (0, 0, 0, 7), (0, 0, 6, 1), (0, 0, 7, 0), (0, 0, 0, 0), (0, 0, 6, 0), (0, 0, 2**64 - 1, 1),
-                      (0, 0, 1, 2**64 - 1), (0, 0, 2**63, 2**63), (0, 0, NO_VALUES - 1, 0), (0, 0, NO_VALUES, 1), (3, 0, NO_VALUES, 0)]:
+        for wrong in [
+            (3, 9, 0, 1),
+            (256, 0, 0, 1),
+            (2**32 - 1, 0, 0, 1),
+            (0, 0, 0, 7),
+            (0, 0, 6, 1),
+            (0, 0, 7, 0),
+            (0, 0, 0, 0),
+            (0, 0, 6, 0),
+            (0, 0, 2**64 - 1, 1),
+            (0, 0, 1, 2**64 - 1),
+            (0, 0, 2**63, 2**63),
+            (0, 0, NO_VALUES - 1, 0),
+            (0, 0, NO_VALUES, 1),
+            (3, 0, NO_VALUES, 0),
+        ]:
             self.check([(bounds_of(lists=replaced(LISTS, place, wrong)), Status.BAD_LIST, place) for place in range(4)])
         self.check([(bounds_of(lists=LISTS + [again]), Status.BAD_LIST, 4) for again in LISTS])
         self.check([(bounds_of(lists=LISTS + [(0, 0, NO_VALUES, 0)]), Status.BAD_LIST, 4)])
 
     def test_sets(self) -> None:
         query = bounds_of().arrays
-        self.check([(Call("set_bound", query, 0, set), Status.BAD_SET, set) for set in (8, 9, 2**16, 2**32, 2**63, 2**64 - 1)])
+        self.check(
+            [
+                (Call("set_bound", query, 0, set), Status.BAD_SET, set)
+                for set in (8, 9, 2**16, 2**32, 2**63, 2**64 - 1)
+            ]
+        )
 
     def test_kind_of_join(self) -> None:
         for kind in (0, 6, 2**32 + 1, 2**64 - 1):
@@ -112,16 +161,22 @@ class WrongValues(unittest.TestCase):
         (refused,) = answers([Call("bounds_within", query, 8, 0)])
         self.assertEqual((refused.status, refused.elements), (Status.WORK, []))
         assert refused.detail is not None
-        self.check([(Call("bounds_within", query, 8, limit), Status.WORK, refused.detail) for limit in (1, refused.detail - 1)])
+        self.check(
+            [(Call("bounds_within", query, 8, limit), Status.WORK, refused.detail) for limit in (1, refused.detail - 1)]
+        )
 
     def test_runs(self) -> None:
         self.check([(bounds_of(runs=replaced(RUNS, place, (0, 1))), Status.BAD_RUN, place) for place in range(6)])
         self.check([(bounds_of(runs=replaced(RUNS, place, (1, 0))), Status.BAD_RUN, place) for place in range(6)])
         self.check([(bounds_of(runs=replaced(RUNS, place, (3, 1))), Status.BAD_RUN, place) for place in (2, 5)])
-        self.check([(bounds_of(runs=replaced(RUNS, place, (1, 2**64 - 1))), Status.BAD_RUN, place) for place in range(6)])
+        self.check(
+            [(bounds_of(runs=replaced(RUNS, place, (1, 2**64 - 1))), Status.BAD_RUN, place) for place in range(6)]
+        )
         # The list of a column that no equality names is looked at too; the first list decides, and not the first run.
         self.check([(bounds_of(lists=LISTS + [(2, 9, 6, 1)], runs=RUNS + [(0, 0)]), Status.BAD_RUN, 6)])
-        self.check([(bounds_of(lists=LISTS[::-1], runs=replaced(replaced(RUNS, 0, (0, 0)), 5, (0, 0))), Status.BAD_RUN, 5)])
+        self.check(
+            [(bounds_of(lists=LISTS[::-1], runs=replaced(replaced(RUNS, 0, (0, 0)), 5, (0, 0))), Status.BAD_RUN, 5)]
+        )
 
     def test_missing_lists(self) -> None:
         for place, equality in [(0, 0), (1, 0), (2, 1), (3, 1)]:
@@ -135,16 +190,23 @@ class WrongValues(unittest.TestCase):
 
     def test_budget(self) -> None:
         for name in ("order", "tree"):
-            self.check([(Call(name, [BOUNDS], 3, n), Status.BAD_BUDGET, n) for n in (MOST_BUDGET + 1, 2**63, 2**64 - 1)])
+            self.check(
+                [(Call(name, [BOUNDS], 3, n), Status.BAD_BUDGET, n) for n in (MOST_BUDGET + 1, 2**63, 2**64 - 1)]
+            )
 
     def test_a_level_in_the_middle(self) -> None:
-        """A budget is for the greatest level, wherever it is: two of these three entries have 9 rows in every plan, and all three have 6."""
+        """A budget is for the greatest level, wherever it is: two of these three entries have 9 rows in every plan, and
+        all three have 6."""
         bounds = [1, 2, 2, 9, 2, 9, 9, 6]
-        self.check([(Call(name, [bounds], 3, budget), Status.BUDGET, 9) for name in ("order", "tree") for budget in (6, 8)])
+        self.check(
+            [(Call(name, [bounds], 3, budget), Status.BUDGET, 9) for name in ("order", "tree") for budget in (6, 8)]
+        )
 
     def test_what_comes_first(self) -> None:
         """Where several statuses apply, the one that is told is the first of the header's list."""
-        wrong: dict[str, Any] = dict(rows=[MOST_ROWS + 1] * 13, equalities=[(0, 0, 0, 0)] * 257, lists=[(0, 0, 9, 9)], runs=[(0, 0)], room=0)
+        wrong: dict[str, Any] = dict(
+            rows=[MOST_ROWS + 1] * 13, equalities=[(0, 0, 0, 0)] * 257, lists=[(0, 0, 9, 9)], runs=[(0, 0)], room=0
+        )
         for name, right, status, detail in [
             ("rows", [6, MOST_ROWS + 1, 4], Status.BAD_ENTRIES, 13),
             ("rows", ROWS, Status.BAD_ROWS, 1),
@@ -233,7 +295,8 @@ class Rooms(unittest.TestCase):
 
 class Memory(unittest.TestCase):
     def test_each_request_refused(self) -> None:
-        """Whichever request is refused, want of memory is told, or less memory does and the answer is whole. The same call then has its answer."""
+        """Whichever request is refused, want of memory is told, or less memory does and the answer is whole. The same
+        call then has its answer."""
         wanting = Answer(Status.NO_MEMORY, None, [])
         told = 0
         for call in CALLS + [bounds_of()._replace(name="set_bound", room=0, number=7)]:
