@@ -22,8 +22,10 @@ BUILT = os.path.join(ROOT, "crates", "safebound_cli", "out", "safebound_cli")
 # Each text's place within its picture, in the picture's own points, and the places of the budget's line.
 PLACES = """
 const svg = document.querySelector('svg'), view = svg.viewBox.baseVal;
-const lines = [...svg.querySelectorAll('path[stroke-dasharray]')].map(p => p.getBBox()).filter(b => b.width > 100).map(b => b.y);
-return [view.width, view.height, lines, [...svg.querySelectorAll('text')].map(t => [t.textContent, t.getBBox().x, t.getBBox().y, t.getBBox().width, t.getBBox().height])];
+const boxes = [...svg.querySelectorAll('path[stroke-dasharray]')].map(p => p.getBBox());
+const lines = boxes.filter(b => b.width > 100).map(b => b.y);
+const texts = [...svg.querySelectorAll('text')].map(t => [t, t.getBBox()]);
+return [view.width, view.height, lines, texts.map(([t, b]) => [t.textContent, b.x, b.y, b.width, b.height])];
 """
 # Pictures: the example's folder, the words, and what the title says.
 PICTURES = (

@@ -109,7 +109,8 @@ class ClusterBase:
 
         with connected(server) as connection:
             answer = connection.execute(sql)
-            return answer.fetchall() if answer.description else []
+            rows: list[Row] = answer.fetchall() if answer.description else []
+            return rows
 
     def script(self, text: str) -> None:
         self.cluster.script(text)

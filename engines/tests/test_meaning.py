@@ -335,7 +335,8 @@ class Trees(OnEachEngine):
             )
         else:
             told = planner.engine.connection.rows(f"EXPLAIN (FORMAT JSON) {sql}")[0][0][0]["Plan"]
-            self.assertEqual(sorted(sorted(names) for names in joins(told)), [["p", "q", "r", "s"], ["p", "r"], ["q", "s"]])
+            joined = sorted(sorted(names) for names in joins(told))
+            self.assertEqual(joined, [["p", "q", "r", "s"], ["p", "r"], ["q", "s"]])
 
 
 def joins(plan: Explained) -> list[list[str]]:

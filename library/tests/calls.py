@@ -31,8 +31,10 @@ NUMBER, BYTE = ctypes.c_uint64, ctypes.c_char
 QUERY = [NUMBER, _library.Equality, _library.List, _library.Run]
 OF_RUNS = ("degrees", "compress", "append", "lesser", "greater", "cut")
 OF_NUMBERS = ("bounds", "bounds_within", "set_bound", "joined_rows")
-ELEMENTS: dict[str, Any] = {**dict.fromkeys(OF_RUNS, _library.Run), **dict.fromkeys(OF_NUMBERS, NUMBER),
-            "order": _library.Level, "tree": _library.Join, "version": BYTE}
+ELEMENTS: dict[str, Any] = {
+    **dict.fromkeys(OF_RUNS, _library.Run), **dict.fromkeys(OF_NUMBERS, NUMBER),
+    "order": _library.Level, "tree": _library.Join, "version": BYTE,
+}
 ARRAYS: dict[str, list[Any]] = {
     "degrees": [NUMBER],
     "compress": [_library.Run],
