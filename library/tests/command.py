@@ -219,4 +219,5 @@ class Memory(unittest.TestCase):
             self.assertEqual(set(answers) - {whole}, {(11, b"", b"error memory\n")})
 
 
-unittest.main()
+if __name__ == "__main__":
+    unittest.main()
