@@ -111,9 +111,9 @@ check-process:
 check-differential:
 	cases/differential --features $(FEATURES) --runs 300 "$(PROGRAM)"
 check-friendly:
-	tests/friendly "$(PROGRAM)"
+	PROGRAM="$(PROGRAM)" python3 -B -m unittest tests/test_friendly.py
 check-browser:
-	tests/browser "$(PROGRAM)"
+	PROGRAM="$(PROGRAM)" /usr/bin/python3 -B -m unittest tests/test_browser.py
 check-library: library
 	library/test
 check-command: command

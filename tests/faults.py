@@ -4,6 +4,9 @@ before the code of the explanations was read.
 A word of a list stands for all its alternatives, which `|` separates; one of them has to be said. Cause and remedy are looked for in the
 sentences alone, and not in the excerpt of the text, which shows what was typed anyway.
 """
+
+from __future__ import annotations
+
 import gzip
 from dataclasses import dataclass
 
@@ -14,13 +17,13 @@ from mistakes import PAIRS, Mistake, append, books, missing, past_budget, query,
 class Fault:
     name: str
     mistake: Mistake
-    cause: tuple
-    remedy: tuple
+    cause: tuple[str, ...]
+    remedy: tuple[str, ...]
     # Without it the place of a text, which the mistake has.
-    place: tuple = ()
+    place: tuple[str, ...] = ()
 
 
-def readers(text, line, encoding="utf-8"):
+def readers(text: str, line: str, encoding: str = "utf-8") -> Mistake:
     return table("reader.csv", text.encode(encoding), line)
 
 

@@ -10,7 +10,7 @@ from collections.abc import Iterable
 from typing import Optional
 
 from faults import Fault
-from mistakes import Mistake, placed
+from mistakes import Files, Mistake, placed
 
 # What sqlite3 makes of the files, for the answers.
 TABLES = """
@@ -41,7 +41,7 @@ QUESTIONS = (
 
 
 def asked(
-    line: Optional[str], files: Optional[dict] = None, words: Iterable[str] = ("run", "query.sql", "--data", "folder")
+    line: Optional[str], files: Optional[Files] = None, words: Iterable[str] = ("run", "query.sql", "--data", "folder")
 ) -> Mistake:
     """A mistake of that hour: the program's line (None: it doesn't come to that), files in the place of the school's,
     and the words.

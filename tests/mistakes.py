@@ -2,57 +2,62 @@
 
 Each kind has at least two variants. In a text, the sign § stands before the place that the line tells; it is taken out.
 """
+
+from __future__ import annotations
+
 import gzip
 from dataclasses import dataclass, field, replace
+from typing import Mapping, Optional
 
 BOOKS = "ID,TITLE,AUTHOR,GENRE,PRICE\r\n"
 GENRES = "CREATE TABLE GENRE (ID INTEGER PRIMARY KEY, NAME VARCHAR(20) NOT NULL);\n"
+
+Files = Mapping[str, Optional[bytes]]
 
 
 @dataclass
 class Mistake:
     """Files that stand in the place of the library's (None: there is none), the words, the line, and what the explanation says."""
-    line: str
-    says: tuple
-    files: dict = field(default_factory=dict)
-    words: tuple = ("run", "schema.sql", "query.sql")
-    status: int = None
+    line: str | None
+    says: tuple[str, ...]
+    files: Files = field(default_factory=dict)
+    words: tuple[str, ...] = ("run", "schema.sql", "query.sql")
 
 
-def placed(text):
+def placed(text: str) -> tuple[bytes, int]:
     """A text without its sign, and the place of the sign in bytes."""
     before, _, behind = text.partition("§")
     return (before + behind).encode(), len(before.encode())
 
 
-def line_and_column(text):
+def line_and_column(text: str) -> str:
     before = text.partition("§")[0]
     return f"line {before.count(chr(10)) + 1}, column {len(before) - before.rfind(chr(10))}"
 
 
-def query(text, cause, *says):
+def query(text: str, cause: str, *says: str) -> Mistake:
     data, at = placed(text)
     return Mistake(f"error query {cause} {at}", ("query.sql, " + line_and_column(text), *says), {"query.sql": data})
 
 
-def schema(text, cause, *says):
+def schema(text: str, cause: str, *says: str) -> Mistake:
     data, at = placed(text)
     return Mistake(f"error schema {cause} {at}", ("schema.sql, " + line_and_column(text), *says), {"schema.sql": data})
 
 
-def table(name, text, line, *says):
+def table(name: str, text: str | bytes, line: str, *says: str) -> Mistake:
     return Mistake(f"error table {name} {line}", says, {name: text if isinstance(text, bytes) else text.encode()})
 
 
-def books(records, line, *says):
+def books(records: str, line: str, *says: str) -> Mistake:
     return table("book.csv", BOOKS + records, line, *says)
 
 
-def usage(words, *says):
+def usage(words: str, *says: str) -> Mistake:
     return Mistake("error usage", says, words=tuple(words.split()))
 
 
-def missing(file, says, files=None, words="run schema.sql query.sql"):
+def missing(file: str, says: tuple[str, ...], files: Files | None = None, words: str = "run schema.sql query.sql") -> Mistake:
     return Mistake(f"error read {file}", says, files or {}, tuple(words.split()))
 
 
@@ -353,7 +358,7 @@ PLACES = [
 ]
 
 
-def past_budget(text, line, *says, words="", files=None):
+def past_budget(text: str, line: str, *says: str, words: str = "", files: Files | None = None) -> Mistake:
     return Mistake(line, says, {"query.sql": text.encode(), **(files or {})}, ("plan", "schema.sql", "query.sql", *words.split()))
 
 
@@ -395,7 +400,7 @@ BUFFERS = (
 )
 
 
-def stats(line, text, *says):
+def stats(line: str, text: bytes | None, *says: str) -> Mistake:
     return Mistake(line, says, {"old.stats": text} if text else {}, ("plan", "schema.sql", "query.sql", "--stats", "old.stats"))
 
 
@@ -410,7 +415,7 @@ STATISTICS = [
 ]
 
 
-def append(line, *says, table="AUTHOR", files=None, rows="new.csv"):
+def append(line: str, *says: str, table: str = "AUTHOR", files: Files | None = None, rows: str = "new.csv") -> Mistake:
     laid = {"schema.sql": b"CREATE TABLE AUTHOR (ID INTEGER PRIMARY KEY); CREATE TABLE GENRE (ID INTEGER PRIMARY KEY)", "old.stats": b"safebound-stats 1 1\ntable x415554484f52 3999999\nend\n"}
     return Mistake(line, says, {**laid, **(files or {})}, ("append", "schema.sql", "old.stats", table, rows))
 

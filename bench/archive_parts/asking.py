@@ -25,6 +25,14 @@ def ask() -> int:
     words = ["schema.sql", NAME + ".sql", "--reduce"]
     status = subprocess.run([os.path.join(places.ROOT, "tools", "run"), places.TABLES, "run", *words]).returncode
     if status == 0:
-        command = [os.path.join(places.ROOT, "bin", "safebound"), "picture", *words, "--data", places.TABLES, "--output", PICTURE]
+        command = [
+            os.path.join(places.ROOT, "bin", "safebound"),
+            "picture",
+            *words,
+            "--data",
+            places.TABLES,
+            "--output",
+            PICTURE,
+        ]
         return subprocess.run(command).returncode
     return status

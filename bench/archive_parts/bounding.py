@@ -28,7 +28,8 @@ class Flags(NamedTuple):
 
 ALL = (Flags("statistics", 1), Flags("statistics", 8), Flags("keys", 8), Flags("reduce", 1), Flags("reduce", 64))
 COUNT = Flags("count", 1)
-# Those that are run: the bounds of --count are what the program prints, beside PostgreSQL's rows and the bounds of --reduce.
+# Those that are run: the bounds of --count are what the program prints, beside PostgreSQL's rows and the bounds of
+# --reduce.
 TRIED = (*ALL, COUNT)
 
 
@@ -42,7 +43,9 @@ class Bounder:
     def lists(self, query: reading.Query, flags: Flags, rows: Rows) -> degrees.Known:
         if flags.source == "reduce":
             return degrees.known_reduced(rows, flags.accuracy)
-        return (degrees.known_by_keys if flags.source == "keys" else degrees.known)(self.statistics(flags.accuracy), query)
+        return (degrees.known_by_keys if flags.source == "keys" else degrees.known)(
+            self.statistics(flags.accuracy), query
+        )
 
     def of(self, query: reading.Query) -> dict[Flags, int]:
         """The bound of all entries together."""

@@ -28,7 +28,9 @@ def load(connection: psycopg.Connection) -> None:
     server.load(connection, SAMPLE)
     for table, columns in making.COLUMNS.items():
         connection.execute(f"CREATE TABLE NUMBERED_{table} (LIKE {table}, ROW_NUMBER BIGSERIAL)")
-        with connection.cursor().copy(f"COPY NUMBERED_{table} ({', '.join(columns)}) FROM STDIN (FORMAT csv, HEADER true)") as copy:
+        with connection.cursor().copy(
+            f"COPY NUMBERED_{table} ({', '.join(columns)}) FROM STDIN (FORMAT csv, HEADER true)"
+        ) as copy:
             copy.write(read(os.path.join(SAMPLE, table + ".csv")))
     connection.execute("ANALYZE")
 
@@ -52,11 +54,23 @@ def bounds(query: reading.Query, options: set[str], accuracy: int) -> reading.Li
     schema = query.schema
     if "--reduce" in options:
         reduced = Rows(Tables(SAMPLE, schema), query).reduced
-        tables = {table: reading.read_rows(schema, table, read(os.path.join(SAMPLE, table.lower() + ".csv"))) for table in schema}
-        lists = [[row for row, kept in zip(tables[table], rows) if kept] for (table, _), rows in zip(query.entries, reduced)]
+        tables = {
+            table: reading.read_rows(schema, table, read(os.path.join(SAMPLE, table.lower() + ".csv")))
+            for table in schema
+        }
+        lists = [
+            [row for row, kept in zip(tables[table], rows) if kept] for (table, _), rows in zip(query.entries, reduced)
+        ]
         return reading.ListBounds(query, lists, accuracy)
-    tables = [reading.read_rows(schema, table, read(os.path.join(SAMPLE, table.lower() + ".csv"))) for table, _ in query.entries]
-    return reading.KeyBounds(query, tables, accuracy) if "--keys" in options else reading.Bounds(query, tables, accuracy, True)
+    tables = [
+        reading.read_rows(schema, table, read(os.path.join(SAMPLE, table.lower() + ".csv")))
+        for table, _ in query.entries
+    ]
+    return (
+        reading.KeyBounds(query, tables, accuracy)
+        if "--keys" in options
+        else reading.Bounds(query, tables, accuracy, True)
+    )
 
 
 def expected(connection: psycopg.Connection, folder: str) -> dict[str, str]:

@@ -1,4 +1,5 @@
-"""Degree lists and bounds of sets, after docs/DEFINITIONS.md, over columns of numbers: cases/reading.py for millions of rows.
+"""Degree lists and bounds of sets, after docs/DEFINITIONS.md, over columns of numbers: cases/reading.py for millions of
+rows.
 
 A list is an array of degrees, the greatest first; bounds take it as runs of equal degrees."""
 
@@ -6,6 +7,7 @@ from __future__ import annotations
 
 from functools import cached_property, lru_cache
 from math import prod
+from typing import Any, Callable
 
 import numpy as np
 
@@ -88,7 +90,8 @@ class Pair:
 
     @cached_property
     def rest(self) -> np.ndarray:
-        """One list for any value that isn't frequent: at each rank the greatest degree, cut at the rows of the most frequent one."""
+        """One list for any value that isn't frequent: at each rank the greatest degree, cut at the rows of the most
+        frequent one."""
         rows = ~np.isin(self.filters, self.frequent)
         if not rows.any():
             return np.zeros(0, np.int64)
@@ -102,7 +105,7 @@ class Pair:
         most = np.add.reduceat(degrees, starts).max()
         return compressed(from_sums(np.minimum(np.cumsum(greatest), most)), self.accuracy)
 
-    def leaf(self, values) -> np.ndarray:
+    def leaf(self, values: np.ndarray) -> np.ndarray:
         return np.maximum(np.searchsorted(self.cuts, values, side="right") - 1, 0)
 
     @cached_property
@@ -147,19 +150,23 @@ class Statistics:
         return rows, row_of[values[rows]]
 
     @lru_cache(None)
-    def whole_referring(self, table: str, joined: int, *reference) -> np.ndarray:
-        return compressed(falling(self.tables.columns[table][joined][self.referring(table, *reference)[0]]), self.accuracy)
+    def whole_referring(self, table: str, joined: int, *reference: Any) -> np.ndarray:
+        return compressed(
+            falling(self.tables.columns[table][joined][self.referring(table, *reference)[0]]), self.accuracy
+        )
 
     @lru_cache(None)
-    def pair_referring(self, table: str, filters: int, joined: int, *reference) -> Pair:
+    def pair_referring(self, table: str, filters: int, joined: int, *reference: Any) -> Pair:
         rows, targets = self.referring(table, *reference)
-        return Pair(self.tables.columns[reference[1]][filters][targets], self.tables.columns[table][joined][rows], self.accuracy)
+        return Pair(
+            self.tables.columns[reference[1]][filters][targets], self.tables.columns[table][joined][rows], self.accuracy
+        )
 
 
 class Filtered:
     """The list of a joined column over what own conditions leave."""
 
-    def __init__(self, tables: Tables, whole: np.ndarray, pair_of) -> None:
+    def __init__(self, tables: Tables, whole: np.ndarray, pair_of: Callable[..., Pair]) -> None:
         self.tables, self.whole, self.pair_of = tables, whole, pair_of
 
     def of(self, conjuncts: list[tuple]) -> np.ndarray:
@@ -170,8 +177,13 @@ class Filtered:
     def of_cond(self, cond: tuple) -> np.ndarray:
         if cond[0] == "and":
             ranged = [part for part in cond[1] if reading.is_range(part)]
-            by_column = [[part for part in ranged if part[1][2] == column] for column in sorted({part[1][2] for part in ranged})]
-            return least_sums([self.of_range(parts) for parts in by_column] + [self.of_cond(part) for part in cond[1] if not reading.is_range(part)])
+            by_column = [
+                [part for part in ranged if part[1][2] == column] for column in sorted({part[1][2] for part in ranged})
+            ]
+            return least_sums(
+                [self.of_range(parts) for parts in by_column]
+                + [self.of_cond(part) for part in cond[1] if not reading.is_range(part)]
+            )
         if cond[0] == "or":
             return sum_by_rank([self.of_cond(part) for part in cond[1]])
         op, left, right = cond
@@ -181,7 +193,9 @@ class Filtered:
             return self.pair_of(left[2]).of_value(self.tables.literal(right[1]))
         if op == "<>":
             value = self.tables.literal(right[1])
-            return sum_by_rank([self.pair_of(left[2]).of_range(None, value), self.pair_of(left[2]).of_range(value, None)])
+            return sum_by_rank(
+                [self.pair_of(left[2]).of_range(None, value), self.pair_of(left[2]).of_range(value, None)]
+            )
         return self.of_range([cond])
 
     def of_range(self, tests: list[tuple]) -> np.ndarray:
@@ -197,7 +211,12 @@ Steps = list[tuple[int, int]]
 
 def product(functions: list[Steps]) -> Steps:
     """The product of step functions, as long as the shortest."""
-    found, places, at, length = [], [0] * len(functions), 0, min(function[-1][1] if function else 0 for function in functions)
+    found, places, at, length = (
+        [],
+        [0] * len(functions),
+        0,
+        min(function[-1][1] if function else 0 for function in functions),
+    )
     while at < length:
         end = min(function[place][1] for function, place in zip(functions, places))
         found.append((prod(function[place][0] for function, place in zip(functions, places)), end))
@@ -219,7 +238,9 @@ def on_rows(degrees: Runs, by_rank: Steps) -> Steps:
     """For each row the value of its rank."""
     steps = [(value, row_of(degrees, end)) for value, end in by_rank]
     rows = row_of(degrees, sum(keys for _, keys in degrees))
-    return [step for step, before in zip(steps, [0] + [end for _, end in steps]) if step[1] > before] + [(0, rows)] * (not steps or steps[-1][1] < rows)
+    return [step for step, before in zip(steps, [0] + [end for _, end in steps]) if step[1] > before] + [(0, rows)] * (
+        not steps or steps[-1][1] < rows
+    )
 
 
 def on_ranks(degrees: Runs, by_row: Steps) -> Steps:
@@ -257,7 +278,9 @@ class Known:
         """The bound of all entries together: the least of all turns."""
         if any(not len(degrees) for degrees in self.lists.values()):
             return 0
-        self.runs, equals = {side: runs_of(degrees) for side, degrees in self.lists.items()}, reading.equalities(self.query)
+        self.runs, equals = {side: runs_of(degrees) for side, degrees in self.lists.items()}, reading.equalities(
+            self.query
+        )
         return min(self.of_turn(reading.kept(equals[turn:] + equals[:turn])) for turn in range(min(len(equals), 16)))
 
     def of_turn(self, equals: list[tuple]) -> int:
@@ -292,7 +315,11 @@ def known(statistics: Statistics, query: reading.Query) -> Known:
     lists = {}
     for entry, column in joined_columns(query):
         table = query.entries[entry][0]
-        filtered = Filtered(statistics.tables, statistics.whole(table, column), lambda filters, t=table, c=column: statistics.pair(t, filters, c))
+        filtered = Filtered(
+            statistics.tables,
+            statistics.whole(table, column),
+            lambda filters, t=table, c=column: statistics.pair(t, filters, c),
+        )
         lists[entry, column] = filtered.of(own_conjuncts(query, entry))
     return Known(query, lists)
 
@@ -314,11 +341,18 @@ def carry(statistics: Statistics, found: Known, entry: int, own: list[tuple], re
     for of, column in found.lists:
         if of == entry:
             whole = statistics.whole_referring(table, column, *reference)
-            filtered = Filtered(statistics.tables, whole, lambda filters, c=column: statistics.pair_referring(table, filters, c, *reference))
+            filtered = Filtered(
+                statistics.tables,
+                whole,
+                lambda filters, c=column: statistics.pair_referring(table, filters, c, *reference),
+            )
             found.lists[entry, column] = least_sums([found.lists[entry, column], filtered.of(own)])
 
 
 def known_reduced(rows: Rows, accuracy: int) -> Known:
     """From reduced scans."""
-    lists = {(e, c): compressed(falling(rows.columns[e][c][rows.reduced[e]]), accuracy) for e, c in joined_columns(rows.query)}
+    lists = {
+        (e, c): compressed(falling(rows.columns[e][c][rows.reduced[e]]), accuracy)
+        for e, c in joined_columns(rows.query)
+    }
     return Known(rows.query, lists)

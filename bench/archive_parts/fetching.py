@@ -15,7 +15,8 @@ SAID = "the package index (9 MB) and the list of contents (46 MB) of Debian's ar
 
 
 def options() -> list[str]:
-    """The machine's own sources of Debian and no others; the lists go into our folder, so that apt's own stay as they are."""
+    """The machine's own sources of Debian and no others; the lists go into our folder, so that apt's own stay as they
+    are."""
     source = next((path for path in SOURCES if os.path.exists(path)), None)
     if source is None:
         sys.exit("archive: apt has no sources of Debian here: neither of " + ", ".join(SOURCES))
@@ -40,14 +41,17 @@ def fetch() -> None:
 
 
 def indexes(kind: str) -> list[str]:
-    """The files of one kind, Packages or Contents-deb, of the first release of the sources: the archive itself, without its updates."""
+    """The files of one kind, Packages or Contents-deb, of the first release of the sources: the archive itself, without
+    its updates."""
     said = subprocess.run(
         ["apt-get", "indextargets", *options(), "--format", "$(CREATED_BY) $(RELEASE) $(COMPONENT) $(FILENAME)"],
         check=True, text=True, stdout=subprocess.PIPE,
     ).stdout.splitlines()
     found = [line.split(" ", 3) for line in said]
     releases = [release for _, release, _, _ in found]
-    return [path for made, release, component, path in found if (made, release, component) == (kind, releases[0], "main")]
+    return [
+        path for made, release, component, path in found if (made, release, component) == (kind, releases[0], "main")
+    ]
 
 
 def lines(kind: str) -> Iterator[str]:

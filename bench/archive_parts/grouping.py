@@ -1,5 +1,6 @@
-"""A query's number of rows by groups, as one SQL statement: columns that are equal are one variable, each entry is a table of its
-variables with counts, and one variable after another is summed away. It counts where a join has too many rows to be listed."""
+"""A query's number of rows by groups, as one SQL statement: columns that are equal are one variable, each entry is a
+table of its variables with counts, and one variable after another is summed away. It counts where a join has too many
+rows to be listed."""
 
 from __future__ import annotations
 
@@ -24,7 +25,9 @@ class Grouping:
     def __init__(self, query: reading.Query) -> None:
         self.query, self.parts = query, []
         self.number = self.variables()
-        self.pending = [cond for cond in query.conjuncts if len(reading.named(cond)) > 1 and not is_between_equals(cond)]
+        self.pending = [
+            cond for cond in query.conjuncts if len(reading.named(cond)) > 1 and not is_between_equals(cond)
+        ]
         self.factors = [self.scan(entry) for entry in range(len(query.entries))]
 
     def variables(self) -> dict[tuple[int, int], Variable]:
@@ -50,18 +53,26 @@ class Grouping:
         names = {column: asked.side_sql(self.query, ("column", entry, column)) for column in own}
         first = {number: names[column] for column, number in sorted(own.items(), reverse=True)}
         tests = [asked.cond_sql(self.query, cond) for cond in self.query.conjuncts if reading.named(cond) == {entry}]
-        tests += [f"{names[column]} = {first[number]}" for column, number in own.items() if names[column] != first[number]]
+        tests += [
+            f"{names[column]} = {first[number]}" for column, number in own.items() if names[column] != first[number]
+        ]
         columns = "".join(f"{text} AS V{number}, " for number, text in first.items())
         ends = f" GROUP BY {', '.join(first.values())}" if first else ""
         where = f" WHERE {' AND '.join(tests)}" if tests else ""
-        return self.add(f"SELECT {columns}COUNT(*) AS C FROM {self.query.entries[entry][0]} E{entry}{where}{ends}", frozenset(first))
+        return self.add(
+            f"SELECT {columns}COUNT(*) AS C FROM {self.query.entries[entry][0]} E{entry}{where}{ends}", frozenset(first)
+        )
 
     def of_cond(self, cond: tuple) -> frozenset[Variable]:
-        return frozenset(self.number[side[1:]] for part in reading.comparisons(cond) for side in part[1:] if side[0] == "column")
+        return frozenset(
+            self.number[side[1:]] for part in reading.comparisons(cond) for side in part[1:] if side[0] == "column"
+        )
 
     def around(self, variable: Variable) -> tuple[list[Factor], frozenset[Variable]]:
         """The factors that have to be joined before a variable goes, and all of their variables."""
-        wanted = frozenset({variable}).union(*(self.of_cond(cond) for cond in self.pending if variable in self.of_cond(cond)))
+        wanted = frozenset({variable}).union(
+            *(self.of_cond(cond) for cond in self.pending if variable in self.of_cond(cond))
+        )
         chosen = [factor for factor in self.factors if variable in factor.variables]
         for other in wanted - {variable}:
             if not any(other in factor.variables for factor in chosen):
@@ -71,7 +82,11 @@ class Grouping:
     def sum_away(self, variable: Variable) -> None:
         chosen, every = self.around(variable)
         at = {number: [factor for factor in chosen if number in factor.variables] for number in every}
-        tests = [f"{one.name}.V{n} = {other.name}.V{n}" for n, holders in at.items() for one, other in zip(holders, holders[1:])]
+        tests = [
+            f"{one.name}.V{n} = {other.name}.V{n}"
+            for n, holders in at.items()
+            for one, other in zip(holders, holders[1:])
+        ]
         ready = [cond for cond in self.pending if self.of_cond(cond) <= every]
         tests += [self.renamed(cond, at) for cond in ready]
         self.pending = [cond for cond in self.pending if cond not in ready]
@@ -81,7 +96,12 @@ class Grouping:
         where = f" WHERE {' AND '.join(tests)}" if tests else ""
         times = " * ".join(f"{factor.name}.C" for factor in chosen)
         self.factors = [factor for factor in self.factors if factor not in chosen]
-        self.factors.append(self.add(f"SELECT {columns}SUM({times}) AS C FROM {', '.join(f.name for f in chosen)}{where}{ends}", frozenset(left)))
+        self.factors.append(
+            self.add(
+                f"SELECT {columns}SUM({times}) AS C FROM {', '.join(f.name for f in chosen)}{where}{ends}",
+                frozenset(left),
+            )
+        )
 
     def renamed(self, cond: tuple, at: dict) -> str:
         """A comparison of two columns, by the variables."""

@@ -1,4 +1,5 @@
-"""The questions inside PostgreSQL, whose planner is given its own numbers of rows, bounds, or the mean of both: processor seconds."""
+"""The questions inside PostgreSQL, whose planner is given its own numbers of rows, bounds, or the mean of both:
+processor seconds."""
 
 from __future__ import annotations
 
@@ -67,7 +68,9 @@ def keep(url: str) -> None:
     backend = Backend(url)
     backend.connection.execute("CREATE EXTENSION IF NOT EXISTS safebound")
     begin = backend.seconds()
-    row = backend.connection.execute(f"SELECT {' + '.join(f'safebound.keep({table!r})' for table in COLUMNS)}").fetchone()
+    row = backend.connection.execute(
+        f"SELECT {' + '.join(f'safebound.keep({table!r})' for table in COLUMNS)}"
+    ).fetchone()
     assert row is not None
     print(f"{row[0]} lists in {backend.seconds() - begin:.1f} s of one processor", flush=True)
 
@@ -81,7 +84,8 @@ def measured(backend: Backend, text: str) -> tuple[float, bool]:
 
 
 def in_modes(backend: Backend, text: str, modes: Iterable[str]) -> Iterator[tuple[str, float, bool, float]]:
-    """One question in each mode. A plan that another mode had isn't run again: it counts as long, but for its planning."""
+    """One question in each mode. A plan that another mode had isn't run again: it counts as long, but for its
+    planning."""
     known: dict[str, tuple[float, bool, float]] = {}
     for mode in modes:
         backend.connection.execute(f"SET safebound.estimates = {mode}")
@@ -98,7 +102,9 @@ def rows(url: str) -> Iterator[tuple]:
     for number, question in enumerate(asked.questions()):
         modes = (MODES[(number + turn) % len(MODES)] for turn in range(len(MODES)))
         for mode, seconds, cancelled, planning in in_modes(backend, question.text, modes):
-            yield question.name, "aside" if number % 2 else "seen", mode, round(seconds, 5), cancelled, round(planning, 3)
+            yield question.name, "aside" if number % 2 else "seen", mode, round(seconds, 5), cancelled, round(
+                planning, 3
+            )
 
 
 @dataclass
@@ -122,7 +128,10 @@ def by_question(lines: list[dict[str, str]], half: str) -> dict[str, Told]:
 
 
 def table(lines: list[dict[str, str]]) -> Iterator[str]:
-    yield "| questions | rows given | total | without those cancelled in any mode | median of the ratio | worst | cancelled | planning longer by, median and 90th percentile |"
+    yield (
+        "| questions | rows given | total | without those cancelled in any mode | median of the ratio | worst |"
+        " cancelled | planning longer by, median and 90th percentile |"
+    )
     yield "|---|---|---|---|---|---|---|---|"
     for half in ("all", "seen", "aside"):
         told = by_question(lines, half)
@@ -132,8 +141,11 @@ def table(lines: list[dict[str, str]]) -> Iterator[str]:
             whole = sum(one.seconds[mode] for one in told.values())
             ended = sum(one.seconds[mode] for one in told.values() if not any(one.cancelled.values()))
             cancelled = sum(one.cancelled[mode] for one in told.values())
-            yield (f"| {half} ({len(told)}) | {mode} | {whole:.1f} s | {ended:.1f} s | {statistics.median(ratios):.2f} | {ratios[-1]:.1f} | {cancelled} "
-                   f"| {statistics.median(longer):.2f} ms, {longer[len(longer) * 9 // 10]:.2f} ms |")
+            yield (
+                f"| {half} ({len(told)}) | {mode} | {whole:.1f} s | {ended:.1f} s | {statistics.median(ratios):.2f} |"
+                f" {ratios[-1]:.1f} | {cancelled} | {statistics.median(longer):.2f} ms,"
+                f" {longer[len(longer) * 9 // 10]:.2f} ms |"
+            )
 
 
 def slower(lines: list[dict[str, str]]) -> Iterator[str]:

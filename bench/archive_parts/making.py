@@ -22,8 +22,8 @@ KINDS = ("Pre-Depends", "Depends", "Recommends", "Suggests", "Enhances", "Confli
 FIELDS = ("Package", "Source", "Maintainer", "Section", "Priority", "Size", "Installed-Size", "Tag", *KINDS)
 PACKAGE_NAME = re.compile(r"\s*([a-z0-9][a-z0-9+.-]+)")
 BRACES = re.compile(r"(.*)\{(.*)\}")
-# The 7,400,000 files of the whole archive are more than the program takes in one table: those below this folder, mostly documents,
-# icons and data, are left out there.
+# The 7,400,000 files of the whole archive are more than the program takes in one table: those below this folder, mostly
+# documents, icons and data, are left out there.
 LEFT_OUT = "usr/share/"
 
 

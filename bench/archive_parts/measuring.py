@@ -1,4 +1,5 @@
-"""Measures everything, into three CSV files: the sets of entries, the runs of each question beside PostgreSQL, and its plans beside its runs."""
+"""Measures everything, into three CSV files: the sets of entries, the runs of each question beside PostgreSQL, and its
+plans beside its runs."""
 
 from __future__ import annotations
 
@@ -17,8 +18,30 @@ from .truth import Counter
 SETS = os.path.join(places.MADE, "sets.csv")
 RUNS = os.path.join(places.MADE, "runs.csv")
 PLANS = os.path.join(places.MADE, "plans.csv")
-SET_COLUMNS = ["question", "entries", "size", "whole", "cyclic", "rows", "by", "expected", *(flags.name for flags in ALL)]
-RUN_COLUMNS = ["question", "flags", "cost", "last", "status", "seconds", "peak", "rows", "same", "postgres_rows", "postgres_seconds"]
+SET_COLUMNS = [
+    "question",
+    "entries",
+    "size",
+    "whole",
+    "cyclic",
+    "rows",
+    "by",
+    "expected",
+    *(flags.name for flags in ALL),
+]
+RUN_COLUMNS = [
+    "question",
+    "flags",
+    "cost",
+    "last",
+    "status",
+    "seconds",
+    "peak",
+    "rows",
+    "same",
+    "postgres_rows",
+    "postgres_seconds",
+]
 COMMANDS, FIGURES = ("plan", "run"), ("status", "seconds", "processor", "peak")
 PLAN_COLUMNS = ["question", "flags", "load", *(f"{command}_{figure}" for command in COMMANDS for figure in FIGURES)]
 # How long PostgreSQL may take to count a set, and for a query.
@@ -50,7 +73,15 @@ def sets(url: str) -> Iterator[list]:
                 query = asked.restricted(question.query, entries)
                 true, whole = counter.of(query), len(entries) == len(question.query.entries)
                 names = " ".join(question.query.entries[entry][1] for entry in entries)
-                yield [question.name, names, len(entries), int(whole), int(asked.is_cyclic(query)), *true, *bounder.of(query).values()]
+                yield [
+                    question.name,
+                    names,
+                    len(entries),
+                    int(whole),
+                    int(asked.is_cyclic(query)),
+                    *true,
+                    *bounder.of(query).values(),
+                ]
 
 
 def runs(url: str) -> Iterator[list]:
@@ -62,7 +93,13 @@ def runs(url: str) -> Iterator[list]:
             by_postgres = running.by_postgres(url, question.text, out, ASKING)
             true = running.rows_of(out, False) if by_postgres.status == 0 else None
             for flags in TRIED:
-                yield [question.name, flags.name, *one_run(question, flags.words, out, true), true and true.number, by_postgres.seconds]
+                yield [
+                    question.name,
+                    flags.name,
+                    *one_run(question, flags.words, out, true),
+                    true and true.number,
+                    by_postgres.seconds,
+                ]
 
 
 def one_run(question: asked.Question, words: list[str], out: str, true: running.Rows | None) -> list:
@@ -70,7 +107,15 @@ def one_run(question: asked.Question, words: list[str], out: str, true: running.
     run = running.by_program("run", os.path.basename(question.path), words, out)
     rows = running.rows_of(out, True) if run.status == 0 else None
     last = run.levels[-1][1] if run.status == 0 else None
-    return [run.cost, last, run.status, run.seconds, run.peak, rows and rows.number, None if None in (rows, true) else int(rows == true)]
+    return [
+        run.cost,
+        last,
+        run.status,
+        run.seconds,
+        run.peak,
+        rows and rows.number,
+        None if None in (rows, true) else int(rows == true),
+    ]
 
 
 def plans() -> Iterator[list]:
@@ -81,5 +126,13 @@ def plans() -> Iterator[list]:
             say(f"plans of {question.name}")
             shutil.copy(question.path, places.TABLES)
             for flags in TRIED:
-                both = [running.by_program(command, os.path.basename(question.path), flags.words, out) for command in COMMANDS]
-                yield [question.name, flags.name, os.getloadavg()[0], *(getattr(one, figure) for one in both for figure in FIGURES)]
+                both = [
+                    running.by_program(command, os.path.basename(question.path), flags.words, out)
+                    for command in COMMANDS
+                ]
+                yield [
+                    question.name,
+                    flags.name,
+                    os.getloadavg()[0],
+                    *(getattr(one, figure) for one in both for figure in FIGURES),
+                ]

@@ -10,4 +10,6 @@ MADE = os.path.join(ROOT, ".cache", "archive")
 LISTS = os.path.join(MADE, "lists")
 TABLES = os.path.join(MADE, "tables")
 WHOLE = os.path.join(MADE, "whole")
-PROGRAM = os.path.abspath(os.environ.get("PROGRAM") or os.path.join(ROOT, "crates", "safebound_cli", "out", "safebound_cli"))
+PROGRAM = os.path.abspath(
+    os.environ.get("PROGRAM") or os.path.join(ROOT, "crates", "safebound_cli", "out", "safebound_cli")
+)

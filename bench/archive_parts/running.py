@@ -1,4 +1,5 @@
-"""Plans and runs of the built program over the tables, and the same queries in PostgreSQL, with seconds and peaks of memory."""
+"""Plans and runs of the built program over the tables, and the same queries in PostgreSQL, with seconds and peaks of
+memory."""
 
 from __future__ import annotations
 
@@ -6,7 +7,7 @@ import os
 import re
 import subprocess
 import tempfile
-from typing import NamedTuple
+from typing import Any, NamedTuple
 
 from . import places
 
@@ -31,7 +32,9 @@ class Ended(NamedTuple):
     @property
     def levels(self) -> list[tuple[str, int]]:
         """The entries of the order, each with the bound of its level."""
-        return [(alias, int(bound)) for alias, bound in re.findall(r"^level \d+ (\S+) (\d+)$", self.notes, re.MULTILINE)]
+        return [
+            (alias, int(bound)) for alias, bound in re.findall(r"^level \d+ (\S+) (\d+)$", self.notes, re.MULTILINE)
+        ]
 
     @property
     def cost(self) -> int | None:
@@ -45,10 +48,18 @@ class Rows(NamedTuple):
     sum: int
 
 
-def ended(command: list[str], out: str, folder: str | None = None, **more) -> Ended:
+def ended(command: list[str], out: str, folder: str | None = None, **more: Any) -> Ended:
     timed = os.path.join(os.path.dirname(os.path.abspath(__file__)), "timed.py")
     with open(out, "wb") as rows, tempfile.TemporaryFile() as notes, tempfile.NamedTemporaryFile("r") as told:
-        subprocess.run(["/usr/bin/python3", "-S", "-E", timed, told.name, *command], cwd=folder, stdin=subprocess.DEVNULL, stdout=rows, stderr=notes, check=True, **more)
+        subprocess.run(
+            ["/usr/bin/python3", "-S", "-E", timed, told.name, *command],
+            cwd=folder,
+            stdin=subprocess.DEVNULL,
+            stdout=rows,
+            stderr=notes,
+            check=True,
+            **more,
+        )
         status, seconds, processor, peak = told.read().split()
         notes.seek(0)
         return Ended(int(status), float(seconds), float(processor), int(peak) / 1024, notes.read().decode())

@@ -51,8 +51,12 @@ def sample(folder: str, most: int = PACKAGES) -> None:
         "file": [row for row in read("file") if row[0] in kept and is_kept(directories[row[1]][1])],
     }
     people = {row[3] for row in rows["package"]}
-    rows["maintainer"] = [[n, name if TEAM.search(name) else "person " + n] for n, name in read("maintainer") if n in people]
-    rows["directory"] = [directories[n] for n in sorted(with_parents({row[1] for row in rows["file"]}, directories), key=int)]
+    rows["maintainer"] = [
+        [n, name if TEAM.search(name) else "person " + n] for n, name in read("maintainer") if n in people
+    ]
+    rows["directory"] = [
+        directories[n] for n in sorted(with_parents({row[1] for row in rows["file"]}, directories), key=int)
+    ]
     os.makedirs(folder, exist_ok=True)
     shutil.copy(os.path.join(places.QUERIES, "schema.sql"), folder)
     for table, found in rows.items():

@@ -23,7 +23,9 @@ def load(connection: psycopg.Connection, folder: str) -> None:
     with open(os.path.join(places.QUERIES, "schema.sql"), encoding="utf-8") as f:
         connection.execute(f.read())
     for table, columns in COLUMNS.items():
-        with connection.cursor().copy(f"COPY {table} ({', '.join(columns)}) FROM STDIN (FORMAT csv, HEADER true)") as copy:
+        with connection.cursor().copy(
+            f"COPY {table} ({', '.join(columns)}) FROM STDIN (FORMAT csv, HEADER true)"
+        ) as copy:
             with open(os.path.join(folder, table + ".csv"), "rb") as f:
                 while data := f.read(1 << 20):
                     copy.write(data)

@@ -40,7 +40,10 @@ class Counter:
         self.connection, self.tables, self.known = connection, tables, {}
         if os.path.exists(KEPT) and os.path.getmtime(KEPT) > os.path.getmtime(os.path.join(places.TABLES, "file.csv")):
             with open(KEPT, encoding="utf-8", newline="") as f:
-                self.known = {sql: Truth(int(rows) if rows else None, by, int(expected)) for sql, rows, by, expected in csv.reader(f)}
+                self.known = {
+                    sql: Truth(int(rows) if rows else None, by, int(expected))
+                    for sql, rows, by, expected in csv.reader(f)
+                }
         self.keep()
         for setting in SETTINGS:
             connection.execute("SET " + setting.format(seconds=seconds))

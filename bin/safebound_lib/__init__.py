@@ -2,10 +2,14 @@
 import os
 import sys
 
-VERSION = "0.2"
-
 # The package `safebound` reads texts. It lies beside this folder where the command is installed, and in python/ of
 # the repository.
 _BESIDE = os.path.dirname(os.path.dirname(os.path.realpath(__file__)))
 _REPOSITORY = os.path.join(os.path.dirname(_BESIDE), "python")
 sys.path.insert(0, _BESIDE if os.path.isdir(os.path.join(_BESIDE, "safebound")) else _REPOSITORY)
+
+
+def version() -> str:
+    """That of the package, which takes a while to load and which most runs don't need."""
+    from safebound._version import VERSION
+    return VERSION

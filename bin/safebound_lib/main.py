@@ -5,7 +5,7 @@ import os
 from collections.abc import Callable
 from typing import TYPE_CHECKING
 
-from . import VERSION, program
+from . import program, version
 from .table import BY_WORD, DATA, EXPLAIN, HELP, JSON, VERSION as VERSION_OPTION
 from .words import Misused, lacks_schema, options, read_line
 
@@ -44,8 +44,8 @@ def misused(text: str) -> int:
 
 
 def refuse_strange(line: Line) -> None:
-    """Own options stand only with commands that have them, and own commands have no others. The program refuses the
-    rest.
+    """Refuses an own option with a command that doesn't have it, and an unknown option of an own command. The program
+    itself refuses all else.
     """
     command = BY_WORD.get(line.command)
     known = {option.word for option in command.options} if command else ()
@@ -122,7 +122,7 @@ def is_explained(line: Line) -> bool:
 
 
 def explain(path: str, line: Line, status: int, notes: bytes) -> None:
-    """What stands below the line of a fault; below a plan only that entries aren't connected."""
+    """Explains a fault below its line; below a plan it says only that entries aren't connected, if they aren't."""
     from .explain import Run, explained, not_connected
     from .faults import fault_of
     run = Run(line.words, path, line.before, line.is_proposed)
@@ -147,7 +147,7 @@ def own_command(line: Line) -> int:
 
 
 def show_overview() -> int:
-    """Where no command is given the help stands on standard error, in the place of a line that says so."""
+    """Without a command, writes the help on standard error in place of the line `error usage`."""
     from . import pages
     program.say(pages.overview(2))
     return MISUSED
@@ -171,7 +171,7 @@ def show_version() -> int:
     from . import places
     path = places.program()
     said = f"{path}: {program.released()}" if path == places.RELEASED else path or "not built yet (make build)"
-    program.write(1, f"safebound {VERSION}\nprogram: {said}\n")
+    program.write(1, f"safebound {version()}\nprogram: {said}\n")
     return 0
 
 

@@ -5,7 +5,7 @@ import re
 import textwrap
 from typing import TYPE_CHECKING
 
-from . import VERSION
+from . import version
 from .places import page
 from .table import BY_WORD, COMMANDS, HELP, SHELLS, VERSION as VERSION_OPTION, numbered
 from .terminal import columns
@@ -37,7 +37,7 @@ def options_of(command: Command) -> list[Option]:
 def overview(stream: int = 1) -> str:
     """The help, as wide as the terminal of a stream."""
     wide = columns(stream)
-    lines = [*wrapped(f"safebound {VERSION}: {SUMMARY}", wide), "", *wrapped(ABOUT, wide), "", "Commands:"]
+    lines = [*wrapped(f"safebound {version()}: {SUMMARY}", wide), "", *wrapped(ABOUT, wide), "", "Commands:"]
     lines += [entry(" ".join([c.word, *places_of(c)]), c.help, wide) for c in COMMANDS]
     lines += [
         "",
@@ -123,7 +123,7 @@ def indented(text: str) -> list[str]:
 
 def man() -> str:
     """The man page, in the macros of man(7)."""
-    lines = [f'.TH SAFEBOUND 1 "" "safebound {VERSION}"', ".SH NAME", f"safebound \\- {SUMMARY}", ".SH SYNOPSIS"]
+    lines = [f'.TH SAFEBOUND 1 "" "safebound {version()}"', ".SH NAME", f"safebound \\- {SUMMARY}", ".SH SYNOPSIS"]
     lines += [
         part
         for c in COMMANDS

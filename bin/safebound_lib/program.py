@@ -27,13 +27,13 @@ def found() -> str:
 
 
 def released() -> str:
-    """What a reader calls the release's program."""
+    """How messages name the release's program."""
     told = places.release()
     return f"the program of release {told['version']} (dist/, built from commit {told['commit'][:12]})"
 
 
 def become(path: str, words: list[str]) -> None:
-    """Turns into the program. Signals that Python ignores are as they were before it began."""
+    """Replaces this process by the program. Signals that Python ignores get their default actions back."""
     for name in (signal.SIGPIPE, signal.SIGXFSZ):
         signal.signal(name, signal.SIG_DFL)
     try:
@@ -45,7 +45,7 @@ def become(path: str, words: list[str]) -> None:
 def answer(
     path: str, words: list[str], folder: str | None = None, seconds: int | None = None
 ) -> tuple[int, bytes, bytes]:
-    """The exit status, standard output and standard error of a run that nobody sees."""
+    """The exit status, standard output and standard error of a run, of which the user sees nothing."""
     done = subprocess.run([path, *words], cwd=folder, stdin=subprocess.DEVNULL, capture_output=True, timeout=seconds)
     return done.returncode, done.stdout, done.stderr
 
@@ -114,7 +114,7 @@ def run_and_read(path: str, words: list[str]) -> tuple[int, bytes]:
 
 
 def end_as(status: int) -> int:
-    """The status as it is; a program that a signal ended is followed by that signal."""
+    """The status. Where a signal ended the program, this process ends by the same signal."""
     if status < 0:
         if -status not in (signal.SIGKILL, signal.SIGSTOP):
             signal.signal(-status, signal.SIG_DFL)

@@ -16,7 +16,10 @@ class Misused(ValueError):
 
 @dataclass
 class Line:
-    """The words for the program, the own options' values by word, and the folder that `--data` left."""
+    """The words for the program, and the own options' values by word.
+
+    `before` is the folder that was current before that of `--data`; `is_proposed` says that the schema is proposed.
+    """
     words: list[str] = field(default_factory=list)
     own: dict[str, str] = field(default_factory=dict)
     before: str | None = None
@@ -78,7 +81,7 @@ def add_own(line: Line, option: Option, value: str | None, left: list[str]) -> N
 
 
 def places(words: list[str]) -> list[str]:
-    """The place words among those behind the command: what is no option and no option's value."""
+    """The positional words among those behind the command: neither an option nor an option's value."""
     found: list[str] = []
     left, with_value = list(words), valued()
     while left:

@@ -21,8 +21,8 @@ MOST_PAIRS = 4_000_000
 
 
 def conjuncts_of(query: Query, catalog: Catalog) -> list[Conjunct]:
-    """The conditions on several entries that are told apart by nothing but the values that rows are grouped by: all
-    equalities that join, and the others over columns whose equal values are the same."""
+    """The conditions on several entries that depend on nothing but the values by which rows are grouped: all equalities
+    that join, and other conditions over columns whose equal values are the same to every function."""
     equalities = [
         Conjunct(frozenset((left.entry, right.entry)), frozenset((left, right)), equality)
         for equality in query.equalities
@@ -44,14 +44,14 @@ def columns_of(text: Text) -> frozenset[Named]:
 
 
 class Made(NamedTuple):
-    """The part of a statement that has a factor, and the parts with the numbers of pairs that have to be few for it."""
+    """The part of the statement that computes a factor, and the parts that count the pairs of groups of its joins."""
 
     name: str
     pairs: tuple[str, ...]
 
 
 class Choices:
-    """A statement that counts, while it is written."""
+    """Writes the statement that counts choices of rows, part by part."""
 
     def __init__(
         self, query: Query, dialect: Dialect, prefix: str, conjuncts: list[Conjunct], reduce: bool, most_pairs: int
@@ -83,11 +83,12 @@ class Choices:
         return f"{self.number} FROM {made.name}{where(self._few(made.pairs))}"
 
     def _few(self, pairs: Iterable[str]) -> list[str]:
-        """Tested once, before anything is read: PostgreSQL makes no part that nobody reads."""
+        """That each of these numbers of pairs is within the limit. PostgreSQL tests it once and first, and doesn't
+        compute a part that nobody reads."""
         return [f"(SELECT {self.number} FROM {name}) <= {self.most_pairs}" for name in pairs]
 
     def _factor(self, factor: Factor, by: dict[Factor, Join]) -> Made:
-        """The part with this factor. What it has doesn't depend on the joins that lead to it."""
+        """The part that computes this factor. It is the same whichever joins lead to it."""
         if factor not in self.made:
             self.made[factor] = self._joined(by[factor], by) if factor in by else self._grouped(factor)
         return self.made[factor]
@@ -107,7 +108,7 @@ class Choices:
         return Made(self._part(self._select(factor, values, "CAST(COUNT(*) AS NUMERIC)", source)), ())
 
     def _select(self, factor: Factor, values: list[str], number: str, source: str) -> str:
-        """Of each choice of values of the factor's open columns the number."""
+        """The SELECT of a number for each choice of values of the factor's open columns."""
         outputs = [f"{value} AS {self.columns[named]}" for value, named in zip(values, factor.open)]
         groups = f" GROUP BY {', '.join(str(at) for at in range(1, len(outputs) + 1))}" if outputs else ""
         return f"SELECT {', '.join([*outputs, f'{number} AS {self.number}'])} {source}{groups}"
@@ -125,12 +126,12 @@ class Choices:
         return Made(self._part(text), (*pairs, *own))
 
     def _on(self, join: Join, left: str, right: str, rows: str) -> str:
-        """The right side behind the left one: its rows under its name."""
+        """The JOIN of the right side, whose groups are read from `rows`."""
         equal = [f"{left}.{self.columns[one]} = {right}.{self.columns[other]}" for one, other in join.equalities]
         return f"JOIN {rows} ON {' AND '.join(equal)}" if equal else f"CROSS JOIN {rows}"
 
     def _entries(self, join: Join, sides: dict[int, str]) -> str:
-        """The columns that conditions name, by their own names again."""
+        """Gives the columns that conditions name their own names again, under their entries' aliases."""
         named = sorted(
             set[Named]().union(*(other.columns for other in join.others)), key=lambda named: named.column.name
         )
@@ -148,7 +149,7 @@ class Choices:
         )
 
     def _pairs(self, join: Join, left: str, right: str) -> str:
-        """The part that has how many groups of both sides meet by equalities."""
+        """The part that counts the pairs of groups that meet by equalities."""
         rows = self._meeting(left, [one for one, _ in join.equalities])
         others = self._meeting(right, [other for _, other in join.equalities])
         product = f"COALESCE(SUM({left}.{self.number} * {right}.{self.number}), 0)"
@@ -172,11 +173,11 @@ class Lowering:
         every = conjuncts_of(plan.query, engine.catalog)
         self.equalities = [conjunct for conjunct in every if isinstance(conjunct.what, Equality)]
         self.others = [conjunct for conjunct in every if not isinstance(conjunct.what, Equality)]
-        # Else it takes no time to look through the rows of one entry for each of another's.
+        # Otherwise nested loops take no time.
         self.large = prod(sorted(plan.counts.rows.values())[-2:]) > most_pairs
 
     def lower(self) -> None:
-        """By all conditions that count, and where these make too many pairs by equalities alone."""
+        """Counts by all conditions, and where too many pairs would meet, by equalities alone."""
         levels = [number for number, level in enumerate(self.plan.levels, 1) if not isinstance(level.shape, int)]
         left = self._by_all(levels)
         more = [number for number in left if self._others_within(number)]
@@ -189,8 +190,8 @@ class Lowering:
                 self.plan.notes.append(f"level {number} is counted by equalities alone: by all conditions {past}")
 
     def _by_all(self, levels: list[int]) -> list[int]:
-        """The query may never come to the rows on which a condition ends in an error: then none but equalities
-        count."""
+        """Counts by all conditions. One may end in an error on rows that the query itself never tests; then equalities
+        alone are used."""
         try:
             left = self._lowered(levels, self.equalities + self.others, "all conditions")
         except EngineFault as fault:

@@ -1,8 +1,8 @@
 """In which order the choices of rows of some entries are counted, so that the rows themselves are never joined.
 
-A factor of some entries has for each choice of values of its open columns how many choices of rows of these entries
-have these values, and satisfy all conditions that name no other entry. A column is open while a condition names it that
-isn't tested yet.
+A factor of some entries tells for each choice of values of its open columns how many choices of rows have them. A
+choice has one row of each of these entries, and satisfies all conditions on these entries alone. A column is open as
+long as a condition that names it hasn't been tested. This is variable elimination.
 """
 
 from __future__ import annotations
@@ -39,8 +39,8 @@ class Join(NamedTuple):
 
     @property
     def few(self) -> bool:
-        """Whether no more groups meet than one side has: each meets at most one of the other side, whose open columns
-        are all equal to some of its own."""
+        """Whether each group of one side meets at most one of the other, all of whose open columns are compared by
+        equalities. Then no more pairs meet than that side has groups."""
         joined = [{pair[side] for pair in self.equalities} for side in (0, 1)]
         return joined[0].issuperset(self.left.open) or joined[1].issuperset(self.right.open)
 
@@ -74,8 +74,8 @@ def _factor(entries: frozenset[int], left: list[Conjunct]) -> Factor:
 
 
 def _next(factors: list[Factor], left: list[Conjunct]) -> Join:
-    """The first factor whose open columns all meet those of one other, by equalities where there is such a one; else
-    the first two that an equality connects, or any condition."""
+    """Joins the first two factors of which one has conditions with the other alone: best where each group meets one.
+    Where there are none, it joins the first two that an equality connects, or else any condition."""
 
     def ends_in(pair: Pair) -> bool:
         return all(c.entries <= pair[0].entries | pair[1].entries for c in left if c.entries & pair[0].entries)

@@ -1,8 +1,8 @@
 """Counts that last: how often values repeat in whole tables, kept in a file for later plans.
 
-A table is known by what its engine tells it from others by, and a column by its type too, so that another table of
-the same name isn't taken for it. Kept counts say nothing of rows that came later: whoever takes them looks at the
-number of rows.
+Counts belong to a table by its identity in the engine, and to a column by its name and type. So another table of the
+same name doesn't get them. Kept counts say nothing of rows that came later: whoever uses them compares the number of
+rows.
 """
 
 from __future__ import annotations
@@ -31,7 +31,7 @@ Runs = List[Tuple[int, int]]
 
 @dataclass
 class KeptTable:
-    """A table's rows when it was counted, and of each counted column its type and its runs, falling."""
+    """How many rows a table had when it was counted, and for each counted column its type and its degree list."""
 
     name: str
     time: str
@@ -49,7 +49,7 @@ class KeptTable:
 
 
 def type_of(column: Column) -> str:
-    """All that its values are compared by."""
+    """What decides how the column's values are compared."""
     return f"{column.type}, {column.kind}"
 
 
@@ -62,7 +62,7 @@ def now() -> str:
 
 
 class Kept:
-    """The tables of a file. One that isn't there has none."""
+    """The tables of a file of kept counts; there are none where the file doesn't exist yet."""
 
     def __init__(self, file: str, has_to_be_there: bool = True) -> None:
         self.file = file
@@ -96,7 +96,8 @@ class Kept:
             raise Unreadable(f"{self.file}: {error}") from None
 
     def taken(self, query: Query) -> dict[int, KeptTable]:
-        """The entries without conditions of whose joined columns all counts are kept."""
+        """The kept counts of each entry that needs no counting: one without conditions, all of whose joined columns are
+        kept."""
         found = {}
         for entry in query.entries:
             table = self.tables.get(entry.about.identity or "")
@@ -119,7 +120,7 @@ class Kept:
         parts = [
             part
             for identity, entry in entries.items()
-            for part in histograms(Source(_called(entry, identity), []), columns[identity], engine.dialect)
+            for part in histograms(Source(_renamed(entry, identity), []), columns[identity], engine.dialect)
         ]
         counts = counts_among(columns, engine.connection.rows("\nUNION ALL ".join(parts)))
         for identity, entry in entries.items():
@@ -146,7 +147,7 @@ class Kept:
         if kept is None or len(columns) < len(kept.types) or not all(map(kept.has, columns)):
             raise WrongCounts(f"{self.file} has no counts of {table} as it is; keep them anew")
         conditions = own_conditions(entry) + list(map(str, query.constants))
-        whole, new = Source(_called(entry, "whole"), []), Source(_called(entry, "new"), conditions)
+        whole, new = Source(_renamed(entry, "whole"), []), Source(_renamed(entry, "new"), conditions)
         parts = histograms(whole, [], engine.dialect) + histograms(new, columns, engine.dialect)
         counts = counts_among({"whole": [], "new": columns}, engine.connection.rows("\nUNION ALL ".join(parts)))
         if kept.rows + counts.rows["new"] != counts.rows["whole"]:
@@ -161,12 +162,12 @@ class Kept:
         return kept, counts.rows["new"]
 
 
-def _called(entry: Entry, name: str) -> Entry:
+def _renamed(entry: Entry, name: str) -> Entry:
     return Entry(entry.number, name, entry.alias, entry.table, entry.about)
 
 
 def _appended(old: Runs, new: Runs) -> Runs:
-    """The library's rank-wise sum: it holds whichever of the values repeat."""
+    """The library's rank-wise sum: it dominates the new list whichever values the old and the new rows share."""
     if not (old and new):
         return old or new
     with library_faults():

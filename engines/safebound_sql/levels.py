@@ -16,10 +16,10 @@ MOST_BUDGET = 2**59
 
 Shape = Union[int, "tuple[Shape, Shape]"]
 
-# A column of an entry, two that are equal, and lists as the library takes them.
-Of = Tuple[str, str]
-Equal = Tuple[Of, Of]
-Lists = Dict[Of, safebound.Runs]
+# An entry's name and a column's, two of them that are equal, and the columns' lists, as the library takes them.
+Side = Tuple[str, str]
+Equal = Tuple[Side, Side]
+Lists = Dict[Side, safebound.Runs]
 
 
 @dataclass
@@ -36,7 +36,7 @@ class Level:
 
     @property
     def factor(self) -> float | None:
-        """How many times what the engine expects the bound is."""
+        """The bound divided by the rows that the engine expects."""
         return None if self.expected is None else self.bound / max(self.expected, 1)
 
 
@@ -44,9 +44,9 @@ class Level:
 class Plan:
     """A plan: the shape of its joins, and its levels from the first to that of all entries.
 
-    `kept` has the entries whose counts are kept ones, with their time; `changed` those whose kept counts weren't taken,
-    since there were so many rows then and are so many now. `tested` are conditions that counted bounds keep to though
-    others don't, and `notes` says what isn't counted.
+    `kept` has the entries whose counts are kept ones, with their time. `changed` has those whose kept counts weren't
+    used, with the number of rows then and now. `tested` are conditions that only counted bounds take into account, and
+    `notes` says what isn't counted.
     """
 
     query: Query
@@ -61,7 +61,7 @@ class Plan:
 
     @property
     def unused(self) -> list[tuple[Text, str]]:
-        """The conditions on several entries that no bound keeps to, and why."""
+        """The conditions on several entries that no bound takes into account, and why."""
         return [(text, why) for text, why in self.query.no_edges if text not in self.tested]
 
     @property
@@ -76,7 +76,7 @@ def entries_of(shape: Shape) -> list[int]:
 
 @contextlib.contextmanager
 def library_faults(budget: int = MOST_BUDGET) -> Iterator[None]:
-    """Makes faults of what the library raises."""
+    """Turns the library's exceptions into faults of this package."""
     try:
         yield
     except safebound.BudgetExceeded as error:
@@ -119,7 +119,7 @@ def lists_of(counts: Counts, accuracy: int) -> Lists:
 def equalities_of(query: Query) -> list[Equal]:
     """The equalities as the library takes them."""
 
-    def of(side: Named) -> Of:
+    def of(side: Named) -> Side:
         return query.entries[side.entry].name, side.column.name
 
     return [(of(equality.left), of(equality.right)) for equality in query.equalities]
@@ -135,7 +135,7 @@ def _levels(query: Query, order: safebound.Order) -> list[Level]:
 
 
 def _levels_of_tree(query: Query, tree: safebound.Tree, counts: Counts) -> list[Level]:
-    """The joins of a tree; of an entry alone its rows."""
+    """A level for each join of the tree; of a single entry one level, with its rows."""
     if not tree.joins:
         return [Level(0, counts.rows[query.entries[0].name])]
     nodes: list[Shape] = [entry.number for entry in query.entries]

@@ -38,7 +38,7 @@ class Parts:
         return kept
 
     def add(self, entry: Entry, dialect: Dialect, columns: list[Column], conditions: list[str], prefix: str) -> None:
-        """A new part with these columns of an entry's rows, as far as the conditions are true."""
+        """Adds a part: these columns of those of the entry's rows for which the conditions are true."""
         name = f"{prefix}{len(self.texts) + 1}"
         outputs = (
             ", ".join(f"{entry.alias}.{dialect.quote(column.name)}" for column in columns)
@@ -62,7 +62,8 @@ def partners(query: Query) -> Joined:
 
 
 def components(joined: Joined) -> Iterable[list[tuple[int, int | None]]]:
-    """The entries that equalities connect: each list has an entry behind the one by which it was reached."""
+    """The entries that equalities connect, a list for each group: every entry with the one from which it was
+    reached."""
     seen: set[int] = set()
     for start in joined:
         if start in seen:
@@ -81,13 +82,14 @@ def closes_a_cycle(joined: Joined, reached: list[tuple[int, int | None]]) -> boo
 
 
 def along_a_tree(reached: list[tuple[int, int | None]]) -> Iterable[tuple[int, list[int]]]:
-    """Up and down: after it, whatever can go has gone."""
+    """The semi-joins up the tree and down again. They are a full reducer: each row that is left meets one of every
+    entry."""
     yield from ((entry, [other for other, parent in reached if parent == entry]) for entry, _ in reversed(reached))
     yield from ((entry, [parent]) for entry, parent in reached if parent is not None)
 
 
 def around_a_cycle(joined: Joined, reached: list[tuple[int, int | None]]) -> Iterable[tuple[int, list[int]]]:
-    """By all equalities, up and down, and once more. More could go."""
+    """The semi-joins by all equalities: up, and three times along all. Further rounds might take further rows away."""
     down = [entry for entry, _ in reached]
     up = down[::-1]
     for at, entry in enumerate(up):
@@ -120,8 +122,8 @@ def reduced(query: Query, dialect: Dialect, columns: dict[int, list[Column]], pr
 def semi_join(
     query: Query, dialect: Dialect, entry: int, other: int, pairs: list[tuple[Column, Column]], rows: str
 ) -> str:
-    """By IN, for which SQLite makes an index once, and PostgreSQL a hash. Not every engine takes several columns
-    there."""
+    """The condition that a row of `entry` has a partner in `other`. It uses IN, for which SQLite makes an index and
+    PostgreSQL a hash; where an engine takes no IN of several columns, EXISTS."""
     mine, yours = query.entries[entry].alias, query.entries[other].alias
     if len(pairs) > 1 and not dialect.takes_rows_in:
         meet = [f"{yours}.{dialect.quote(right.name)} = {mine}.{dialect.quote(left.name)}" for left, right in pairs]

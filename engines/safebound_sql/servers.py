@@ -57,8 +57,8 @@ class Source:
         )
 
     def _groups(self, values: str) -> str:
-        """Where there are as many groups as rows PostgreSQL may fetch the rows. It takes any HAVING to leave fewer
-        groups."""
+        """A GROUP BY. Where PostgreSQL expects as many groups as rows it may fetch the rows; a HAVING lets it expect
+        fewer groups."""
         return f" GROUP BY {values}" + (" HAVING COUNT(*) > 0" if self.entry.about.spread and not self.part else "")
 
     def _tables(self) -> tuple[str, ...]:
@@ -109,7 +109,7 @@ class Limits:
 def steps_elsewhere(query: Query, joined: Joined) -> Iterable[tuple[int, list[int]]]:
     """The semi-joins in their order. They leave the same rows as `steps`.
 
-    Along a tree an entry under no condition first tells the others nothing, since all of its values would go along.
+    Along a tree, an entry without a condition doesn't limit the others at first, since all of its values would be sent.
     """
     limited = {entry.number for entry in query.entries if entry.own}
     for reached in components(joined):

@@ -8,7 +8,7 @@ from __future__ import annotations
 
 import logging
 import re
-from dataclasses import dataclass
+from dataclasses import dataclass, replace
 from typing import Iterator
 
 from .dialect import Dialect
@@ -31,8 +31,6 @@ BEFORE_BY = ("CLUSTER", "DISTRIBUTE", "SORT", "CONNECT")
 PARTS_OF_SELECT = {
     "expressions", "from", "joins", "where", "group", "having", "order", "limit", "offset", "distinct", "windows",
 }
-
-
 RESERVED = (*TIMES, "NULL", "TRUE", "FALSE")
 IN_LOWER_CASE = frozenset(word.lower() for word in RESERVED)
 
@@ -41,7 +39,6 @@ IN_LOWER_CASE = frozenset(word.lower() for word in RESERVED)
 class UnreachedDialect(Dialect):
     """Where no settings make an engine keep the order, each level is a temporary table."""
 
-    merged_columns_first: bool = True
     calls_without_parentheses: tuple[str, ...] = TIMES
     outputs_in_conditions: bool = True
     schemas_in_names: bool = False
@@ -85,30 +82,28 @@ class UnreachedDialect(Dialect):
         return before.startswith(("DATE", "TIME")) or (at + 1 < len(pieces) and pieces[at + 1].says("AS", "::"))
 
 
-# A part that isn't kept is read again wherever it is named, and so the parts that it names in turn.
-MOST_PARTS_OF_A_PART, MOST_SCANS = 200, 100
+def reading_again(dialect: UnreachedDialect) -> UnreachedDialect:
+    """The dialect of an engine that reads a part again wherever it is named, and with it the parts that it names."""
+    return replace(dialect, most_parts_of_a_part=200, most_scans=100)
+
 
 DIALECTS = {
     dialect.name: dialect
     for dialect in (
-        UnreachedDialect(
+        reading_again(UnreachedDialect(
             name="spark",
             title="Spark",
             rules=dialect_rules(BACKTICKS, texts="'\"", suffixes="[lLsSyYfFdD]|[bB][dD]"),
             quotes="`",
             settings=("SET spark.sql.cbo.joinReorder.enabled = false", "SET spark.sql.cbo.starSchemaDetection = false"),
             equals=("=", "=="),
-            most_parts_of_a_part=MOST_PARTS_OF_A_PART,
-            most_scans=MOST_SCANS,
-        ),
-        UnreachedDialect(
+        )),
+        reading_again(UnreachedDialect(
             name="trino",
             title="Trino",
             rules=dialect_rules(DOUBLE_QUOTES),
             settings=("SET SESSION join_reordering_strategy = 'NONE'",),
-            most_parts_of_a_part=MOST_PARTS_OF_A_PART,
-            most_scans=MOST_SCANS,
-        ),
+        )),
         UnreachedDialect(
             name="duckdb",
             title="DuckDB",

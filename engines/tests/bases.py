@@ -53,7 +53,8 @@ class SqliteBase:
             self.connection.execute("COMMIT")
 
     def rows(self, sql: str) -> list[Row]:
-        return self.connection.execute(sql).fetchall()
+        rows: list[Row] = self.connection.execute(sql).fetchall()
+        return rows
 
     def close(self) -> None:
         self.connection.close()
@@ -82,7 +83,8 @@ class PostgresBase:
                 into.write_row(row)
 
     def rows(self, sql: str) -> list[Row]:
-        return self.connection.execute(sql).fetchall()
+        rows: list[Row] = self.connection.execute(sql).fetchall()
+        return rows
 
     def close(self) -> None:
         self.connection.close()
@@ -107,7 +109,8 @@ class ClusterBase:
 
         with connected(server) as connection:
             answer = connection.execute(sql)
-            return answer.fetchall() if answer.description else []
+            rows: list[Row] = answer.fetchall() if answer.description else []
+            return rows
 
     def script(self, text: str) -> None:
         self.cluster.script(text)

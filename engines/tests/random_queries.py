@@ -7,7 +7,7 @@ import os
 import random
 from dataclasses import dataclass, field
 from decimal import Decimal
-from typing import Callable
+from typing import Any, Callable
 
 from bases import OnEachEngine
 from safebound_sql.query import Row
@@ -79,6 +79,12 @@ class Randomly:
             columns = [f"{name}{table} {kind}{nocase if name == 'w' else ''}" for name, kind in TYPES.items()]
             tables.append(f"DROP TABLE IF EXISTS t{table}; CREATE TABLE t{table} ({', '.join(columns)});")
         return "\n".join(tables)
+
+    def lay(self, base: Any) -> None:
+        """Makes the tables in a base of the tests, and fills them."""
+        base.script(self.schema())
+        for table in range(TABLES):
+            base.fill(f"t{table}", self.rows())
 
     def rows(self) -> list[Row]:
         return [tuple(self._value(name) for name in TYPES) for _ in range(self.random.choice((0, 3, 8, 14, 20)))]

@@ -40,6 +40,19 @@ class InBlocks(OnEachEngine, Process):
         finally:
             engine.connection.close()
 
+    def bounded(self, text: str) -> bool:
+        """Whether each join of the query is."""
+        engine = opened(self.base.url, None)
+        several = block_plans.several(text, engine)
+        engine.connection.close()
+        if several:
+            return not self.tried_in_blocks(text).unbounded
+        planner, plan = self.planned(text)
+        self.never_under(planner, plan, text)
+        self.same_rows(planner, plan, text)
+        planner.engine.connection.close()
+        return True
+
 
 class Blocks(InBlocks):
     schema = """
@@ -214,6 +227,7 @@ class Blocks(InBlocks):
         self.assertEqual((done.returncode, done.stdout), (0, "x\n0\n1\n2\n"), done.stderr)
 
 
+@unittest.skipUnless(POSTGRES, "no PostgreSQL")
 class Tpch(InBlocks):
     """The 22 queries of TPC-H: in each of them each join is bounded."""
 
@@ -232,25 +246,10 @@ class Tpch(InBlocks):
                 found += self.bounded(text)
         self.assertEqual(found, 22)
 
-    def bounded(self, text: str) -> bool:
-        """Whether each join of the query is."""
-        engine = opened(self.base.url, None)
-        several = block_plans.several(text, engine)
-        engine.connection.close()
-        if several:
-            return not self.tried_in_blocks(text).unbounded
-        planner, plan = self.planned(text)
-        self.never_under(planner, plan, text)
-        self.same_rows(planner, plan, text)
-        planner.engine.connection.close()
-        return True
-
 
 @unittest.skipUnless(QUERIES_OF_THE_ARCHIVE.is_dir(), "no queries of the archive")
 class Archive(InBlocks):
     """Queries over packages of which the program itself takes fewer: outer joins, WITH, UNION, subqueries."""
-
-    bounded = Tpch.bounded
 
     @classmethod
     def fill(cls) -> None:
@@ -298,7 +297,6 @@ class Archive(InBlocks):
 
 
 BlocksOnPostgres, ArchiveOnPostgres = on_postgres(Blocks), on_postgres(Archive)
-Tpch = unittest.skipUnless(POSTGRES, "no PostgreSQL")(Tpch)
 del InBlocks
 
 if __name__ == "__main__":

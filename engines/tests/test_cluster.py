@@ -8,6 +8,7 @@ import os
 import subprocess
 import unittest
 from fractions import Fraction
+from typing import TYPE_CHECKING
 
 import test_counted
 import test_kept
@@ -21,6 +22,9 @@ from safebound_sql.counting import Counts, counts_of
 from safebound_sql.kept import Kept
 from safebound_sql.planner import Planner
 from safebound_sql.tokens import tokens
+
+if TYPE_CHECKING:
+    from fetched import Fetch
 
 
 class OnCluster(OnEachEngine):
@@ -40,7 +44,7 @@ class OnCluster(OnEachEngine):
             with self.subTest(reduce=reduce):
                 self.assertEqual(self.counts(text, reduce), self.counts(text, reduce, self.base.alone.url), text)
 
-    def asked(self, text: str, reduce: bool = True, rows: bool = False) -> list:
+    def asked(self, text: str, reduce: bool = True, rows: bool = False) -> list[Fetch]:
         """What the servers are asked by the counting statement, or by the one that joins the rows."""
         from fetched import fetches
 
@@ -57,6 +61,7 @@ class TheShop(OnCluster, Process):
     """67,000 rows."""
 
     TIMES = Fraction(1, 10)
+    text: str
 
     @classmethod
     def fill(cls) -> None:
@@ -238,7 +243,9 @@ CREATE TABLE b (z INTEGER, x INTEGER, y INTEGER, v VARCHAR(9), t TEXT)"""
         engine = opened(self.base.url, None)
         self.addCleanup(engine.connection.close)
         settings = "SELECT current_setting('enable_nestloop'), current_setting('jit')"
-        self.assertEqual(len(engine.catalog.table(tokens("b", engine.dialect.rules)).spread.parts), 2)
+        table = engine.catalog.table(tokens("b", engine.dialect.rules))
+        assert table and table.spread
+        self.assertEqual(len(table.spread.parts), 2)
         self.assertEqual(engine.connection.rows(settings), [("on", "on")])
         engine = self.opened("SELECT 1 FROM a JOIN b ON a.x = b.x").engine
         self.assertEqual(engine.connection.rows(settings), [("off", "off")])
@@ -256,7 +263,7 @@ CREATE TABLE b (z INTEGER, x INTEGER, y INTEGER, v VARCHAR(9), t TEXT)"""
     def reader(self, *tables: str) -> str:
         """The coordinator's address for a user who may read these tables alone."""
         coordinator = self.base.cluster.coordinator
-        options = self.base.on(coordinator, "SELECT umoptions FROM pg_user_mapping LIMIT 1")[0][0]
+        options: list[str] = self.base.on(coordinator, "SELECT umoptions FROM pg_user_mapping LIMIT 1")[0][0]
         password = next(option.partition("=")[2] for option in options if option.startswith("password="))
         reader = f"reader_{DATABASE}"
         self.base.on(coordinator, f"CREATE ROLE {reader} LOGIN; GRANT USAGE ON SCHEMA public TO {reader}")
@@ -265,7 +272,8 @@ CREATE TABLE b (z INTEGER, x INTEGER, y INTEGER, v VARCHAR(9), t TEXT)"""
         for number in (1, 2):
             mapping = f"OPTIONS (user 'postgres', password '{password}')"
             self.base.on(coordinator, f"CREATE USER MAPPING FOR {reader} SERVER server{number} {mapping}")
-        return self.base.url.replace("//postgres@", f"//{reader}@")
+        url: str = self.base.url
+        return url.replace("//postgres@", f"//{reader}@")
 
     def test_parts_that_may_not_be_read(self) -> None:
         """Whoever may read the table and not its parts gets the same counts, by the rows."""

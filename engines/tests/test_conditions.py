@@ -9,7 +9,7 @@ from bases import POSTGRES, OnEachEngine, PostgresBase, SqliteBase, on_postgres
 TEXTS = ("it's", "x\\", "AND", "a = b OR", "", "--", "/*", None, "Zürich")
 
 
-class Conditions(OnEachEngine):
+class Conditioned(OnEachEngine):
     schema = """
     CREATE TABLE a (x INTEGER, "Odd ""name" INTEGER, t TEXT, d DATE);
     CREATE TABLE b (x INTEGER, y INTEGER, u TEXT, d DATE, date DATE);
@@ -31,6 +31,8 @@ class Conditions(OnEachEngine):
                     self.never_under(planner, plan, text)
                     self.same_rows(planner, plan, text)
 
+
+class Conditions(Conditioned):
     def test_texts(self) -> None:
         self.conditions(
             ("t = 'it''s' AND u = 'AND'", 2),
@@ -73,13 +75,9 @@ class Conditions(OnEachEngine):
         )
 
 
-class ConditionsOfPostgres(OnEachEngine):
+@unittest.skipUnless(POSTGRES, "no PostgreSQL")
+class ConditionsOfPostgres(Conditioned):
     base_class = PostgresBase
-    schema, conditions = Conditions.schema, Conditions.conditions
-
-    @classmethod
-    def fill(cls) -> None:
-        Conditions.fill.__func__(cls)
 
     def test_texts(self) -> None:
         self.conditions(
@@ -110,13 +108,8 @@ class ConditionsOfPostgres(OnEachEngine):
         )
 
 
-class ConditionsOfSqlite(OnEachEngine):
+class ConditionsOfSqlite(Conditioned):
     base_class = SqliteBase
-    schema, conditions = Conditions.schema, Conditions.conditions
-
-    @classmethod
-    def fill(cls) -> None:
-        Conditions.fill.__func__(cls)
 
     def test_what_sqlite_alone_has(self) -> None:
         self.conditions(
@@ -131,7 +124,6 @@ class ConditionsOfSqlite(OnEachEngine):
 
 
 ConditionsOnPostgres = on_postgres(Conditions)
-ConditionsOfPostgres = unittest.skipUnless(POSTGRES, "no PostgreSQL")(ConditionsOfPostgres)
 
 if __name__ == "__main__":
     unittest.main()

@@ -213,6 +213,7 @@ class ViewsThatChoose(Corners):
         self.right("SELECT z FROM b WHERE z IN (SELECT max(y) FROM a GROUP BY x) ORDER BY z")
 
 
+@unittest.skipUnless(POSTGRES, "no PostgreSQL")
 class CornersOfPostgres(Corners):
     base_class = PostgresBase
     schema = """
@@ -312,7 +313,7 @@ class CornersOfPostgres(Corners):
             planner.engine.connection.close()
         finally:
             self.base.script("DROP OPERATOR public.= (varchar, varchar)")
-        url = POSTGRES + ("&" if "?" in POSTGRES else "?") + "options=-csearch_path%3Dmine,pg_catalog,public"
+        url = self.base.url + ("&" if "?" in self.base.url else "?") + "options=-csearch_path%3Dmine,pg_catalog,public"
         ended = self.tried("plan", text="SELECT a.x FROM a, e WHERE a.x = e.x", db=url)
         self.assertEqual(ended.returncode, 5, ended.stderr)
         self.assertIn("mine", ended.stderr)
@@ -446,7 +447,6 @@ class Texts(Corners):
 for test in (Names, ViewsThatChoose, Texts):
     globals()[test.__name__ + "OnPostgres"] = on_postgres(test)
 del test
-CornersOfPostgres = unittest.skipUnless(POSTGRES, "no PostgreSQL")(CornersOfPostgres)
 del Corners
 
 if __name__ == "__main__":

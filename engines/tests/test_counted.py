@@ -10,7 +10,7 @@ from decimal import Decimal
 import random_queries
 from bases import COUNTED, POSTGRES, OnEachEngine, PostgresBase
 from process import Process
-from random_queries import QUERIES, TABLES, Randomly, RandomQuery, in_tens
+from random_queries import QUERIES, Randomly, RandomQuery, in_tens
 from safebound_sql.counted import MOST_PAIRS
 from safebound_sql.levels import MOST_BUDGET, Plan, entries_of
 from safebound_sql.planner import Planner
@@ -296,9 +296,7 @@ class RandomCounts(CountedBounds):
             randomly = RandomlyCounted(number, "counted on postgres")
             if number == numbers[0]:
                 self.doCleanups()
-                self.base.script(randomly.schema())
-                for table in range(TABLES):
-                    self.base.fill(f"t{table}", randomly.rows())
+                randomly.lay(self.base)
             found = randomly.query()
             with self.subTest(number=number, query=found.text):
                 here, of = self.check(randomly, found)

@@ -21,13 +21,13 @@ import random_names
 from bases import COUNTED, OnEachEngine, counted, on_postgres
 from process import PROGRAM
 from random_names import RandomNames
-from random_queries import NAMED, QUERIES, TABLES, Randomly, in_tens
+from random_queries import NAMED, QUERIES, TABLES, Randomly, RandomQuery, in_tens
 from safebound_sql.counting import Counts, counts_of
 from safebound_sql.faults import Refused
 from safebound_sql.levels import MOST_BUDGET, entries_of
 from safebound_sql.planner import Planner
 from safebound_sql.query import Row
-from safebound_sql.unreached import DIALECTS, unreached
+from safebound_sql.unreached import DIALECTS, SchemaFile, unreached
 
 # Each query is asked in five dialects.
 MOST = 60
@@ -48,7 +48,7 @@ def statements(script: str) -> list[str]:
     return [statement for statement in re.split(r";(?:\n|\Z)", script) if statement.strip()]
 
 
-def parsed(script: str, dialect: str) -> list:
+def parsed(script: str, dialect: str) -> list[exp.Expression]:
     """The script as sqlglot reads it; MATERIALIZED, which it doesn't know, is left out."""
     return [sqlglot.parse_one(text.replace(" AS MATERIALIZED (", " AS ("), read=dialect) for text in statements(script)]
 
@@ -68,7 +68,8 @@ class Dialects(OnEachEngine):
                 self.base.script(
                     f"DROP TABLE IF EXISTS temp.{made[1]}; CREATE TEMPORARY TABLE {made[1]} AS {statement[made.end():]}"
                 )
-        return self.base.rows(last)
+        rows: list[Row] = self.base.rows(last)
+        return rows
 
 
 @in_tens(min(QUERIES, MOST))
@@ -90,7 +91,7 @@ class RandomDialects(Dialects):
                     COUNTED[f"random queries answered in {dialect} on {self.base.engine}"] += 1
         self.assertGreater(joined, len(numbers) // 2)
 
-    def check(self, dialect: str, randomly: Randomly, schema: str, found) -> bool:
+    def check(self, dialect: str, randomly: Randomly, schema: str, found: RandomQuery) -> bool:
         """Checks one query on one engine. Answers whether bounds had an equality to go by."""
         choose = randomly.random.choice
         planner = self.planner(dialect, found.text, schema, choose((True, True, False)))
@@ -330,6 +331,7 @@ class RefusedByDialects(Dialects):
         nested = unreached(
             "bigquery", "CREATE OR REPLACE TABLE a (x INT64 NOT NULL, s ARRAY<STRUCT<p INT64, q STRING>>, t STRING)"
         )
+        assert isinstance(nested.catalog, SchemaFile)
         self.assertEqual([column.name for column in nested.catalog.tables[("a",)].columns], ["x", "s", "t"])
 
 

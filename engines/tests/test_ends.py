@@ -42,6 +42,7 @@ class Ends(OnEachEngine, Process):
             line = [PROGRAM, "audit", "--db", self.base.url, "-"]
             running = subprocess.Popen(line, stdin=subprocess.PIPE, stdout=subprocess.DEVNULL, stderr=theirs)
             try:
+                assert running.stdin
                 running.stdin.write(self.takes_long.encode())
                 running.stdin.close()
                 seen = b""
@@ -52,7 +53,8 @@ class Ends(OnEachEngine, Process):
                 self.assertEqual(running.wait(timeout=600), status)
             finally:
                 running.kill()
-                os.close(ours), os.close(theirs)
+                os.close(ours)
+                os.close(theirs)
             if self.base.engine == "postgres":
                 time.sleep(0.5)
                 told = self.base.rows(
@@ -87,6 +89,7 @@ class Ends(OnEachEngine, Process):
         )
 
 
+@unittest.skipUnless(POSTGRES, "no PostgreSQL")
 class EndsOfPostgres(OnEachEngine, Process):
     base_class = PostgresBase
     schema = """
@@ -119,7 +122,7 @@ class EndsOfPostgres(OnEachEngine, Process):
         """
         )
         try:
-            url = POSTGRES.replace("//postgres@", f"//{reader}@")
+            url = self.base.url.replace("//postgres@", f"//{reader}@")
             text = "SELECT a.x FROM a, b WHERE a.x = b.x AND a.m = 'sad'::mood AND a.y + b.x > 0"
             text += " AND (b.s::timestamp AT TIME ZONE 'UTC') > '2019-01-01' ORDER BY 1"
             ended = self.tried("run", "--budget", "99", text=text, db=url)
@@ -177,7 +180,7 @@ class EndsOfPostgres(OnEachEngine, Process):
                 f"CREATE DATABASE {name} ENCODING '{encoding}' LC_COLLATE 'C' LC_CTYPE 'C' TEMPLATE template0"
             )
             try:
-                url = POSTGRES.replace(f"/{DATABASE}?", f"/{name}?")
+                url = self.base.url.replace(f"/{DATABASE}?", f"/{name}?")
                 import psycopg
 
                 with psycopg.connect(url, autocommit=True, client_encoding="utf8") as there:
@@ -228,7 +231,6 @@ class EndsOfSqlite(OnEachEngine, Process):
 
 
 EndsOnPostgres = on_postgres(Ends)
-EndsOfPostgres = unittest.skipUnless(POSTGRES, "no PostgreSQL")(EndsOfPostgres)
 
 if __name__ == "__main__":
     unittest.main()

@@ -47,7 +47,9 @@ class Examples(OnEachEngine):
     def test_the_best_seller(self) -> None:
         """PostgreSQL expects some 20 rows of the whole join; there are 100,010, and the bound says just that."""
         loader = importlib.machinery.SourceFileLoader("estimates", str(ROOT / "bench" / "estimates"))
-        estimates = importlib.util.module_from_spec(importlib.util.spec_from_loader("estimates", loader))
+        spec = importlib.util.spec_from_loader("estimates", loader)
+        assert spec
+        estimates = importlib.util.module_from_spec(spec)
         loader.exec_module(estimates)
         tables = {}
         with tempfile.TemporaryDirectory() as folder:
@@ -63,8 +65,10 @@ class Examples(OnEachEngine):
         self.assertEqual(true[-1], 100_010)
         self.assertEqual(plan.levels[-1].bound, 100_010)
         if self.base.engine == "postgres":
-            self.assertLess(plan.levels[-1].expected, 1_000)
-            self.assertGreater(plan.levels[-1].factor, 100)
+            last = plan.levels[-1]
+            assert last.expected is not None and last.factor is not None
+            self.assertLess(last.expected, 1_000)
+            self.assertGreater(last.factor, 100)
 
 
 ExamplesOnPostgres = on_postgres(Examples)

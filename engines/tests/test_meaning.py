@@ -3,11 +3,16 @@
 from __future__ import annotations
 
 import unittest
+from typing import Any, Dict
 
 from bases import POSTGRES, OnEachEngine, PostgresBase, SqliteBase, on_postgres
 from safebound_sql.counting import Counts, counts_of
 from safebound_sql.faults import PastBudget
 from safebound_sql.levels import entries_of
+from safebound_sql.planner import Planner
+
+# A node of PostgreSQL's plan, as EXPLAIN writes it in JSON.
+Explained = Dict[str, Any]
 
 
 class Counted(OnEachEngine):
@@ -128,6 +133,7 @@ class Edges(OnEachEngine):
                 self.assertGreater(self.equalities(text), 0)
 
 
+@unittest.skipUnless(POSTGRES, "no PostgreSQL")
 class EdgesOfPostgres(OnEachEngine):
     """Types that PostgreSQL compares with =, though it groups them otherwise."""
 
@@ -259,7 +265,7 @@ class Orders(OnEachEngine):
         self.assertEqual(sorted("abe", key=lambda name: sql.index(f" AS {name}")), order)
         self.assertEqual(self.joined_by_engine(planner, sql), order)
 
-    def joined_by_engine(self, planner, sql: str) -> list[str]:
+    def joined_by_engine(self, planner: Planner, sql: str) -> list[str]:
         """The order in which the engine says that it joins, the first two in either order."""
         planner.engine.connection.keep_order()
         if self.base.engine == "sqlite":
@@ -285,7 +291,7 @@ class Orders(OnEachEngine):
         planner.plan(1, 10, False)
 
 
-def leaves(plan: dict) -> list[str]:
+def leaves(plan: Explained) -> list[str]:
     return [plan["Alias"]] if "Alias" in plan else [name for part in plan.get("Plans", []) for name in leaves(part)]
 
 
@@ -328,11 +334,12 @@ class Trees(OnEachEngine):
                 [name for parent, name in read if not parent], ["p", "r", "safebound_1", "safebound_1", "safebound_1"]
             )
         else:
-            plan = planner.engine.connection.rows(f"EXPLAIN (FORMAT JSON) {sql}")[0][0][0]["Plan"]
-            self.assertEqual(sorted(map(sorted, joins(plan))), [["p", "q", "r", "s"], ["p", "r"], ["q", "s"]])
+            told = planner.engine.connection.rows(f"EXPLAIN (FORMAT JSON) {sql}")[0][0][0]["Plan"]
+            joined = sorted(sorted(names) for names in joins(told))
+            self.assertEqual(joined, [["p", "q", "r", "s"], ["p", "r"], ["q", "s"]])
 
 
-def joins(plan: dict) -> list[list[str]]:
+def joins(plan: Explained) -> list[list[str]]:
     """The entries below each join."""
     parts = plan.get("Plans", [])
     return ([leaves(plan)] if len(parts) == 2 else []) + [found for part in parts for found in joins(part)]
@@ -383,7 +390,6 @@ class Snapshots(OnEachEngine):
 for test in (Counted, Edges, Orders, Trees, Reduced, Snapshots):
     globals()[test.__name__ + "OnPostgres"] = on_postgres(test)
 del test
-EdgesOfPostgres = unittest.skipUnless(POSTGRES, "no PostgreSQL")(EdgesOfPostgres)
 
 if __name__ == "__main__":
     unittest.main()

@@ -8,7 +8,7 @@ import unittest
 import random_names
 from bases import COUNTED, OnEachEngine, on_postgres
 from random_names import RandomNames
-from random_queries import NAMED, QUERIES, TABLES, Randomly, RandomQuery, in_tens
+from random_queries import NAMED, QUERIES, Randomly, RandomQuery, in_tens
 from safebound_sql.faults import Refused
 from safebound_sql.levels import entries_of
 
@@ -22,9 +22,7 @@ class AnyQueries(OnEachEngine):
             randomly = Randomly(number, self.base.engine)
             if number == numbers[0]:
                 self.doCleanups()
-                self.base.script(randomly.schema())
-                for table in range(TABLES):
-                    self.base.fill(f"t{table}", randomly.rows())
+                randomly.lay(self.base)
             found = randomly.query()
             with self.subTest(number=number, query=found.text):
                 joined += self.check(randomly, found)

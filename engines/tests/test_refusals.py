@@ -8,7 +8,15 @@ from bases import POSTGRES, OnEachEngine, PostgresBase, SqliteBase, on_postgres
 from safebound_sql.faults import EngineFault, Refused
 
 
-class Refusals(OnEachEngine):
+class Refusing(OnEachEngine):
+    def refused(self, text: str, *words: str, fault: type[Exception] = Refused) -> None:
+        with self.subTest(text), self.assertRaises(fault) as raised:
+            self.opened(text)
+        for word in words:
+            self.assertIn(word, str(raised.exception))
+
+
+class Refusals(Refusing):
     schema = """
     CREATE TABLE a (x INTEGER, y INTEGER, t TEXT);
     CREATE TABLE b (x INTEGER, z INTEGER, t TEXT);
@@ -17,12 +25,6 @@ class Refusals(OnEachEngine):
     CREATE VIEW pale AS SELECT * FROM a WHERE random() < 1;
     CREATE VIEW paler_still AS SELECT * FROM pale;
     """
-
-    def refused(self, text: str, *words: str, fault: type = Refused) -> None:
-        with self.subTest(text), self.assertRaises(fault) as raised:
-            self.opened(text)
-        for word in words:
-            self.assertIn(word, str(raised.exception))
 
     def test_joins(self) -> None:
         self.refused("SELECT 1 FROM a LEFT JOIN b ON a.x = b.x", "LEFT JOIN", "line 1, column 17")
@@ -98,14 +100,14 @@ class Refusals(OnEachEngine):
         )
 
 
-class RefusalsOfPostgres(OnEachEngine):
+@unittest.skipUnless(POSTGRES, "no PostgreSQL")
+class RefusalsOfPostgres(Refusing):
     base_class = PostgresBase
     schema = """
     CREATE TABLE a (x INTEGER, y INTEGER);
     CREATE FUNCTION mine(INTEGER) RETURNS INTEGER LANGUAGE sql AS 'SELECT $1';
     CREATE FUNCTION calm(INTEGER) RETURNS INTEGER LANGUAGE sql IMMUTABLE AS 'SELECT $1';
     """
-    refused = Refusals.refused
 
     def test_functions(self) -> None:
         self.refused("SELECT 1 FROM a WHERE mine(x) = 1", "mine at line 1, column 23")
@@ -132,10 +134,9 @@ class RefusalsOfPostgres(OnEachEngine):
         self.opened("SELECT public.a.x FROM a WHERE public.a.y = 1 ORDER BY public.a.x")
 
 
-class RefusalsOfSqlite(OnEachEngine):
+class RefusalsOfSqlite(Refusing):
     base_class = SqliteBase
     schema = "CREATE TABLE a (x INTEGER, y INTEGER, d TEXT); CREATE TABLE b (x INTEGER)"
-    refused = Refusals.refused
 
     def test_time(self) -> None:
         self.refused("SELECT 1 FROM a WHERE d > date('now', '-1 day')", "date at line 1, column 27")
@@ -156,7 +157,6 @@ class RefusalsOfSqlite(OnEachEngine):
 
 
 RefusalsOnPostgres = on_postgres(Refusals)
-RefusalsOfPostgres = unittest.skipUnless(POSTGRES, "no PostgreSQL")(RefusalsOfPostgres)
 
 if __name__ == "__main__":
     unittest.main()

@@ -3,11 +3,14 @@
 A call is made by the C program (calls.c) and through ctypes. Both must get the same.
 """
 
+from __future__ import annotations
+
 import ctypes
+import importlib
 import os
 import subprocess
 import sys
-from typing import NamedTuple, Optional
+from typing import Any, Iterator, NamedTuple, Optional, Sequence, Tuple, Union
 
 HERE = os.path.dirname(os.path.abspath(__file__))
 ROOT = os.path.dirname(os.path.dirname(HERE))
@@ -16,7 +19,8 @@ sys.path[:0] = [os.path.join(ROOT, "python"), os.path.join(ROOT, "cases")]
 os.environ.setdefault("PYTHONPATH", sys.path[0])
 
 from safebound import _library  # noqa: E402
-from safebound._library import Status  # noqa: E402
+
+Status = _library.Status
 
 PROGRAM = os.environ.get("SAFEBOUND_CALLS", os.path.join(ROOT, "library", "out", "calls"))
 MOST_ROWS, MOST_BUDGET = 2**48, 2**59
@@ -27,59 +31,80 @@ NUMBER, BYTE = ctypes.c_uint64, ctypes.c_char
 QUERY = [NUMBER, _library.Equality, _library.List, _library.Run]
 OF_RUNS = ("degrees", "compress", "append", "lesser", "greater", "cut")
 OF_NUMBERS = ("bounds", "bounds_within", "set_bound", "joined_rows")
-ELEMENTS = {**dict.fromkeys(OF_RUNS, _library.Run), **dict.fromkeys(OF_NUMBERS, NUMBER),
-            "order": _library.Level, "tree": _library.Join, "version": BYTE}
-ARRAYS = {"degrees": [NUMBER], "compress": [_library.Run], "cut": [_library.Run], "order": [NUMBER], "tree": [NUMBER],
-          **dict.fromkeys(("append", "lesser", "greater"), [_library.Run] * 2),
-          **dict.fromkeys(("bounds", "bounds_within", "set_bound"), QUERY), "version": []}
+ELEMENTS: dict[str, Any] = {
+    **dict.fromkeys(OF_RUNS, _library.Run), **dict.fromkeys(OF_NUMBERS, NUMBER),
+    "order": _library.Level, "tree": _library.Join, "version": BYTE,
+}
+ARRAYS: dict[str, list[Any]] = {
+    "degrees": [NUMBER],
+    "compress": [_library.Run],
+    "cut": [_library.Run],
+    "order": [NUMBER],
+    "tree": [NUMBER],
+    **dict.fromkeys(("append", "lesser", "greater"), [_library.Run] * 2),
+    **dict.fromkeys(("bounds", "bounds_within", "set_bound"), QUERY),
+    "version": [],
+}
 WITHOUT_ROOM = {"set_bound", "joined_rows"}
+
+
+# A number, or several that belong together, as a run's degree and its keys.
+Element = Union[int, Tuple[int, ...]]
 
 
 class Answer(NamedTuple):
     status: int
     detail: Optional[int]
-    elements: list
+    elements: list[Any]
 
 
 class Call(NamedTuple):
     """A call's name, its arrays, the room for its answer, and the number that it takes beside them, as an accuracy."""
 
     name: str
-    arrays: list
+    arrays: Sequence[Sequence[Element]]
     room: int
     number: Optional[int] = None
 
-    def line(self):
-        parts = [self.name] + ([] if self.number is None else [self.number]) + [self.room]
+    def line(self) -> str:
+        parts: list[object] = [self.name, *([] if self.number is None else [self.number]), self.room]
         for array in self.arrays:
             parts += [len(array)] + [n for element in array for n in flat(element)]
         return " ".join(map(str, parts))
 
 
-def flat(element):
-    return list(element) if isinstance(element, (tuple, list)) else [element]
+def module(name: str) -> Any:
+    """The module, or None where it isn't installed."""
+    try:
+        return importlib.import_module(name)
+    except ImportError:
+        return None
 
 
-def fields(element):
+def flat(element: Element) -> Sequence[int]:
+    return element if isinstance(element, tuple) else [element]
+
+
+def fields(element: Any) -> list[int]:
     if isinstance(element, ctypes.Structure):
         return [getattr(element, name) for name, _ in element._fields_]
     return [element[0] if isinstance(element, bytes) else element]
 
 
-def shaped(name, numbers):
+def shaped(name: str, numbers: list[int]) -> list[Element]:
     """The numbers of an answer as elements: tuples, where they have several numbers."""
     wide = len(getattr(ELEMENTS[name], "_fields_", [0]))
     return [n if wide == 1 else tuple(numbers[at : at + wide]) for at, n in enumerate(numbers) if at % wide == 0]
 
 
-def arguments(call):
-    given = []
+def arguments(call: Call) -> list[Any]:
+    given: list[Any] = []
     for kind, array in zip(ARRAYS[call.name], call.arrays):
         given += [(kind * len(array))(*array), len(array)]
     return given + ([] if call.number is None else [call.number])
 
 
-def by_ctypes(call):
+def by_ctypes(call: Call) -> Answer:
     given = [call.number, *call.arrays[0]] if call.name == "joined_rows" else arguments(call)
     into, detail = (ELEMENTS[call.name] * call.room)(), NUMBER(UNTOUCHED)
     given += [] if call.name in WITHOUT_ROOM else [into, call.room]
@@ -89,12 +114,16 @@ def by_ctypes(call):
                   shaped(call.name, [n for element in into[:written] for n in fields(element)]))
 
 
-def by_c(lines):
+def by_c(lines: list[str]) -> Iterator[tuple[Answer, int]]:
     """The answers of the C program, each with how many requests for memory there were."""
-    done = subprocess.run([PROGRAM], input="".join(line + "\n" for line in lines), capture_output=True, text=True, timeout=300)
+    done = subprocess.run(
+        [PROGRAM], input="".join(line + "\n" for line in lines), capture_output=True, text=True, timeout=300
+    )
     if done.returncode != 0:
         at = done.stdout.count("\n")
-        raise AssertionError(f"{done.stderr.strip()} (status {done.returncode}): {lines[at] if at < len(lines) else ''}"[:2000])
+        raise AssertionError(
+            f"{done.stderr.strip()} (status {done.returncode}): {lines[at] if at < len(lines) else ''}"[:2000]
+        )
     for line, told in zip(lines, done.stdout.splitlines()):
         words = told.split()
         name = next(word for word in line.split() if word in ELEMENTS)
@@ -102,7 +131,7 @@ def by_c(lines):
         yield Answer(int(words[0]), None if words[1] == "-" else int(words[1]), elements), int(words[-1])
 
 
-def answers(calls):
+def answers(calls: Sequence[Call]) -> list[Answer]:
     """What C and Python both get."""
     found = []
     for call, (answer, _) in zip(calls, by_c([call.line() for call in calls])):
@@ -115,5 +144,5 @@ def answers(calls):
     return found
 
 
-def answer(call):
+def answer(call: Call) -> Answer:
     return answers([call])[0]

@@ -1,37 +1,51 @@
 """Random calls beside the slow reading of the definitions (cases/reading.py), and bounds beside true counts."""
 
+from __future__ import annotations
+
 import itertools
 import random
 import sqlite3
 import time
 import unittest
 from collections import Counter
+from typing import Any, Callable, Dict, Iterable, Iterator, Sequence, Tuple, Union
 
 from calls import NO_BOUND, NO_VALUES, Call, Status, answers
 import reading
 
 RUNS = 150
 
+Pair = Tuple[int, int]
+# Two columns, each an entry and a number of it.
+Equality = Tuple[Pair, Pair]
+DegreeLists = Dict[Pair, "list[int]"]
+# An entry, or two trees.
+Tree = Union[int, Tuple["Tree", "Tree"]]
+# The set of the left tree, and the places of both.
+Place = Tuple[int, Tuple[Any, ...], Tuple[Any, ...]]
 
-def runs_of(degrees):
+
+def runs_of(degrees: Iterable[int]) -> list[Pair]:
     return [(degree, len(list(group))) for degree, group in itertools.groupby(degrees)]
 
 
-def degrees_of(runs):
+def degrees_of(runs: Iterable[Pair]) -> list[int]:
     return [degree for degree, keys in runs for _ in range(keys)]
 
 
-def random_degrees(pick):
-    return sorted((pick.choice([1, 2, 3, 5, 40, 1000]) * pick.randint(1, 3) for _ in range(pick.randint(0, 12))), reverse=True)
+def random_degrees(pick: random.Random) -> list[int]:
+    return sorted(
+        (pick.choice([1, 2, 3, 5, 40, 1000]) * pick.randint(1, 3) for _ in range(pick.randint(0, 12))), reverse=True
+    )
 
 
 class Lists(unittest.TestCase):
-    def check(self, made):
+    def check(self, made: list[tuple[Call, list[int]]]) -> None:
         """Pairs of a call and the list that its runs have to be of."""
         for (call, expected), answer in zip(made, answers([call for call, _ in made])):
             self.assertEqual(answer, (Status.OK, len(runs_of(expected)), runs_of(expected)), call)
 
-    def test_degrees(self):
+    def test_degrees(self) -> None:
         made = []
         for seed in range(RUNS):
             pick = random.Random(seed)
@@ -40,7 +54,7 @@ class Lists(unittest.TestCase):
             made.append((Call("degrees", [keys], 30), reading.falling(keys)))
         self.check(made)
 
-    def test_compress(self):
+    def test_compress(self) -> None:
         made = []
         for seed in range(RUNS):
             pick = random.Random(seed)
@@ -49,7 +63,7 @@ class Lists(unittest.TestCase):
             made.append((Call("compress", [split], len(split) + 1, accuracy), reading.compressed(degrees, accuracy)))
         self.check(made)
 
-    def test_append(self):
+    def test_append(self) -> None:
         made = []
         for seed in range(RUNS):
             pick = random.Random(seed)
@@ -57,7 +71,7 @@ class Lists(unittest.TestCase):
             made.append((Call("append", [runs_of(one), runs_of(other)], 24), reading.by_rank(sum, [one, other])))
         self.check(made)
 
-    def test_lesser_and_greater(self):
+    def test_lesser_and_greater(self) -> None:
         made = []
         for seed in range(RUNS):
             pick = random.Random(seed)
@@ -67,7 +81,7 @@ class Lists(unittest.TestCase):
             made.append((Call("greater", runs, 24), reading.by_rank(max, lists)))
         self.check(made)
 
-    def test_cut(self):
+    def test_cut(self) -> None:
         made = []
         for seed in range(RUNS):
             pick = random.Random(seed)
@@ -76,7 +90,7 @@ class Lists(unittest.TestCase):
             made.append((Call("cut", [runs_of(degrees)], 13, rows), reading.cut(degrees, rows)))
         self.check(made)
 
-    def test_lists_of_conditions_dominate(self):
+    def test_lists_of_conditions_dominate(self) -> None:
         """Over rows with a key, a colour and a size: what calls make of lists of these is never below true counts."""
         calls, keys = [], []
         for seed in range(RUNS):
@@ -96,10 +110,11 @@ class Lists(unittest.TestCase):
         for call, some, answer in zip(calls, keys, answers(calls)):
             self.assertEqual(answer.status, Status.OK)
             bound = list(itertools.accumulate(degrees_of(answer.elements)))
-            for rank, rows in enumerate(itertools.accumulate(reading.falling(some))):
-                self.assertLessEqual(rows, bound[min(rank, len(bound) - 1)], call)
+            true: list[int] = list(itertools.accumulate(reading.falling(some)))
+            for rank, count in enumerate(true):
+                self.assertLessEqual(count, bound[min(rank, len(bound) - 1)], call)
 
-    def test_numbers_at_the_limit(self):
+    def test_numbers_at_the_limit(self) -> None:
         most = 2**48
         self.check_runs([
             (Call("compress", [[(most, 1)]], 2, 64), [(most, 1)]),
@@ -111,11 +126,12 @@ class Lists(unittest.TestCase):
             (Call("cut", [[(1, most)]], 1, most - 1), [(1, most - 1)]),
         ])
 
-    def test_ten_billion_rows(self):
-        """One value in 4,000,000,000 rows, one in 3,000,000,000, a thousand in 2,000,000 each, a billion in one row each.
+    def test_ten_billion_rows(self) -> None:
+        """One value in 4,000,000,000 rows, one in 3,000,000,000, a thousand in 2,000,000 each, a billion in one row
+        each.
 
-        At accuracy 1 the second degree isn't below half of the first, so the head stays: rows 1 to 8,000,000,000 have it, in
-        two elements. They lie within the first two values and 500 of the thousand, so 500 of these are left.
+        At accuracy 1 the second degree isn't below half of the first, so the head stays: rows 1 to 8,000,000,000 have
+        it, in two elements. They lie within the first two values and 500 of the thousand, so 500 of these are left.
         """
         table = [(4_000_000_000, 1), (3_000_000_000, 1), (2_000_000, 1000), (1, 1_000_000_000)]
         self.check_runs([
@@ -124,20 +140,21 @@ class Lists(unittest.TestCase):
             (Call("append", [table, table], 8), [(2 * degree, keys) for degree, keys in table]),
         ])
 
-    def check_runs(self, made):
+    def check_runs(self, made: list[tuple[Call, list[Any]]]) -> None:
         for (call, expected), answer in zip(made, answers([call for call, _ in made])):
             self.assertEqual(answer, (Status.OK, len(expected), expected), call)
 
 
-class GivenLists(reading.ListBounds):
+class GivenLists(reading.ListBounds):  # type: ignore[misc]
     """The bounds of the reading over lists that are given."""
 
-    def __init__(self, equalities, rows, lists):
+    def __init__(self, equalities: list[Equality], rows: list[int], lists: DegreeLists) -> None:
         self.all, self.rows, self.lists = equalities, rows, lists
 
 
-def with_values(rows, lists, equalities):
-    """Row bounds and lists where these equalities hold: a row without a value in one of their columns is equal to none."""
+def with_values(rows: list[int], lists: DegreeLists, equalities: list[Equality]) -> tuple[list[int], DegreeLists]:
+    """Row bounds and lists where these equalities hold: a row without a value in one of their columns is equal to
+    none."""
     rows = list(rows)
     for entry, column in itertools.chain(*equalities):
         rows[entry] = min(rows[entry], sum(lists[entry, column]))
@@ -147,37 +164,53 @@ def with_values(rows, lists, equalities):
 class RandomQuery:
     """Small tables with values and rows without one, equalities, and lists that dominate the columns."""
 
-    def __init__(self, seed):
+    def __init__(self, seed: int) -> None:
         self.pick = pick = random.Random(seed)
         self.entries = pick.choice([2, 2, 3, 3, 4, 5])
         columns, spread = pick.randint(1, 3), pick.choice([1, 2, 3, 6])
         nulls = pick.choice([0, 0, 0.3, 1])
-        value = lambda: None if pick.random() < nulls else pick.randint(1, spread)  # noqa: E731
+
+        def value() -> int | None:
+            return None if pick.random() < nulls else pick.randint(1, spread)
+
         most = 6 if self.entries < 5 else 4
-        self.tables = [[[value() for _ in range(columns)] for _ in range(pick.randint(0, most))] for _ in range(self.entries)]
+        self.tables = [
+            [[value() for _ in range(columns)] for _ in range(pick.randint(0, most))] for _ in range(self.entries)
+        ]
         if pick.random() < 0.2:
             self.tables[1] = self.tables[0]
         pairs = list(itertools.combinations(range(self.entries), 2))
-        place = lambda entry: (entry, pick.randrange(columns))  # noqa: E731
-        self.equalities = [tuple(map(place, pick.sample(pick.choice(pairs), 2))) for _ in range(pick.randint(0, self.entries + 1))]
-        self.whole = [self.tables[e] + ([[value() for _ in range(columns)]] if pick.random() < 0.3 else []) for e in range(self.entries)]
+
+        def place(entry: int) -> Pair:
+            return entry, pick.randrange(columns)
+
+        self.equalities: list[Equality] = []
+        for _ in range(pick.randint(0, self.entries + 1)):
+            one, other = pick.sample(pick.choice(pairs), 2)
+            self.equalities.append((place(one), place(other)))
+        self.whole = [
+            self.tables[e] + ([[value() for _ in range(columns)]] if pick.random() < 0.3 else [])
+            for e in range(self.entries)
+        ]
         self.rows = [len(table) + pick.choice([0, 0, 1]) for table in self.tables]
         self.lists = {side: self.list_of(*side) for equality in self.equalities for side in equality}
 
-    def list_of(self, entry, column):
+    def list_of(self, entry: int, column: int) -> list[int]:
         """The column's degree list over the table or over one with more rows, as it is, compressed, or in two parts."""
         values = [row[column] for row in self.whole[entry] if row[column] is not None]
-        shape, degrees = self.pick.random(), reading.falling(values)
+        shape, degrees = self.pick.random(), list(reading.falling(values))
         if shape < 0.3:
-            return reading.compressed(degrees, self.pick.choice([1, 2, 8]))
+            return list(reading.compressed(degrees, self.pick.choice([1, 2, 8])))
         if shape < 0.5:
             at = self.pick.randint(0, len(values))
-            return reading.by_rank(sum, [reading.falling(values[:at]), reading.falling(values[at:])])
+            return list(reading.by_rank(sum, [reading.falling(values[:at]), reading.falling(values[at:])]))
         return degrees
 
-    def call(self):
+    def call(self) -> Call:
         """The call, with the lists in any order, and names of columns that are any numbers."""
-        name = lambda column: (column * 2_147_483_647 + 5) % 2**32  # noqa: E731
+        def name(column: int) -> int:
+            return (column * 2_147_483_647 + 5) % 2**32
+
         equalities = [(a, name(x), b, name(y)) for (a, x), (b, y) in self.equalities]
         sides, runs, lists = list(self.lists), [(7, 1)], []
         self.pick.shuffle(sides)
@@ -187,22 +220,26 @@ class RandomQuery:
             runs += own + [(1, 1)]
         return Call("bounds", [self.rows, equalities, lists, runs], 2**self.entries)
 
-    def read(self, entries):
+    def read(self, entries: list[int]) -> int:
         """The bound of a set by the definitions."""
         rows, lists = with_values(self.rows, self.lists, self.within(entries))
-        return GivenLists(self.equalities, rows, lists).of_set(entries)
+        bound: int = GivenLists(self.equalities, rows, lists).of_set(entries)
+        return bound
 
-    def within(self, entries):
+    def within(self, entries: Iterable[int]) -> list[Equality]:
         """The equalities between these entries."""
         return [e for e in self.equalities if e[0][0] in entries and e[1][0] in entries]
 
-    def work(self):
+    def work(self) -> int:
         """What is to be done at most: in each turn of each set one, and the runs of its equalities."""
         length = {side: len(runs_of(degrees)) for side, degrees in self.lists.items()}
         sets = [[e for e in range(self.entries) if number >> e & 1] for number in range(2**self.entries)]
-        return sum(min(max(len(own), 1), 16) * (1 + sum(length[side] for e in own for side in e)) for own in map(self.within, sets))
+        return sum(
+            min(max(len(own), 1), 16) * (1 + sum(length[side] for e in own for side in e))
+            for own in map(self.within, sets)
+        )
 
-    def counted(self, entries):
+    def counted(self, entries: list[int]) -> int:
         """How many choices of one row of each entry of a set satisfy the equalities between them, by nested loops."""
         inner = self.within(entries)
         found = 0
@@ -213,7 +250,7 @@ class RandomQuery:
 
 
 class Bounds(unittest.TestCase):
-    def test_random_queries(self):
+    def test_random_queries(self) -> None:
         queries = [RandomQuery(seed) for seed in range(3 * RUNS)]
         calls = [query.call() for query in queries]
         joined = equal = 0
@@ -228,8 +265,9 @@ class Bounds(unittest.TestCase):
         self.assertGreater(joined, 100)
         self.assertGreater(equal, 100)
 
-    def test_rows_without_values(self):
-        """Two tables of a million rows, of which ten and all have a value, all different: at most ten can join. Alone each has its rows."""
+    def test_rows_without_values(self) -> None:
+        """Two tables of a million rows, of which ten and all have a value, all different: at most ten can join. Alone
+        each has its rows."""
         million = 10**6
         lists, runs = [(0, 0, 0, 1), (1, 0, 1, 1)], [(1, 10), (1, million)]
         none = [(0, 0, NO_VALUES, 0), (1, 0, 1, 1)]
@@ -242,16 +280,19 @@ class Bounds(unittest.TestCase):
         self.assertEqual(nothing.elements, [1, million, million, 0])
         self.assertEqual(apart.elements, [1, million, million, million**2])
 
-    def test_sets_alone(self):
+    def test_sets_alone(self) -> None:
         """The bound of a set alone is that of the set among all."""
         queries = [RandomQuery(seed) for seed in range(RUNS)]
         calls = [query.call() for query in queries]
         for call, answer in zip(calls, answers(calls)):
             alone = answers([Call("set_bound", call.arrays, 0, number) for number in range(call.room)])
-            self.assertEqual([(one.status, one.detail) for one in alone], [(Status.OK, bound) for bound in answer.elements], call)
+            self.assertEqual(
+                [(one.status, one.detail) for one in alone], [(Status.OK, bound) for bound in answer.elements], call
+            )
 
-    def test_limits_of_work(self):
-        """With a limit that does the bounds are the same; with one less they are refused, and the limit that does is told."""
+    def test_limits_of_work(self) -> None:
+        """With a limit that does the bounds are the same; with one less they are refused, and the limit that does is
+        told."""
         queries = [RandomQuery(seed) for seed in range(RUNS)]
         calls = [query.call() for query in queries]
         for query, call, answer in zip(queries, calls, answers(calls)):
@@ -260,12 +301,13 @@ class Bounds(unittest.TestCase):
             self.assertEqual(enough, answer, call)
             self.assertEqual(less, (Status.WORK, work, []), call)
 
-    def test_a_limit_ends_at_once(self):
-        """All pairs of twelve entries, each by columns of its own: the bounds take more than a second, and the refusal next to nothing."""
+    def test_a_limit_ends_at_once(self) -> None:
+        """All pairs of twelve entries, each by columns of its own: the bounds take more than a second, and the refusal
+        next to nothing."""
         equalities = [(a, b, b, a) for a, b in itertools.combinations(range(12), 2)]
         lists = [(entry, column, 0, 12) for entry in range(12) for column in range(12) if column != entry]
         runs = [(12 - at, 1000) for at in range(12)]
-        arrays = [[78000] * 12, equalities, lists, runs]
+        arrays: list[Sequence[Any]] = [[78000] * 12, equalities, lists, runs]
         began = time.monotonic()
         (refused,) = answers([Call("bounds_within", arrays, 4096, 10**6)])
         taken = time.monotonic() - began
@@ -276,16 +318,21 @@ class Bounds(unittest.TestCase):
         self.assertEqual(whole.status, Status.OK)
         self.assertGreater(time.monotonic() - began, 5 * taken)
 
-    def test_saturated_bounds(self):
+    def test_saturated_bounds(self) -> None:
         """Two columns of one value each have the product of their rows; twelve of 2**48 rows are past every number."""
-        for rows, expected in [((2**31, 2**32), 2**63), ((2**32, 2**32), NO_BOUND), ((2**32 - 1, 2**32 + 1), NO_BOUND), ((2**48, 2**48), NO_BOUND)]:
+        for rows, expected in [
+            ((2**31, 2**32), 2**63),
+            ((2**32, 2**32), NO_BOUND),
+            ((2**32 - 1, 2**32 + 1), NO_BOUND),
+            ((2**48, 2**48), NO_BOUND),
+        ]:
             lists, runs = [(0, 0, 0, 1), (1, 0, 1, 1)], [(rows[0], 1), (rows[1], 1)]
             (answer,) = answers([Call("bounds", [rows, [(0, 0, 1, 0)], lists, runs], 4)])
             self.assertEqual(answer.elements, [1, rows[0], rows[1], expected])
         twelve = answers([Call("bounds", [[2**48] * 12, [], [], []], 4096)])[0].elements
         self.assertEqual(Counter(min(n, NO_BOUND) for n in twelve), {1: 1, 2**48: 12, NO_BOUND: 4083})
 
-    def test_ten_billion_rows(self):
+    def test_ten_billion_rows(self) -> None:
         """Two tables joined by one column: rank by rank the products of degrees, summed."""
         one, other = [(4_000_000_000, 1), (2, 3_000_000_000)], [(1000, 1_000_000), (1, 9_000_000_000)]
         rows = [10_000_000_000, 10_000_000_000]
@@ -313,7 +360,7 @@ class JoinedTables(unittest.TestCase):
     """Joined tables that SQLite counts, with nulls and equal rows."""
 
     @unittest.skipIf(sqlite3.sqlite_version_info < (3, 39), "this SQLite has no RIGHT and no FULL JOIN")
-    def test_never_under(self):
+    def test_never_under(self) -> None:
         calls, counts = [], []
         for seed in range(RUNS):
             pick = random.Random(seed)
@@ -333,25 +380,24 @@ class JoinedTables(unittest.TestCase):
             self.assertEqual(answer.status, Status.OK)
             self.assertGreaterEqual(answer.detail, count, call)
 
-    def test_each_kind(self):
+    def test_each_kind(self) -> None:
         """Sums that 64 bits don't hold, and bounds that say nothing."""
         numbers = [0, 1, 5, 2**48, 2**63, 2**64 - 2, NO_BOUND]
-        triples = list(itertools.product(numbers, repeat=3))
-        calls = [Call("joined_rows", [bounds], 0, kind) for kind in KINDS for bounds in triples]
-        for call, answer in zip(calls, answers(calls)):
-            inner, left, right = call.arrays[0]
+        asked = [(bounds, kind) for kind in KINDS for bounds in itertools.product(numbers, repeat=3)]
+        calls = [Call("joined_rows", [bounds], 0, kind) for bounds, kind in asked]
+        for ((inner, left, right), kind), answer in zip(asked, answers(calls)):
             most = {1: inner + left, 2: inner + right, 3: inner + left + right, 4: min(inner, left), 5: left}
-            self.assertEqual(answer, (Status.OK, min(most[call.number], NO_BOUND), []))
+            self.assertEqual(answer, (Status.OK, min(most[kind], NO_BOUND), []))
 
 
-def orders(bounds, entries):
+def orders(bounds: list[int], entries: int) -> Iterator[tuple[int, int, tuple[int, ...], list[int]]]:
     """All orders with their greatest level, their sum and their levels; the first of the least of these is best."""
     for order in itertools.permutations(range(entries)):
         levels = [bounds[sum(1 << e for e in order[: k + 1])] for k in range(entries)]
         yield max(levels), sum(levels), order, levels
 
 
-def trees(entries):
+def trees(entries: tuple[int, ...]) -> Iterator[Tree]:
     """All trees over a set of entries: a leaf, or two trees, of which the left one has the first entry."""
     if len(entries) == 1:
         yield entries[0]
@@ -362,16 +408,16 @@ def trees(entries):
             yield from itertools.product(trees(left), trees(right))
 
 
-def set_of(tree):
+def set_of(tree: Tree) -> int:
     return set_of(tree[0]) | set_of(tree[1]) if isinstance(tree, tuple) else 1 << tree
 
 
-def place_of(tree):
+def place_of(tree: Tree) -> Place:
     """What decides between trees of one cost and one sum."""
     return (set_of(tree[0]), place_of(tree[0]), place_of(tree[1])) if isinstance(tree, tuple) else (0, (), ())
 
 
-def joins_of(tree, bounds, joins, entries):
+def joins_of(tree: Tree, bounds: list[int], joins: list[tuple[int, int, int]], entries: int) -> int:
     """The number of a tree's root, its joins behind the others."""
     if not isinstance(tree, tuple):
         return tree
@@ -380,19 +426,24 @@ def joins_of(tree, bounds, joins, entries):
     return entries + len(joins) - 1
 
 
-def best_tree(bounds, entries):
+def best_tree(bounds: list[int], entries: int) -> tuple[int, int, Place, list[tuple[int, int, int]]]:
     found = []
     for tree in trees(tuple(range(entries))):
-        joins = []
+        joins: list[tuple[int, int, int]] = []
         joins_of(tree, bounds, joins, entries)
         levels = [bound for _, _, bound in joins] or [bounds[1]]
         found.append((max(levels), sum(levels), place_of(tree), joins))
     return min(found)
 
 
-def random_bounds(pick, entries):
+def random_bounds(pick: random.Random, entries: int) -> list[int]:
     kind = pick.choice(["few", "few", "many", "large", "none"])
-    least = {"few": [1, 2, 3], "many": range(1000), "large": range(2**58, 2**58 + 9), "none": [2**59, 2**60, NO_BOUND]}[kind]
+    least = {
+        "few": [1, 2, 3],
+        "many": range(1000),
+        "large": range(2**58, 2**58 + 9),
+        "none": [2**59, 2**60, NO_BOUND],
+    }[kind]
     bounds = [pick.choice(least) for _ in range(2**entries)]
     if pick.random() < 0.3:
         bounds[pick.randrange(1, 2**entries)] = NO_BOUND
@@ -400,7 +451,7 @@ def random_bounds(pick, entries):
 
 
 class Plans(unittest.TestCase):
-    def check(self, name, best):
+    def check(self, name: str, best: Callable[[list[int], int], tuple[int, Sequence[Any]]]) -> None:
         """Each with a budget that is just enough, one too small, and the greatest."""
         calls, expected = [], []
         for seed in range(2 * RUNS):
@@ -410,29 +461,32 @@ class Plans(unittest.TestCase):
             cost, found = best(bounds, entries)
             for budget in {min(cost, 2**59), max(min(cost, 2**59) - 1, 0), 2**59}:
                 calls.append(Call(name, [bounds], len(found), budget))
-                refusal = (Status.PAST_BITS, None, []) if cost == NO_BOUND else (Status.BUDGET, cost, [])
+                refusal: tuple[int, int | None, list[Any]] = (
+                    (Status.PAST_BITS, None, []) if cost == NO_BOUND else (Status.BUDGET, cost, [])
+                )
                 expected.append((Status.OK, len(found), found) if cost <= budget else refusal)
         found = answers(calls)
         for call, answer, wanted in zip(calls, found, expected):
             self.assertEqual(answer, wanted, call)
         self.assertEqual({answer.status for answer in found}, {Status.OK, Status.BUDGET, Status.PAST_BITS})
 
-    def test_orders(self):
-        def best(bounds, entries):
+    def test_orders(self) -> None:
+        def best(bounds: list[int], entries: int) -> tuple[int, Sequence[Any]]:
             cost, _, order, levels = min(orders(bounds, entries))
             return cost, list(zip(order, levels))
 
         self.check("order", best)
 
-    def test_trees(self):
-        def best(bounds, entries):
+    def test_trees(self) -> None:
+        def best(bounds: list[int], entries: int) -> tuple[int, Sequence[Any]]:
             cost, _, _, joins = best_tree(bounds, entries)
             return cost, joins
 
         self.check("tree", best)
 
-    def test_twelve_entries(self):
-        """A chain of twelve entries, each with a thousand keys once: a set has a thousand rows for each run of neighbours in it."""
+    def test_twelve_entries(self) -> None:
+        """A chain of twelve entries, each with a thousand keys once: a set has a thousand rows for each run of
+        neighbours in it."""
         ends = [bin(number & ~(number >> 1)).count("1") for number in range(4096)]
         equalities = [(e, 0, e + 1, 0) for e in range(11)]
         lists, runs = [(e, 0, e, 1) for e in range(12)], [(1, 1000)] * 12
@@ -440,7 +494,8 @@ class Plans(unittest.TestCase):
         self.assertEqual(bounds, [1000**count for count in ends])
         order, tree = answers([Call("order", [bounds], 12, 1000), Call("tree", [bounds], 11, 1000)])
         self.assertEqual(order, (Status.OK, 12, [(e, 1000) for e in range(12)]))
-        # Of trees with one cost and one sum the one counts whose left sets are the least: each entry beside all later ones.
+        # Of trees with one cost and one sum the one counts whose left sets are the least: each entry beside all later
+        # ones.
         self.assertEqual(tree, (Status.OK, 11, [(10, 11, 1000)] + [(9 - k, 12 + k, 1000) for k in range(10)]))
 
 

@@ -1,4 +1,7 @@
-"""The Python package: what its pages show, its errors, several threads, and how it is installed and finds the library."""
+"""The Python package: what its pages show, its errors, several threads, and how it is installed and finds the
+library."""
+
+from __future__ import annotations
 
 import doctest
 import os
@@ -10,6 +13,7 @@ import tempfile
 import threading
 import unittest
 from array import array
+from typing import Any, Callable, Collection
 
 import calls
 
@@ -19,18 +23,23 @@ from safebound import _library, bounds, decimals, joins, lists, plan_texts, plan
 PAIR = [(("r", "x"), ("s", "x"))]
 
 
-def pair(**changed):
-    given = dict(entries=["r", "s"], equalities=PAIR, row_bounds={"r": 6, "s": 5}, lists={("r", "x"): [(3, 2)], ("s", "x"): [(2, 2), (1, 1)]})
+def pair(**changed: Any) -> safebound.Query:
+    given: dict[str, Any] = dict(
+        entries=["r", "s"],
+        equalities=PAIR,
+        row_bounds={"r": 6, "s": 5},
+        lists={("r", "x"): [(3, 2)], ("s", "x"): [(2, 2), (1, 1)]},
+    )
     return safebound.Query(**{**given, **changed})
 
 
 class Pages(unittest.TestCase):
-    def test_what_docstrings_show(self):
+    def test_what_docstrings_show(self) -> None:
         for module in (safebound, bounds, decimals, joins, lists, plan_texts, plans, query, sql_texts):
             failed, tried = doctest.testmod(module)
             self.assertEqual((failed, tried > 0), (0, True), module)
 
-    def test_statuses_are_the_header_s(self):
+    def test_statuses_are_the_header_s(self) -> None:
         with open(os.path.join(calls.ROOT, "include", "safebound.h"), encoding="utf-8") as f:
             header = f.read()
         for name, number in vars(_library.Status).items():
@@ -41,14 +50,16 @@ class Pages(unittest.TestCase):
 
 
 class Errors(unittest.TestCase):
-    def raises(self, kind, place, make, column=None):
+    def raises(
+        self, kind: type[safebound.WrongValue], place: Any, make: Callable[[], object], column: object = None
+    ) -> None:
         with self.assertRaises(kind) as caught:
             make()
         self.assertIs(type(caught.exception), kind)
         self.assertEqual((caught.exception.place, getattr(caught.exception, "column", None)), (place, column))
         self.assertIsInstance(caught.exception, ValueError)
 
-    def test_lists(self):
+    def test_lists(self) -> None:
         for number in (0, 65, 2**64, 2**64 + 1, -1):
             self.raises(safebound.BadAccuracy, number, lambda: safebound.compress([(1, 1)], number))
         for wrong in [(0, 1), (1, 0), (-1, 1), (1, -1), (2**64 + 1, 1), (1, 2**64 + 1), (6, 1)]:
@@ -62,8 +73,9 @@ class Errors(unittest.TestCase):
         for number in (-1, 2**64):
             self.raises(safebound.BadRows, number, lambda: safebound.cut([(5, 1)], number))
 
-    def test_joined_rows(self):
-        for kind in ("inner", "LEFT", "", None, 1):
+    def test_joined_rows(self) -> None:
+        wrong: tuple[Any, ...] = ("inner", "LEFT", "", None, 1)
+        for kind in wrong:
             self.raises(safebound.BadJoinKind, kind, lambda: safebound.joined_rows(kind, 12, 6, 5))
         for number in (-1, 2**64):
             for rows in ((number, 6, 5), (12, number, 5), (12, 6, number)):
@@ -72,7 +84,7 @@ class Errors(unittest.TestCase):
         self.assertEqual([safebound.joined_rows(kind, 12, 6, 5) for kind in kinds], [18, 17, 23, 6, 6])
         self.assertEqual([safebound.joined_rows(kind, None, 6, 5) for kind in kinds], [None, None, None, 6, 6])
 
-    def test_queries(self):
+    def test_queries(self) -> None:
         one, other = ("r", "x"), ("s", "x")
         runs = {one: [(3, 2)], other: [(2, 2), (1, 1)]}
         for n in (0, 13, 64):
@@ -92,7 +104,7 @@ class Errors(unittest.TestCase):
         self.raises(safebound.BadRun, 1, pair(lists={one: [(3, 2)], other: [(2, 2), (3, 1)]}).bounds, other)
         self.raises(safebound.BadRun, 0, lambda: pair(lists={one: [(3, 2)], other: [(-2, 2)]}), other)
 
-    def test_plans(self):
+    def test_plans(self) -> None:
         for best in (pair().best_order, pair().best_tree):
             for budget in (-1, 2**59 + 1, 2**64, 2**64 + 100):
                 self.raises(safebound.BadBudget, budget, lambda: best(budget))
@@ -104,19 +116,32 @@ class Errors(unittest.TestCase):
             self.assertRaises(safebound.PastBits, best, 2**59)
         self.assertIsNone(large.bounds()[{"a", "b"}])
 
-    def test_what_is_no_number(self):
-        for make in (lambda: safebound.compress([(1, 1)], "1"), lambda: safebound.compress([(1.0, 1)], 1), lambda: pair(row_bounds={"r": "6", "s": 5})):
+    def test_what_is_no_number(self) -> None:
+        text: Any = "1"
+        broken: Any = 1.0
+        for make in (
+            lambda: safebound.compress([(1, 1)], text),
+            lambda: safebound.compress([(broken, 1)], 1),
+            lambda: pair(row_bounds={"r": "6", "s": 5}),
+        ):
             self.assertRaises(TypeError, make)
 
 
 class Answers(unittest.TestCase):
-    def test_by_name(self):
+    def test_by_name(self) -> None:
         """A triangle: three equalities that close a cycle."""
         columns = [(entry, column) for entry in "rst" for column in ("x", "y")]
-        asked = safebound.Query(list("rst"), [(("r", "x"), ("s", "x")), (("s", "y"), ("t", "x")), (("t", "y"), ("r", "y"))],
-                                dict.fromkeys("rst", 3), {column: [(2, 1), (1, 1)] for column in columns})
+        asked = safebound.Query(
+            list("rst"),
+            [(("r", "x"), ("s", "x")), (("s", "y"), ("t", "x")), (("t", "y"), ("r", "y"))],
+            dict.fromkeys("rst", 3),
+            {column: [(2, 1), (1, 1)] for column in columns},
+        )
         bounds = asked.bounds()
-        self.assertEqual({"".join(sorted(names)): bounds[names] for names in bounds}, {"": 1, "r": 3, "s": 3, "t": 3, "rs": 5, "rt": 5, "st": 5, "rst": 9})
+        self.assertEqual(
+            {"".join(sorted(names)): bounds[names] for names in bounds},
+            {"": 1, "r": 3, "s": 3, "t": 3, "rs": 5, "rt": 5, "st": 5, "rst": 9},
+        )
         self.assertEqual(bounds["r", "s", "r"], 5)
         self.assertEqual(len(bounds), 8)
         self.assertRaises(KeyError, lambda: bounds[{"u"}])
@@ -125,9 +150,12 @@ class Answers(unittest.TestCase):
         tree = asked.best_tree(9)
         self.assertEqual((tree.joins, tree.shape), (((1, 2, 5), (0, 3, 9)), ("r", ("s", "t"))))
 
-    def test_no_rows_and_no_values(self):
-        """An empty table has empty lists; of a column with the list (1, 1) one row has a value, and at most that one is joined."""
-        empty = pair(row_bounds={"r": 0, "s": 5}, lists={("r", "x"): safebound.degree_sequence([]), ("s", "x"): [(2, 2), (1, 1)]})
+    def test_no_rows_and_no_values(self) -> None:
+        """An empty table has empty lists; of a column with the list (1, 1) one row has a value, and at most that one is
+        joined."""
+        empty = pair(
+            row_bounds={"r": 0, "s": 5}, lists={("r", "x"): safebound.degree_sequence([]), ("s", "x"): [(2, 2), (1, 1)]}
+        )
         self.assertEqual((empty.bounds()[{"r"}], empty.bounds()[{"r", "s"}]), (0, 0))
         without = pair(lists={("r", "x"): [(1, 1)], ("s", "x"): [(2, 2), (1, 1)]})
         self.assertEqual((without.bounds()[{"r"}], without.bounds()[{"r", "s"}]), (6, 2))
@@ -136,14 +164,15 @@ class Answers(unittest.TestCase):
         self.assertEqual(pickle.loads(pickle.dumps(nothing)), nothing)
         self.assertIn("('r', 'x'): NO_VALUES", repr(nothing))
 
-    def test_one_set(self):
+    def test_one_set(self) -> None:
         asked = pair()
-        self.assertEqual([asked.bound_of(entries) for entries in ([], ["s"], {"r", "s"}, asked.entries)], [1, 5, 12, 12])
+        sets: list[Collection[str]] = [[], ["s"], {"r", "s"}, asked.entries]
+        self.assertEqual([asked.bound_of(entries) for entries in sets], [1, 5, 12, 12])
         self.assertRaises(KeyError, asked.bound_of, {"t"})
         self.assertRaises(safebound.WrongType, asked.bound_of, "rs")
         self.assertIsNone(safebound.Query(["r", "s"], [], {"r": 2**48, "s": 2**48}, {}).bound_of(["r", "s"]))
 
-    def test_limit_of_work(self):
+    def test_limit_of_work(self) -> None:
         asked = pair()
         with self.assertRaises(safebound.WorkExceeded) as raised:
             asked.bounds(6)
@@ -152,23 +181,33 @@ class Answers(unittest.TestCase):
         self.assertRaises(safebound.BadLimit, asked.bounds, -1)
         self.assertRaises(safebound.WrongType, asked.bounds, 7.0)
 
-    def test_one_entry(self):
+    def test_one_entry(self) -> None:
         alone = safebound.Query(["r"], [], {"r": 7}, {})
         self.assertEqual((alone.best_order(7), alone.best_tree(7)), ((("r",), (7,)), (("r",), ())))
         self.assertEqual(alone.best_tree(7).shape, "r")
 
-    def test_threads(self):
+    def test_threads(self) -> None:
         """Four threads at once get what one gets."""
-        asked = [pair(row_bounds={"r": 6, "s": rows}, lists={("r", "x"): [(3, 2)], ("s", "x"): [(2, 2), (1, rows)]}) for rows in range(5, 205)]
+        asked = [
+            pair(row_bounds={"r": 6, "s": rows}, lists={("r", "x"): [(3, 2)], ("s", "x"): [(2, 2), (1, rows)]})
+            for rows in range(5, 205)
+        ]
         alone = [(q.bounds()[{"r", "s"}], q.best_order(2**30)) for q in asked]
         keys = [array("Q", [pick % 97 for pick in range(at, 20000 + at)]) for at in range(4)]
         sequences = [safebound.degree_sequence(key) for key in keys]
         wrong = []
 
-        def work(at):
+        def work(at: int) -> None:
             for q, expected in zip(asked, alone):
-                other = safebound.Query(q.entries, PAIR, {"r": 6, "s": q._rows[1]}, {("r", "x"): [(3, 2)], ("s", "x"): [(2, 2), (1, q._rows[1])]})
-                if (other.bounds()[{"r", "s"}], other.best_order(2**30)) != expected or safebound.degree_sequence(keys[at]) != sequences[at]:
+                other = safebound.Query(
+                    q.entries,
+                    PAIR,
+                    {"r": 6, "s": q._rows[1]},
+                    {("r", "x"): [(3, 2)], ("s", "x"): [(2, 2), (1, q._rows[1])]},
+                )
+                if (other.bounds()[{"r", "s"}], other.best_order(2**30)) != expected or safebound.degree_sequence(
+                    keys[at]
+                ) != sequences[at]:
                     wrong.append(at)
 
         threads = [threading.Thread(target=work, args=(at,)) for at in range(4)]
@@ -185,21 +224,32 @@ SAY = "import safebound; print(safebound.version(), safebound.path())"
 class Installed(unittest.TestCase):
     """The package away from the repository."""
 
-    def setUp(self):
+    def setUp(self) -> None:
         self.folder = tempfile.mkdtemp()
         self.addCleanup(shutil.rmtree, self.folder)
         self.library = str(_library.path())
 
-    def run_python(self, *words, **variables):
+    def run_python(self, *words: str, **variables: str) -> subprocess.CompletedProcess[str]:
         clean = {name: value for name, value in os.environ.items() if name not in ("SAFEBOUND_LIBRARY", "PYTHONPATH")}
-        return subprocess.run([sys.executable, *words], cwd=self.folder, env={**clean, **variables}, capture_output=True, text=True, timeout=120)
+        return subprocess.run(
+            [sys.executable, *words],
+            cwd=self.folder,
+            env={**clean, **variables},
+            capture_output=True,
+            text=True,
+            timeout=120,
+        )
 
-    def copy(self):
+    def copy(self) -> str:
         package = os.path.join(self.folder, "safebound")
-        shutil.copytree(os.path.join(calls.ROOT, "python", "safebound"), package, ignore=shutil.ignore_patterns("*.so", "__pycache__"))
+        shutil.copytree(
+            os.path.join(calls.ROOT, "python", "safebound"),
+            package,
+            ignore=shutil.ignore_patterns("*.so", "__pycache__"),
+        )
         return package
 
-    def test_where_it_looks(self):
+    def test_where_it_looks(self) -> None:
         package = self.copy()
         beside = os.path.join(package, "libsafebound.so")
         found = self.run_python("-c", SAY, SAFEBOUND_LIBRARY=self.library)
@@ -210,16 +260,21 @@ class Installed(unittest.TestCase):
         self.assertIn("LibraryNotFound", missing.stderr)
         self.assertIn(beside + ".none", missing.stderr)
 
-    def test_another_version(self):
+    def test_another_version(self) -> None:
         package = self.copy()
         with open(os.path.join(package, "_version.py"), "w", encoding="utf-8") as f:
             f.write('VERSION = "0.0.1"\n')
         done = self.run_python("-c", SAY, SAFEBOUND_LIBRARY=self.library)
         self.assertIn("isn't of version 0.0.1", done.stderr)
 
-    def test_pip(self):
-        """As docs/EMBEDDING.md says, from a copy of the repository's folders, with the library where `make library` leaves it."""
-        shutil.copytree(os.path.join(calls.ROOT, "python"), os.path.join(self.folder, "python"), ignore=shutil.ignore_patterns("*.so", "__pycache__", "build", "*.egg-info"))
+    def test_pip(self) -> None:
+        """As docs/EMBEDDING.md says, from a copy of the repository's folders, with the library where `make library`
+        leaves it."""
+        shutil.copytree(
+            os.path.join(calls.ROOT, "python"),
+            os.path.join(self.folder, "python"),
+            ignore=shutil.ignore_patterns("*.so", "__pycache__", "build", "*.egg-info"),
+        )
         os.makedirs(os.path.join(self.folder, "library", "out"))
         shutil.copy(self.library, os.path.join(self.folder, "library", "out"))
         for name in ("LICENSE", os.path.join("library", "safebound.map")):
@@ -229,7 +284,11 @@ class Installed(unittest.TestCase):
         self.assertEqual(done.returncode, 0, done.stderr)
         shutil.rmtree(os.path.join(self.folder, "library"))
         found = self.run_python("-c", SAY, PYTHONPATH=target)
-        self.assertEqual(found.stdout.split(), [safebound.__version__, os.path.join(target, "safebound", "libsafebound.so")], found.stderr)
+        self.assertEqual(
+            found.stdout.split(),
+            [safebound.__version__, os.path.join(target, "safebound", "libsafebound.so")],
+            found.stderr,
+        )
 
 
 if __name__ == "__main__":

@@ -3,11 +3,19 @@
 calls.c looks that nothing is written but the detail, that nothing is read past a length, and that no memory is kept.
 """
 
+from __future__ import annotations
+
 import subprocess
 import sys
 import unittest
+from typing import Any, Optional, Tuple, TypeVar
 
 from calls import MOST_BUDGET, MOST_ROWS, NO_VALUES, Answer, Call, Status, answer, answers, by_c
+
+_E = TypeVar("_E")
+Pair = Tuple[int, int]
+# An entry and a column, twice; and of a list an entry, a column, its first run and how many it has.
+Equality = Tuple[int, int, int, int]
 
 WRONG_LISTS = [
     ([(0, 1)], 0),
@@ -36,24 +44,35 @@ RUNS = [(3, 2), (2, 2), (1, 1), (1, 5), (2, 1), (1, 2)]
 BOUNDS = [0, 2, 2, 9, 2, 5, 5, 6]
 
 
-def replaced(array, place, element):
+def replaced(array: list[_E], place: int, element: _E) -> list[_E]:
     return array[:place] + [element] + array[place + 1 :]
 
 
-def bounds_of(rows=ROWS, equalities=EQUALITIES, lists=LISTS, runs=RUNS, room=8):
+def bounds_of(
+    rows: list[int] = ROWS,
+    equalities: list[Equality] = EQUALITIES,
+    lists: list[Equality] = LISTS,
+    runs: list[Pair] = RUNS,
+    room: int = 8,
+) -> Call:
     return Call("bounds", [rows, equalities, lists, runs], room)
 
 
 class WrongValues(unittest.TestCase):
-    def check(self, made):
+    def check(self, made: list[tuple[Call, int, Optional[int]]]) -> None:
         """Triples of a call, its status and its detail. Nothing else is answered."""
         for (call, status, detail), got in zip(made, answers([call for call, _, _ in made])):
             self.assertEqual(got, Answer(status, detail, []), call)
 
-    def test_accuracy(self):
-        self.check([(Call("compress", [RIGHT], 8, k), Status.BAD_ACCURACY, k) for k in (0, 65, 256, 257, 2**32 + 1, 2**64 - 1)])
+    def test_accuracy(self) -> None:
+        self.check(
+            [
+                (Call("compress", [RIGHT], 8, k), Status.BAD_ACCURACY, k)
+                for k in (0, 65, 256, 257, 2**32 + 1, 2**64 - 1)
+            ]
+        )
 
-    def test_runs_of_lists(self):
+    def test_runs_of_lists(self) -> None:
         self.check([(Call("compress", [runs], 8, 1), Status.BAD_RUN, place) for runs, place in WRONG_LISTS])
         self.check([(Call("cut", [runs], 8, 3), Status.BAD_RUN, place) for runs, place in WRONG_LISTS])
         for name in ("append", "lesser", "greater"):
@@ -61,7 +80,7 @@ class WrongValues(unittest.TestCase):
             self.check([(Call(name, [RIGHT, runs], 8), Status.BAD_OTHER_RUN, place) for runs, place in WRONG_LISTS])
             self.check([(Call(name, [runs, runs], 8), Status.BAD_RUN, place) for runs, place in WRONG_LISTS])
 
-    def test_sum_of_two_lists(self):
+    def test_sum_of_two_lists(self) -> None:
         self.check([
             (Call("append", [[(MOST_ROWS, 1)], [(1, 1)]], 2), Status.BAD_SUM, MOST_ROWS + 1),
             (Call("append", [[(1, MOST_ROWS)], [(MOST_ROWS, 1)]], 2), Status.BAD_SUM, 2 * MOST_ROWS),
@@ -69,73 +88,125 @@ class WrongValues(unittest.TestCase):
             (Call("greater", [[(1, MOST_ROWS)], [(MOST_ROWS, 1)]], 2), Status.BAD_SUM, 2 * MOST_ROWS - 1),
         ])
 
-    def test_number_of_entries(self):
-        self.check([(bounds_of(rows=[1] * n, equalities=[], lists=[], runs=[]), Status.BAD_ENTRIES, n) for n in (0, 13, 64, 256)])
+    def test_number_of_entries(self) -> None:
+        self.check(
+            [
+                (bounds_of(rows=[1] * n, equalities=[], lists=[], runs=[]), Status.BAD_ENTRIES, n)
+                for n in (0, 13, 64, 256)
+            ]
+        )
 
-    def test_rows(self):
+    def test_rows(self) -> None:
         for number in (MOST_ROWS + 1, 2**63, 2**64 - 1):
             self.check([(bounds_of(rows=replaced(ROWS, place, number)), Status.BAD_ROWS, place) for place in range(3)])
 
-    def test_number_of_equalities(self):
+    def test_number_of_equalities(self) -> None:
         self.check([(bounds_of(equalities=EQUALITIES[:1] * n), Status.BAD_EQUALITIES, n) for n in (257, 1000)])
         self.assertEqual(answer(bounds_of(equalities=EQUALITIES[:1] * 256)).status, Status.OK)
 
-    def test_equalities(self):
-        for wrong in [(3, 0, 1, 7), (0, 0, 3, 7), (12, 0, 1, 7), (256, 0, 1, 7), (0, 0, 257, 7), (2**32 - 1, 0, 1, 7), (0, 0, 0, 0), (1, 7, 1, 8)]:
-            self.check([(bounds_of(equalities=replaced(EQUALITIES, place, wrong)), Status.BAD_EQUALITY, place) for place in (0, 1)])
+    def test_equalities(self) -> None:
+        for wrong in [
+            (3, 0, 1, 7),
+            (0, 0, 3, 7),
+            (12, 0, 1, 7),
+            (256, 0, 1, 7),
+            (0, 0, 257, 7),
+            (2**32 - 1, 0, 1, 7),
+            (0, 0, 0, 0),
+            (1, 7, 1, 8),
+        ]:
+            self.check(
+                [
+                    (bounds_of(equalities=replaced(EQUALITIES, place, wrong)), Status.BAD_EQUALITY, place)
+                    for place in (0, 1)
+                ]
+            )
 
-    def test_lists(self):
-        for wrong in [(3, 9, 0, 1), (256, 0, 0, 1), (2**32 - 1, 0, 0, 1), (0, 0, 0, 7), (0, 0, 6, 1), (0, 0, 7, 0), (0, 0, 0, 0), (0, 0, 6, 0), (0, 0, 2**64 - 1, 1),
-                      (0, 0, 1, 2**64 - 1), (0, 0, 2**63, 2**63), (0, 0, NO_VALUES - 1, 0), (0, 0, NO_VALUES, 1), (3, 0, NO_VALUES, 0)]:
+    def test_lists(self) -> None:
+        for wrong in [
+            (3, 9, 0, 1),
+            (256, 0, 0, 1),
+            (2**32 - 1, 0, 0, 1),
+            (0, 0, 0, 7),
+            (0, 0, 6, 1),
+            (0, 0, 7, 0),
+            (0, 0, 0, 0),
+            (0, 0, 6, 0),
+            (0, 0, 2**64 - 1, 1),
+            (0, 0, 1, 2**64 - 1),
+            (0, 0, 2**63, 2**63),
+            (0, 0, NO_VALUES - 1, 0),
+            (0, 0, NO_VALUES, 1),
+            (3, 0, NO_VALUES, 0),
+        ]:
             self.check([(bounds_of(lists=replaced(LISTS, place, wrong)), Status.BAD_LIST, place) for place in range(4)])
         self.check([(bounds_of(lists=LISTS + [again]), Status.BAD_LIST, 4) for again in LISTS])
         self.check([(bounds_of(lists=LISTS + [(0, 0, NO_VALUES, 0)]), Status.BAD_LIST, 4)])
 
-    def test_sets(self):
+    def test_sets(self) -> None:
         query = bounds_of().arrays
-        self.check([(Call("set_bound", query, 0, set), Status.BAD_SET, set) for set in (8, 9, 2**16, 2**32, 2**63, 2**64 - 1)])
+        self.check(
+            [
+                (Call("set_bound", query, 0, set), Status.BAD_SET, set)
+                for set in (8, 9, 2**16, 2**32, 2**63, 2**64 - 1)
+            ]
+        )
 
-    def test_kind_of_join(self):
+    def test_kind_of_join(self) -> None:
         for kind in (0, 6, 2**32 + 1, 2**64 - 1):
             self.check([(Call("joined_rows", [[12, 6, 5]], 0, kind), Status.BAD_JOIN_KIND, kind)])
 
-    def test_work(self):
+    def test_work(self) -> None:
         query = bounds_of().arrays
         (refused,) = answers([Call("bounds_within", query, 8, 0)])
         self.assertEqual((refused.status, refused.elements), (Status.WORK, []))
-        self.check([(Call("bounds_within", query, 8, limit), Status.WORK, refused.detail) for limit in (1, refused.detail - 1)])
+        assert refused.detail is not None
+        self.check(
+            [(Call("bounds_within", query, 8, limit), Status.WORK, refused.detail) for limit in (1, refused.detail - 1)]
+        )
 
-    def test_runs(self):
+    def test_runs(self) -> None:
         self.check([(bounds_of(runs=replaced(RUNS, place, (0, 1))), Status.BAD_RUN, place) for place in range(6)])
         self.check([(bounds_of(runs=replaced(RUNS, place, (1, 0))), Status.BAD_RUN, place) for place in range(6)])
         self.check([(bounds_of(runs=replaced(RUNS, place, (3, 1))), Status.BAD_RUN, place) for place in (2, 5)])
-        self.check([(bounds_of(runs=replaced(RUNS, place, (1, 2**64 - 1))), Status.BAD_RUN, place) for place in range(6)])
+        self.check(
+            [(bounds_of(runs=replaced(RUNS, place, (1, 2**64 - 1))), Status.BAD_RUN, place) for place in range(6)]
+        )
         # The list of a column that no equality names is looked at too; the first list decides, and not the first run.
         self.check([(bounds_of(lists=LISTS + [(2, 9, 6, 1)], runs=RUNS + [(0, 0)]), Status.BAD_RUN, 6)])
-        self.check([(bounds_of(lists=LISTS[::-1], runs=replaced(replaced(RUNS, 0, (0, 0)), 5, (0, 0))), Status.BAD_RUN, 5)])
+        self.check(
+            [(bounds_of(lists=LISTS[::-1], runs=replaced(replaced(RUNS, 0, (0, 0)), 5, (0, 0))), Status.BAD_RUN, 5)]
+        )
 
-    def test_missing_lists(self):
+    def test_missing_lists(self) -> None:
         for place, equality in [(0, 0), (1, 0), (2, 1), (3, 1)]:
             self.check([(bounds_of(lists=LISTS[:place] + LISTS[place + 1 :]), Status.MISSING_LIST, equality)])
         self.check([(bounds_of(lists=[], runs=[]), Status.MISSING_LIST, 0)])
         self.check([(bounds_of(equalities=[(0, 7, 1, 7), (1, 8, 2, 0)]), Status.MISSING_LIST, 0)])
 
-    def test_number_of_bounds(self):
+    def test_number_of_bounds(self) -> None:
         for name, room in [("order", 12), ("tree", 12)]:
             self.check([(Call(name, [[1] * n], room, 1), Status.BAD_BOUNDS, n) for n in (0, 1, 3, 7, 12, 4095, 8192)])
 
-    def test_budget(self):
+    def test_budget(self) -> None:
         for name in ("order", "tree"):
-            self.check([(Call(name, [BOUNDS], 3, n), Status.BAD_BUDGET, n) for n in (MOST_BUDGET + 1, 2**63, 2**64 - 1)])
+            self.check(
+                [(Call(name, [BOUNDS], 3, n), Status.BAD_BUDGET, n) for n in (MOST_BUDGET + 1, 2**63, 2**64 - 1)]
+            )
 
-    def test_a_level_in_the_middle(self):
-        """A budget is for the greatest level, wherever it is: two of these three entries have 9 rows in every plan, and all three have 6."""
+    def test_a_level_in_the_middle(self) -> None:
+        """A budget is for the greatest level, wherever it is: two of these three entries have 9 rows in every plan, and
+        all three have 6."""
         bounds = [1, 2, 2, 9, 2, 9, 9, 6]
-        self.check([(Call(name, [bounds], 3, budget), Status.BUDGET, 9) for name in ("order", "tree") for budget in (6, 8)])
+        self.check(
+            [(Call(name, [bounds], 3, budget), Status.BUDGET, 9) for name in ("order", "tree") for budget in (6, 8)]
+        )
 
-    def test_what_comes_first(self):
+    def test_what_comes_first(self) -> None:
         """Where several statuses apply, the one that is told is the first of the header's list."""
-        wrong = dict(rows=[MOST_ROWS + 1] * 13, equalities=[(0, 0, 0, 0)] * 257, lists=[(0, 0, 9, 9)], runs=[(0, 0)], room=0)
+        wrong: dict[str, Any] = dict(
+            rows=[MOST_ROWS + 1] * 13, equalities=[(0, 0, 0, 0)] * 257, lists=[(0, 0, 9, 9)], runs=[(0, 0)], room=0
+        )
         for name, right, status, detail in [
             ("rows", [6, MOST_ROWS + 1, 4], Status.BAD_ENTRIES, 13),
             ("rows", ROWS, Status.BAD_ROWS, 1),
@@ -209,13 +280,13 @@ except OutOfMemory:
 
 
 class Rooms(unittest.TestCase):
-    def test_each_room_that_is_too_small(self):
+    def test_each_room_that_is_too_small(self) -> None:
         for call in CALLS:
             made = [call._replace(room=room) for room in range(call.room)]
             for small, got in zip(made, answers(made)):
                 self.assertEqual(got, Answer(Status.ROOM, call.room, []), small)
 
-    def test_just_enough_and_more(self):
+    def test_just_enough_and_more(self) -> None:
         for call in CALLS:
             enough, more = answers([call, call._replace(room=call.room + 3)])
             self.assertEqual((enough.status, enough.detail), (Status.OK, call.room), call)
@@ -223,8 +294,9 @@ class Rooms(unittest.TestCase):
 
 
 class Memory(unittest.TestCase):
-    def test_each_request_refused(self):
-        """Whichever request is refused, want of memory is told, or less memory does and the answer is whole. The same call then has its answer."""
+    def test_each_request_refused(self) -> None:
+        """Whichever request is refused, want of memory is told, or less memory does and the answer is whole. The same
+        call then has its answer."""
         wanting = Answer(Status.NO_MEMORY, None, [])
         told = 0
         for call in CALLS + [bounds_of()._replace(name="set_bound", room=0, number=7)]:
@@ -237,7 +309,7 @@ class Memory(unittest.TestCase):
             told += sum(got == wanting for got, _ in refused)
         self.assertGreater(told, 10)
 
-    def test_python(self):
+    def test_python(self) -> None:
         """A column for which a process of its own has no memory."""
         if not sys.platform.startswith("linux"):
             self.skipTest("limits of memory are those of Linux")

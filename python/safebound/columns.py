@@ -22,12 +22,12 @@ def keys_of(values: object) -> Any:
     found = _of_pandas(values)
     if found is None:
         found = _of_numpy(values)
-    keys = _that_lie(values if found is None else found)
+    keys = _in_memory(values if found is None else found)
     return _as_keys(_numbered(_listed(values))) if keys is None else keys
 
 
 def _refuse_what_is_no_column(values: object) -> None:
-    """What has values, and not one for each row: counted as a column it would make bounds that are too low."""
+    """Refuses what doesn't have one value for each row: counted as a column, it would make bounds that are too low."""
     kind = type(values).__name__
     if isinstance(values, (str, bytes, bytearray)) or _is_view_of_text(values):
         raise WrongType(f"{kind} is a text and no column: a column has one value for each row")
@@ -57,7 +57,7 @@ def _dimensions(values: object) -> Optional[int]:
 
 
 def _of_pandas(values: object) -> Any:
-    """Of a column of pandas, whatever its type, the number of each row's value. What is missing has none."""
+    """A number for each value of a column of pandas that isn't missing, the same one for equal values; else None."""
     pandas = sys.modules.get("pandas")
     if pandas is None or not isinstance(values, (pandas.Series, pandas.Index, pandas.api.extensions.ExtensionArray)):
         return None
@@ -135,8 +135,8 @@ def _view(values: object) -> Optional[memoryview]:
         return None
 
 
-def _that_lie(values: object) -> Any:
-    """Values that lie in memory as keys, or None."""
+def _in_memory(values: object) -> Any:
+    """The keys of values that lie in memory as 64-bit numbers already, or None."""
     view = _view(values)
     if view is None or getattr(values, "mask", None) is not None:
         return None
