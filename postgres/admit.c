@@ -363,10 +363,7 @@ void
 admit_init(void)
 {
 	define_guarded_settings();
-	planner_before = planner_hook;
-	planner_hook = on_planner;
-	rel_paths_before = set_rel_pathlist_hook;
-	set_rel_pathlist_hook = on_rel_paths;
-	start_before = ExecutorStart_hook;
-	ExecutorStart_hook = on_start;
+	TAKE_HOOK(planner_hook, planner_before, on_planner);
+	TAKE_HOOK(set_rel_pathlist_hook, rel_paths_before, on_rel_paths);
+	TAKE_HOOK(ExecutorStart_hook, start_before, on_start);
 }

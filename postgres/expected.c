@@ -277,8 +277,6 @@ on_relation_info(PlannerInfo *root, Oid relation, bool with_children, RelOptInfo
 void
 expected_init(void)
 {
-	relation_stats_before = get_relation_stats_hook;
-	get_relation_stats_hook = on_relation_stats;
-	relation_info_before = get_relation_info_hook;
-	get_relation_info_hook = on_relation_info;
+	TAKE_HOOK(get_relation_stats_hook, relation_stats_before, on_relation_stats);
+	TAKE_HOOK(get_relation_info_hook, relation_info_before, on_relation_info);
 }

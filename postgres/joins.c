@@ -184,24 +184,59 @@ is_carried(const Carried *carried, Relids relids)
 	return bms_is_member(carried->referring, relids) && bms_is_member(carried->referred, relids) && bms_is_subset(carried->required, relids);
 }
 
-/* A list of a relation, in a set of which it may refer to others. */
-static DegreeList
-list_in_set(BoundedQuery *query, Relids relids, Index relid, int column, DegreeList list)
+/* The places of what a relation refers to within a set, and of which conditions hold for its rows there. */
+static Bitmapset *
+held_in_set(BoundedQuery *query, Relids relids, Index relid)
 {
+	Bitmapset  *held = NULL;
 	ListCell   *cell;
 
 	foreach(cell, query->carried)
-	{
-		Carried    *carried = lfirst(cell);
-		const DegreeList *other;
+		if (((Carried *) lfirst(cell))->referring == relid && is_carried(lfirst(cell), relids))
+			held = bms_add_member(held, foreach_current_index(cell));
+	return held;
+}
 
-		if (carried->referring != relid || !is_carried(carried, relids))
-			continue;
-		other = carried_list(query, carried, column);
+static DegreeList
+narrowed(BoundedQuery *query, const Bitmapset *held, int column, DegreeList list)
+{
+	int			place = -1;
+
+	while ((place = bms_next_member(held, place)) >= 0)
+	{
+		const DegreeList *other = carried_list(query, list_nth(query->carried, place), column);
+
 		if (other != NULL)
 			list = lesser(list, *other);
 	}
 	return list;
+}
+
+/* A column's list in a set of which its relation may refer to others. It is the same in many sets. */
+static DegreeList
+list_in_set(BoundedQuery *query, Relids relids, int column)
+{
+	JoinedColumn *joined = &query->columns[column];
+	Bitmapset  *held = held_in_set(query, relids, joined->relid);
+	Narrowed   *made;
+	ListCell   *cell;
+
+	if (held == NULL)
+		return joined->list;
+	foreach(cell, joined->narrowed)
+		if (bms_equal(((Narrowed *) lfirst(cell))->held, held))
+			return ((Narrowed *) lfirst(cell))->list;
+	made = palloc(sizeof(Narrowed));
+	*made = (Narrowed) {held, narrowed(query, held, column, joined->list)};
+	joined->narrowed = lappend(joined->narrowed, made);
+	return made->list;
+}
+
+/* A relation's rows in a set of which it may refer to others. */
+static uint64
+rows_in_set(BoundedQuery *query, Relids relids, Index relid)
+{
+	return narrowed(query, held_in_set(query, relids, relid), query->columns_length, (DegreeList) {query->entries[relid].rows, 0, NULL}).rows;
 }
 
 static bool
@@ -332,7 +367,7 @@ call_library(SetCall *call, BoundedQuery *query, Relids relids)
 	{
 		if (!call->named[i])
 			continue;
-		taken[i] = list_in_set(query, relids, query->columns[i].relid, i, query->columns[i].list);
+		taken[i] = list_in_set(query, relids, i);
 		runs_length += taken[i].length;
 	}
 	runs = palloc((runs_length + 1) * sizeof(safebound_run));
@@ -373,7 +408,7 @@ new_bound(BoundedQuery *query, Relids relids, int entries)
 	while ((relid = bms_next_member(relids, relid)) >= 0)
 	{
 		call.number[relid] = call.entries;
-		call.rows[call.entries++] = list_in_set(query, relids, relid, query->columns_length, (DegreeList) {query->entries[relid].rows, 0, NULL}).rows;
+		call.rows[call.entries++] = rows_in_set(query, relids, relid);
 	}
 	if (call.entries <= 1)
 		return call.entries ? call.rows[0] : 1;
@@ -411,10 +446,14 @@ bound_of_set(BoundedQuery *query, Relids relids)
 	return known->bound;
 }
 
+/* The rows of an outer, semi- or anti-join, from the bounds of its inner join and of its sides. */
 static uint64
-plus(uint64 one, uint64 other)
+joined_rows(uint64 kind, uint64 inner, uint64 left, uint64 right)
 {
-	return one > UNKNOWN - other ? UNKNOWN : one + other;
+	uint64		rows = kind;
+
+	library_check(safebound_joined_rows(kind, inner, left, right, &rows), rows, "safebound_joined_rows");
+	return rows;
 }
 
 /* Whether a special join is a part of the join of these relations. */
@@ -446,16 +485,17 @@ bound_of_ways(BoundedQuery *query, Relids present, List *joins)
 	switch (join->jointype)
 	{
 		case JOIN_ANTI:
-			return less;
+			return joined_rows(SAFEBOUND_ANTI_JOIN, UNKNOWN, less, UNKNOWN);
 		case JOIN_SEMI:
-			return Min(less, bound_of_ways(query, present, rest));
+			return joined_rows(SAFEBOUND_SEMI_JOIN, bound_of_ways(query, present, rest), less, UNKNOWN);
 		case JOIN_LEFT:
 			/* Where the left side is missing, a strict condition on it finds no right side. */
 			if (join->lhs_strict && !bms_overlap(join->min_lefthand, present))
 				return less;
-			return plus(less, bound_of_ways(query, present, rest));
+			return joined_rows(SAFEBOUND_LEFT_JOIN, bound_of_ways(query, present, rest), less, UNKNOWN);
 		case JOIN_FULL:
-			return plus(plus(less, bound_of_ways(query, bms_difference(present, join->syn_lefthand), rest)), bound_of_ways(query, present, rest));
+			return joined_rows(SAFEBOUND_FULL_JOIN, bound_of_ways(query, present, rest), less,
+							   bound_of_ways(query, bms_difference(present, join->syn_lefthand), rest));
 		default:
 			return UNKNOWN;
 	}

@@ -66,13 +66,47 @@ summed(DegreeList one, DegreeList other)
 	return both;
 }
 
-/* A place within a list: how many keys are passed, and how many rows they have. */
+/* The list of rows that have any one of two values, whichever it is: at each rank the greater degree. It has runs of its own, since who
+   counts gives the memory of both back. */
+DegreeList
+greatest(DegreeList one, DegreeList other)
+{
+	size_t		room = one.length + other.length;
+	DegreeList	both = {Max(one.rows, other.rows), room, palloc((room + 1) * sizeof(safebound_run))};
+	uint64		detail = 0;
+
+	if (one.length == 0 || other.length == 0)
+	{
+		if (room > 0)
+			memcpy(both.runs, one.length ? one.runs : other.runs, room * sizeof(safebound_run));
+		return both;
+	}
+	library_check(safebound_greater(one.runs, one.length, other.runs, other.length, both.runs, room, &detail), detail, "safebound_greater");
+	both.length = detail;
+	return both;
+}
+
+/* The list of rows that are in both: its running sums are the lesser of theirs. */
+DegreeList
+lesser(DegreeList one, DegreeList other)
+{
+	size_t		room = 3 * (one.length + other.length);
+	DegreeList	both = {Min(one.rows, other.rows), 0, palloc((room + 1) * sizeof(safebound_run))};
+	uint64		detail = 0;
+
+	if (one.length == 0 || other.length == 0)
+		return both;
+	library_check(safebound_lesser(one.runs, one.length, other.runs, other.length, both.runs, room, &detail), detail, "safebound_lesser");
+	both.length = detail;
+	return both;
+}
+
+/* A place within a list: how many keys are passed. */
 typedef struct Place
 {
 	const DegreeList *list;
 	int			run;
 	uint64		passed;			/* keys of this run */
-	uint64		sum;
 } Place;
 
 static uint64
@@ -90,7 +124,6 @@ left_at(const Place *place)
 static void
 advance(Place *place, uint64 keys)
 {
-	place->sum += degree_at(place) * keys;
 	place->passed += keys;
 	if (left_at(place) == 0)
 	{
@@ -99,42 +132,13 @@ advance(Place *place, uint64 keys)
 	}
 }
 
-static void
-put_run(DegreeList *into, uint64 degree, uint64 keys)
-{
-	if (degree == 0 || keys == 0)
-		return;
-	if (into->length > 0 && into->runs[into->length - 1].degree == degree)
-		into->runs[into->length - 1].keys += keys;
-	else
-		into->runs[into->length++] = (safebound_run) {.degree = degree, .keys = keys};
-}
-
-/* The greater degree at each rank: it dominates what one of both dominates. */
-DegreeList
-greatest(DegreeList one, DegreeList other)
-{
-	Place		first = {&one, 0, 0, 0};
-	Place		second = {&other, 0, 0, 0};
-	DegreeList	both = {Max(one.rows, other.rows), 0, palloc((one.length + other.length + 1) * sizeof(safebound_run))};
-
-	while (degree_at(&first) > 0 || degree_at(&second) > 0)
-	{
-		uint64		keys = Min(left_at(&first), left_at(&second));
-
-		put_run(&both, Max(degree_at(&first), degree_at(&second)), keys);
-		advance(&first, keys);
-		advance(&second, keys);
-	}
-	return both;
-}
-
-/* Whether a list has nothing that is greater in the other one. */
+/* Whether a list has nothing that is greater in the other one, so that it is the greatest of both already. Who counts asks this for each
+   value. */
 bool
 dominates(const DegreeList *one, const DegreeList *other)
 {
-	Place		first = {one, 0, 0, 0};
-	Place		second = {other, 0, 0, 0};
+	Place		first = {one, 0, 0};
+	Place		second = {other, 0, 0};
 
 	while (degree_at(&second) > 0)
 	{
@@ -146,49 +150,6 @@ dominates(const DegreeList *one, const DegreeList *other)
 		advance(&second, keys);
 	}
 	return one->rows >= other->rows;
-}
-
-/* How many of the next keys the lower of two places stays the lower one: it stands `gap` rows lower and gains `gain` a key. */
-static uint64
-keys_until_crossing(uint64 gap, uint64 lower, uint64 upper)
-{
-	return lower <= upper ? PG_UINT64_MAX : gap / (lower - upper);
-}
-
-/* The list whose running sums are the lesser of both: it stands for rows that are in both. */
-DegreeList
-lesser(DegreeList one, DegreeList other)
-{
-	Place		low = {&one, 0, 0, 0};
-	Place		high = {&other, 0, 0, 0};
-	DegreeList	both = {Min(one.rows, other.rows), 0, palloc(3 * (one.length + other.length + 2) * sizeof(safebound_run))};
-
-	while (degree_at(&low) > 0 || degree_at(&high) > 0)
-	{
-		uint64		keys = Min(left_at(&low), left_at(&high));
-		uint64		before;
-
-		if (low.sum > high.sum || (low.sum == high.sum && degree_at(&low) > degree_at(&high)))
-		{
-			Place		swapped = low;
-
-			low = high;
-			high = swapped;
-		}
-		before = low.sum;
-		keys = Min(keys, keys_until_crossing(high.sum - low.sum, degree_at(&low), degree_at(&high)));
-		if (keys > 0)
-			put_run(&both, degree_at(&low), keys);
-		else
-		{
-			/* They cross within the next key. */
-			keys = 1;
-			put_run(&both, high.sum + degree_at(&high) - before, 1);
-		}
-		advance(&low, keys);
-		advance(&high, keys);
-	}
-	return both;
 }
 
 /* Numbers of seven bits a byte, the least first. */

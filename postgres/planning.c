@@ -165,20 +165,22 @@ set_parameterised_rows(BoundedQuery *query, RelOptInfo *rel, ParamPathInfo *info
 	info->ppi_rows = Min(rel->rows, rows_by_mode((double) joined / Max(outer, 1), expected, bms_num_members(both)));
 }
 
-/* PostgreSQL has made the paths already, with the parameters that scans may have. For the first relation it did so by its own statistics. */
+/* PostgreSQL has made the paths already, with the parameters that scans may have. For the first relation it did so by its own rows; for
+   the others only the rows of scans with parameters are its own still. */
 static void
 make_paths_again(BoundedQuery *query, RelOptInfo *rel, bool first)
 {
 	ListCell   *cell;
 
-	if (first)
-	{
-		rel->ppilist = NIL;
-		make_scan_paths(query->root, rel);
-	}
 	foreach(cell, rel->ppilist)
-		set_parameterised_rows(query, rel, lfirst(cell));
-	if (!first || rel->ppilist != NIL)
+	{
+		ParamPathInfo *info = lfirst(cell);
+
+		if (first)
+			info->ppi_rows = get_parameterized_baserel_size(query->root, rel, info->ppi_clauses);
+		set_parameterised_rows(query, rel, info);
+	}
+	if (first || rel->ppilist != NIL)
 		make_scan_paths(query->root, rel);
 }
 
@@ -401,14 +403,9 @@ void
 planning_init(void)
 {
 	expected_init();
-	planner_before = planner_hook;
-	planner_hook = on_planner;
-	rel_paths_before = set_rel_pathlist_hook;
-	set_rel_pathlist_hook = on_rel_paths;
-	join_paths_before = set_join_pathlist_hook;
-	set_join_pathlist_hook = on_join_paths;
-	join_search_before = join_search_hook;
-	join_search_hook = on_join_search;
-	upper_paths_before = create_upper_paths_hook;
-	create_upper_paths_hook = on_upper_paths;
+	TAKE_HOOK(planner_hook, planner_before, on_planner);
+	TAKE_HOOK(set_rel_pathlist_hook, rel_paths_before, on_rel_paths);
+	TAKE_HOOK(set_join_pathlist_hook, join_paths_before, on_join_paths);
+	TAKE_HOOK(join_search_hook, join_search_before, on_join_search);
+	TAKE_HOOK(create_upper_paths_hook, upper_paths_before, on_upper_paths);
 }

@@ -11,7 +11,7 @@
 #define MOST_SPECIAL_JOINS 6
 
 /* No row bound is known. */
-#define UNKNOWN PG_UINT64_MAX
+#define UNKNOWN SAFEBOUND_NO_BOUND
 
 typedef enum EstimatesMode
 {
@@ -39,7 +39,15 @@ typedef struct JoinedColumn
 	Index		relid;
 	AttrNumber	number;
 	DegreeList	list;
+	List	   *narrowed;		/* of Narrowed: what it was asked for in sets */
 } JoinedColumn;
+
+/* A joined column's list where conditions of relations hold that its own refers to. */
+typedef struct Narrowed
+{
+	Bitmapset  *held;			/* their places in `carried` */
+	DegreeList	list;
+} Narrowed;
 
 /* Columns that are equal in each row in which `required` are joined. */
 typedef struct EqualColumns

@@ -9,6 +9,9 @@
 #include "safebound.h"
 #include "utils/relcache.h"
 
+/* Puts a function of ours into a hook of PostgreSQL's, and what was there aside: whoever comes first calls the other. */
+#define TAKE_HOOK(hook, before, ours) ((before) = (hook), (hook) = (ours))
+
 /* A degree list, with a number that its rows are at most. Rows whose joined column is NULL are in `rows` and not in the runs. */
 typedef struct DegreeList
 {

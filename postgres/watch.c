@@ -558,6 +558,5 @@ safebound_on_change(PG_FUNCTION_ARGS)
 void
 watch_init(void)
 {
-	utility_before = ProcessUtility_hook;
-	ProcessUtility_hook = on_utility;
+	TAKE_HOOK(ProcessUtility_hook, utility_before, on_utility);
 }

@@ -119,5 +119,41 @@ SELECT safebound.keep('p') > 0 AS p, safebound.keep('q') > 0 AS q, cost_by('mean
 RESET enable_hashjoin; RESET enable_mergejoin; RESET enable_material;
 DROP TABLE p, q;
 DROP FUNCTION cost_by;
+-- A list is another one where more of what its table refers to is joined: here 14 rows, and 50 by the list of the join before.
+CREATE TABLE d (k integer PRIMARY KEY, c text);
+CREATE TABLE e (j integer PRIMARY KEY, c text);
+INSERT INTO d VALUES (1, 'a'), (2, 'b');
+INSERT INTO e VALUES (1, 'a'), (2, 'b');
+CREATE TABLE f (k integer REFERENCES d, j integer REFERENCES e, x integer);
+INSERT INTO f SELECT 1, 2, 0 FROM generate_series(1, 10);
+INSERT INTO f SELECT 2, 1, i FROM generate_series(1, 10) i;
+CREATE TABLE g (x integer);
+INSERT INTO g SELECT greatest(i - 5, 0) FROM generate_series(1, 15) i;
+SELECT safebound.keep('d') > 0 AS d, safebound.keep('e') > 0 AS e, safebound.keep('f', accuracy => 64) > 0 AS f, safebound.keep('g', accuracy => 64) > 0 AS g;
+SET safebound.estimates = bound;
+SET join_collapse_limit = 1;
+SELECT rows_of('SELECT FROM f JOIN d USING (k) JOIN g USING (x) WHERE d.c = ''a''') = 10 * 5 AS one,
+       rows_of('SELECT FROM f JOIN d USING (k) JOIN g USING (x) JOIN e USING (j) WHERE d.c = ''a'' AND e.c = ''a''') = 5 + 9 AS both;
+RESET join_collapse_limit;
+DROP TABLE f, d, e, g;
+-- A scan that is repeated for each row of others has the rows that the bound leaves for each of them.
+CREATE FUNCTION repeated(query text) RETURNS integer LANGUAGE plpgsql AS $$
+DECLARE told json;
+BEGIN
+    EXECUTE 'EXPLAIN (FORMAT JSON) ' || query INTO told;
+    RETURN told->0->'Plan'->'Plans'->1->>'Plan Rows';
+END $$;
+CREATE TABLE q (k integer PRIMARY KEY, n integer);
+INSERT INTO q SELECT i, i FROM generate_series(0, 99) i;
+CREATE TABLE p (k integer);
+INSERT INTO p SELECT greatest(i - 1000, 0) FROM generate_series(1, 1099) i;
+CREATE INDEX ON p (k);
+ANALYZE p, q;
+SET enable_hashjoin = off; SET enable_mergejoin = off; SET enable_material = off;
+SELECT safebound.keep('p', accuracy => 64) > 0 AS p, safebound.keep('q') > 0 AS q, repeated('SELECT FROM q JOIN p USING (k) WHERE n = 7') = 1000 AS repeated;
+RESET enable_hashjoin; RESET enable_mergejoin; RESET enable_material;
+SET safebound.estimates = off;
+DROP TABLE p, q;
+DROP FUNCTION repeated;
 DROP TABLE r, s;
 DROP FUNCTION rows_of;

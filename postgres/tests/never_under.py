@@ -5,7 +5,8 @@
 The server at URL has the extension installed. For each of TABLES sets of tables QUERIES queries are planned with
 safebound.estimates = bound and run by EXPLAIN ANALYZE, which counts the rows of each node. Tables are plain,
 partitioned or have children; queries read them alone, by a view, a subquery or WITH. Where a join reads what isn't
-known, PostgreSQL's own number stands, and isn't looked at.
+known, PostgreSQL's own number stands, and isn't looked at. What a set needs goes out in few texts, so that thousands
+of sets take no longer than their queries do.
 """
 
 from __future__ import annotations
@@ -14,7 +15,7 @@ import json
 import random
 import sys
 from collections.abc import Iterator
-from typing import Any, Dict
+from typing import Any, Dict, Set, Tuple
 
 import psycopg
 
@@ -42,6 +43,8 @@ APPENDS = ("Append", "Merge Append")
 PASSES = ("Hash", "Sort", "Incremental Sort", "Materialize", "Memoize", "Bitmap Index Scan", "BitmapOr", "BitmapAnd")
 # Of more outer and semi-joins no join is bounded.
 MOST_SPECIAL_JOINS = 6
+# How many queries go out in one text, and after how many sets it is told how far it is.
+TOGETHER, TOLD_AFTER = 20, 250
 # Some queries would take minutes; what makes their tables isn't cut short.
 ASKING = "SET safebound.estimates = bound; SET statement_timeout = '1s'"
 KINDS = ("plain", "plain", "plain", "hash", "list", "children")
@@ -80,54 +83,65 @@ class Table:
         """The values of a part by lists: one value and NULL, and all others."""
         return "DEFAULT" if part else f"FOR VALUES IN (NULL, {TYPES[self.columns[0]].format(n=0, zeros='0', case='v')})"
 
-    def create(self, connection: Connection) -> None:
+    def created(self) -> Iterator[str]:
         columns = ", ".join(f"c{i} {of}" for i, of in enumerate(self.columns))
         by = {"hash": " PARTITION BY HASH (c0)", "list": " PARTITION BY LIST (c0)"}.get(self.kind, "")
-        connection.execute(f"DROP TABLE IF EXISTS {self.name} CASCADE")
-        connection.execute(f"CREATE TABLE {self.name} ({columns}){by}")
+        yield f"DROP TABLE IF EXISTS {self.name} CASCADE"
+        yield f"CREATE TABLE {self.name} ({columns}){by}"
         for i, part in enumerate(self.parts()):
             of = {
                 "hash": f"PARTITION OF {self.name} FOR VALUES WITH (MODULUS 2, REMAINDER {i})",
                 "list": f"PARTITION OF {self.name} {self.listed(i)}",
                 "children": f"() INHERITS ({self.name})",
             }[self.kind]
-            connection.execute(f"CREATE TABLE {part} {of}")
-        connection.execute(f"CREATE VIEW {self.name}_view AS SELECT * FROM {self.name}")
+            yield f"CREATE TABLE {part} {of}"
+        yield f"CREATE VIEW {self.name}_view AS SELECT * FROM {self.name}"
 
-    def make_key(self, connection: Connection) -> None:
-        """The first column becomes the key: rows without a value there, and all but one of each value, go."""
-        again = f"EXISTS (SELECT FROM {self.name} b WHERE a.c0 = b.c0 AND a.ctid < b.ctid)"
-        connection.execute(f"DELETE FROM {self.name} a WHERE c0 IS NULL OR {again}")
-        connection.execute(f"ALTER TABLE {self.name} ADD PRIMARY KEY (c0)")
-        self.has_key = True
-
-    def refer(self, connection: Connection, other: Table) -> None:
-        """Each column of the other one's type refers to its key: other values go."""
-        for i, of in enumerate(self.columns):
-            if other.has_key and of == other.columns[0] and (i > 0 or not self.has_key):
-                there = f"EXISTS (SELECT FROM {other.name} o WHERE o.c0 = {self.name}.c{i})"
-                connection.execute(f"UPDATE {self.name} SET c{i} = NULL WHERE NOT {there}")
-                connection.execute(f"ALTER TABLE {self.name} ADD FOREIGN KEY (c{i}) REFERENCES {other.name}")
-
-    def make(self, connection: Connection, others: list[Table]) -> None:
+    def filled(self) -> Iterator[str]:
         r = self.r
-        self.create(connection)
         rows = r.choice([0, 1, 10, 40, 120, 400])
         nulls = [r.choice([0, 0, 0.2, 0.9]) for _ in self.columns]
         if rows:
             tuples = (", ".join(value(r, *of) for of in zip(self.columns, self.distinct, nulls)) for _ in range(rows))
-            connection.execute(f"INSERT INTO {self.name} VALUES ({'), ('.join(tuples)})")
+            yield f"INSERT INTO {self.name} VALUES ({'), ('.join(tuples)})"
             if self.kind == "children":
-                connection.execute(f"INSERT INTO {self.name}_0 SELECT * FROM ONLY {self.name} LIMIT 30")
-        if self.kind == "plain" and r.random() < 0.5:
-            self.make_key(connection)
-        for other in others:
-            self.refer(connection, other)
-        if r.random() < 0.5:
-            connection.execute(f"CREATE INDEX ON {self.name} (c{r.randrange(len(self.columns))})")
+                yield f"INSERT INTO {self.name}_0 SELECT * FROM ONLY {self.name} LIMIT 30"
+
+    def keyed(self) -> Iterator[str]:
+        """The first column becomes the key: rows without a value there, and all but one of each value, go."""
+        again = f"EXISTS (SELECT FROM {self.name} b WHERE a.c0 = b.c0 AND a.ctid < b.ctid)"
+        yield f"DELETE FROM {self.name} a WHERE c0 IS NULL OR {again}"
+        yield f"ALTER TABLE {self.name} ADD PRIMARY KEY (c0)"
+        self.has_key = True
+
+    def referring(self, other: Table) -> Iterator[str]:
+        """Each column of the other one's type refers to its key: other values go."""
+        for i, of in enumerate(self.columns):
+            if other.has_key and of == other.columns[0] and (i > 0 or not self.has_key):
+                there = f"EXISTS (SELECT FROM {other.name} o WHERE o.c0 = {self.name}.c{i})"
+                yield f"UPDATE {self.name} SET c{i} = NULL WHERE NOT {there}"
+                yield f"ALTER TABLE {self.name} ADD FOREIGN KEY (c{i}) REFERENCES {other.name}"
+
+    def kept(self) -> Iterator[str]:
+        r = self.r
         for kept in [self.name, *self.parts()]:
             some = f"common => {r.choice([0, 1, 3, 100])}, ranges => {r.choice([0, 1, 3, 64])}"
-            connection.execute(f"SELECT safebound.keep('{kept}', {some}, accuracy => {r.choice([1, 2, 8, 64])})")
+            yield f"SELECT safebound.keep('{kept}', {some}, accuracy => {r.choice([1, 2, 8, 64])})"
+
+    def made(self, others: list[Table]) -> Iterator[str]:
+        yield from self.created()
+        yield from self.filled()
+        if self.kind == "plain" and self.r.random() < 0.5:
+            yield from self.keyed()
+        for other in others:
+            yield from self.referring(other)
+        if self.r.random() < 0.5:
+            yield f"CREATE INDEX ON {self.name} (c{self.r.randrange(len(self.columns))})"
+
+    def make(self, connection: Connection, others: list[Table]) -> None:
+        """Its statistics are of rows that another transaction wrote."""
+        for statements in (self.made(others), self.kept()):
+            connection.execute("; ".join(statements))
 
     def read(self, alias: str, alone: set[str]) -> str:
         """What stands in FROM for the table, without its alias, which is noted where a part is read alone."""
@@ -148,25 +162,32 @@ def condition(r: random.Random, alias: str, table: Table) -> str:
     def one() -> str:
         return value(r, table.columns[i], table.distinct[i] + 2, 0)
 
-    kind = r.randrange(11)
-    if kind == 0:
-        return f"{column} IN ({', '.join(one() for _ in range(r.randint(1, 4)))})"
-    if kind == 1:
-        return f"{column} IS {r.choice(['', 'NOT '])}NULL"
-    if kind == 2:
-        return f"({column} = {one()} OR {condition(r, alias, table)})"
-    if kind == 3:
-        return f"{column} {r.choice(['<', '>=', '<>'])} {one()}"
-    if kind == 5:
-        return f"{column} {r.choice(['>', '>='])} {one()} AND {column} {r.choice(['<', '<='])} {one()}"
-    if kind == 6:
-        return f"{one()} {r.choice(['<', '>', '<=', '>='])} {column}"
-    if kind == 7 and "text" in table.columns[i]:
-        return f"{column} LIKE 'v{r.choice(['1%', '2_', '%', '3', '1%2', ''])}'"
-    if kind == 4:
+    def compared(*operators: str) -> str:
+        return f"{column} {r.choice(operators)} {one()}"
+
+    def equal() -> str:
+        return f"{column} = {one()}"
+
+    def like() -> str:
+        is_text = "text" in table.columns[i]
+        return f"{column} LIKE 'v{r.choice(['1%', '2_', '%', '3', '1%2', ''])}'" if is_text else equal()
+
+    def by_subquery() -> str:
         literal = one()
         return f"{column} = (SELECT {literal}::{'text' if literal.startswith(chr(39)) else 'numeric'})"
-    return f"{column} = {one()}"
+
+    made = [
+        lambda: f"{column} IN ({', '.join(one() for _ in range(r.randint(1, 4)))})",
+        lambda: f"{column} IS {r.choice(['', 'NOT '])}NULL",
+        lambda: f"({column} = {one()} OR {condition(r, alias, table)})",
+        lambda: compared("<", ">=", "<>"),
+        by_subquery,
+        lambda: f"{compared('>', '>=')} AND {compared('<', '<=')}",
+        lambda: f"{one()} {r.choice(['<', '>', '<=', '>='])} {column}",
+        like,
+        *4 * [equal],
+    ]
+    return made[r.randrange(11)]()
 
 
 def equality(r: random.Random, left: tuple[str, Table], right: tuple[str, Table]) -> str:
@@ -282,6 +303,12 @@ def is_known(plan: Plan, known: set[str]) -> bool:
     return plan["Node Type"] in (*JOINS, *PASSES, *APPENDS) and all(is_known(part, known) for part in below)
 
 
+def is_read_again(join: Plan, below: Plan) -> bool:
+    """Whether rows are counted as often as a join reads them: a merge join goes back in a scan to where it has been."""
+    again = {"Nested Loop": True, "Merge Join": below["Node Type"] in (*SCANS, *APPENDS)}
+    return below["Parent Relationship"] == "Inner" and again.get(join["Node Type"], False)
+
+
 def nodes(plan: Plan, known: set[str], repeated: bool = False) -> Iterator[Plan]:
     """The scans and joins whose bound stands for all of their rows, which aren't repeated for each row of others. Parts
     that are read together have one bound, as a whole."""
@@ -291,13 +318,14 @@ def nodes(plan: Plan, known: set[str], repeated: bool = False) -> Iterator[Plan]
     if kind in APPENDS:
         return
     for below in plan.get("Plans", []):
-        inner = kind == "Nested Loop" and below["Parent Relationship"] == "Inner"
-        yield from nodes(below, known, repeated or inner)
+        yield from nodes(below, known, repeated or is_read_again(plan, below))
 
 
 # A query that isn't run: it takes too long, or compares what has no equality.
 NOT_RUN = (psycopg.errors.QueryCanceled, psycopg.errors.FeatureNotSupported, psycopg.errors.UndefinedFunction,
            psycopg.errors.DatatypeMismatch)
+# A query, and what it reads that is known.
+Asked = Tuple[str, Set[str]]
 
 
 class Counting:
@@ -305,7 +333,7 @@ class Counting:
 
     def __init__(self, connection: Connection, r: random.Random, told: str) -> None:
         self.connection, self.r, self.told = connection, r, told
-        self.queries = self.failed = self.scans = self.under = 0
+        self.sets = self.queries = self.failed = self.scans = self.under = 0
         self.tight: list[float] = []
 
     def node(self, node: Plan, text: str) -> None:
@@ -317,21 +345,36 @@ class Counting:
             self.under += 1
             print(f"{self.told}: {node['Node Type']} has {node['Actual Rows']} rows, not {node['Plan Rows']}: {text}")
 
-    def ask(self, text: str, known: set[str]) -> None:
-        self.queries += 1
-        try:
-            row = self.connection.execute(f"EXPLAIN (ANALYZE, TIMING OFF, FORMAT JSON) {text}").fetchone()
-        except NOT_RUN as error:
-            self.failed += 1
-            if "-v" in sys.argv:
-                print(text, error)
-            return
-        assert row is not None
+    def plan(self, plan: Plan, text: str, known: set[str]) -> None:
         before = self.under
-        for node in nodes(row[0][0]["Plan"], known):
+        for node in nodes(plan, known):
             self.node(node, text)
         if self.under > before and "-v" in sys.argv:
-            raise SystemExit(json.dumps(row[0], indent=1))
+            raise SystemExit(json.dumps(plan, indent=1))
+
+    def not_run(self, text: str, error: psycopg.Error) -> None:
+        self.failed += 1
+        if "-v" in sys.argv:
+            print(text, error)
+
+    def ask(self, asked: list[Asked]) -> None:
+        """Queries in one text. Where one of them isn't run, each goes out by itself."""
+        explain = "EXPLAIN (ANALYZE, TIMING OFF, FORMAT JSON)"
+        try:
+            cursor = self.connection.execute("; ".join(f"{explain} {text}" for text, _ in asked))
+        except NOT_RUN as error:
+            if len(asked) == 1:
+                return self.not_run(asked[0][0], error)
+            return self.each_alone(asked)
+        for text, known in asked:
+            row = cursor.fetchone()
+            assert row is not None
+            self.plan(row[0][0]["Plan"], text, known)
+            cursor.nextset()
+
+    def each_alone(self, asked: list[Asked]) -> None:
+        for one in asked:
+            self.ask([one])
 
     def one_set(self, queries: int) -> None:
         """New tables, and queries over them."""
@@ -344,14 +387,16 @@ class Counting:
         known = {table.name for table in tables if table.kind in ("plain", *PARTITIONED)}
         for method in ("hashjoin", "mergejoin", "nestloop"):
             self.connection.execute(f"SET enable_{method} = {self.r.choice(['on', 'on', 'off'])}")
-        for _ in range(queries):
-            text, alone = query(self.r, tables)
-            self.ask(text, known | alone)
+        asked = [(text, known | alone) for text, alone in (query(self.r, tables) for _ in range(queries))]
+        for first in range(0, queries, TOGETHER):
+            self.ask(asked[first : first + TOGETHER])
+        self.sets += 1
+        self.queries += queries
 
     def said(self) -> str:
         tight = sorted(self.tight) or [0]
         return (
-            f"{self.queries - self.failed} queries ({self.failed} not run), {self.scans} scans and "
+            f"{self.sets} sets, {self.queries - self.failed} queries ({self.failed} not run), {self.scans} scans and "
             f"{len(self.tight)} joins, {self.under} under; bound by rows of a join: "
             f"median {tight[len(tight) // 2]:.2f}, 90th percentile {tight[len(tight) * 9 // 10]:.1f}"
         )
@@ -364,8 +409,10 @@ def main() -> int:
         connection.execute(PRELUDE)
         connection.execute("SET jit = off; SET max_parallel_workers_per_gather = 0")
         counting = Counting(connection, random.Random(seed), f"seed {seed}")
-        for _ in range(sets):
+        for number in range(sets):
             counting.one_set(queries)
+            if number % TOLD_AFTER == TOLD_AFTER - 1:
+                print(counting.said(), flush=True)
     print(counting.said())
     return 1 if counting.under or not counting.tight else 0
 

@@ -22,18 +22,27 @@ sys.path[:0] = [str(HERE.parent)]
 from installed import SETTINGS, Alone, lay_server
 
 FLAGS = "-fno-sanitize=alignment -fno-sanitize-recover=undefined"
+# AddressSanitizer begins at the first malloc, looks for this name then, and asks why it isn't there, in the language of
+# the user. Where that malloc is one of the C library's own translations, their lock is given back twice, and whoever
+# takes it next waits for good.
+DEMANGLES_NOTHING = "char *swift_demangle(void) { return 0; }"
 
 
-def library() -> str:
+def libraries(root: str) -> str:
+    """What PostgreSQL is started below."""
     words = ["gcc", "-print-file-name=libasan.so"]
-    return subprocess.run(words, check=True, text=True, stdout=subprocess.PIPE).stdout.strip()
+    sanitizer = subprocess.run(words, check=True, text=True, stdout=subprocess.PIPE).stdout.strip()
+    own = os.path.join(root, "demangles_nothing.so")
+    compiled = ["gcc", "-shared", "-fPIC", "-x", "c", "-", "-o", own]
+    subprocess.run(compiled, input=DEMANGLES_NOTHING, check=True, text=True)
+    return f"{sanitizer}:{own}"
 
 
 def starts(preload: dict[str, str]) -> bool:
     """Whether PostgreSQL comes up below AddressSanitizer. It may hang in a library of the machine's, long before the
     extension."""
     try:
-        done = subprocess.run(["postgres", "-V"], stdout=subprocess.DEVNULL, env={**os.environ, **preload}, timeout=30)
+        done = subprocess.run(["postgres", "-V"], stdout=subprocess.DEVNULL, env={**os.environ, **preload}, timeout=60)
         return done.returncode == 0
     except subprocess.TimeoutExpired:
         return False
@@ -47,7 +56,7 @@ def main() -> int:
             os.symlink(ROOT / name, Path(root) / name)
         folder = Path(root) / "postgres"
         shutil.copytree(HERE.parent, folder, ignore=shutil.ignore_patterns("*.o", "*.so", "results"))
-        preload = {"LD_PRELOAD": library(), "ASAN_OPTIONS": "detect_leaks=0:abort_on_error=1"}
+        preload = {"LD_PRELOAD": libraries(root), "ASAN_OPTIONS": "detect_leaks=0:abort_on_error=1"}
         whole = starts(preload)
         if not whole:
             print("PostgreSQL doesn't start below AddressSanitizer: only undefined behaviour is looked for", flush=True)
