@@ -90,6 +90,8 @@ class Bench:
         """The same command with a room of its own, so that tests may run side by side."""
         other = copy.copy(self)
         other.room = tempfile.mkdtemp(prefix="room-", dir=self.installed)
+        # A test of files that may not be read runs the program as nobody.
+        os.chmod(other.room, 0o755)
         other.folder, other.temporary = (os.path.join(other.room, name) for name in ("folder", "temporary"))
         os.mkdir(other.temporary)
         other.environment = {
