@@ -1,7 +1,7 @@
 //! Bounds of all sets and plans of a query where conjuncts are carried along references to keys.
 //!
-//! In: a query, its schema and its tables. Suppose that the schema declares a reference to a key, and that an equality of the query joins the two
-//! columns. Then, in a set with both entries, only those rows of the referring entry count that refer to a row which the other entry's own
+//! In: a query, its schema and its tables. Suppose that the schema declares a reference to a key, and that an equality of the query joins the
+//! two columns. Then, in a set with both entries, only those rows of the referring entry count that refer to a row which the other entry's own
 //! conjuncts leave. Out: row bounds and lists of each entry in each set (`KeyLists`, which is a `KnownInSets`), and the bounds of all sets
 //! (`from_keys`). The bounds of scans are those of each table by itself.
 //!
