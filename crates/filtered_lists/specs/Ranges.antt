@@ -5,7 +5,7 @@ use Rattle.std.specs.Ordering.{is_lt, is_gt}
 use Rattle.csv_tables.specs.Values.{Value, value_cmp}
 use Rattle.degree_sequences.specs.Degrees.{different}
 
--- the values of a column from a low end to a high end, both included, where there are such ends
+-- the values of a column from a low end to a high end, both included; either end may be missing
 pub record Range : Type 0 where
   pub column : ℕ
   pub low : Option Value
