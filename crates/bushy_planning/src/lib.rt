@@ -4,7 +4,7 @@
 //! The crate takes the bounds of all scans and of all sets of entries from planning, and chooses the tree of least cost over them. Out: the
 //! plan, or why no plan is within the budget.
 //!
-//! Callers cite `tree_answer` of tree_answers for the answer, and `IsTreePlanOf` of bushy_join for a plan of which no bound is too low.
+//! Callers cite `tree_answer` of tree_answers for the answer, and `IsTreePlanOf` of bushy_join for a plan in which no bound is too low.
 //! `BoundLevels` and `BoundLists` of planning say when bounds serve.
 //!
 //! ```text
