@@ -20,7 +20,7 @@ cell_le texts kind cell other = value_le (value_of_cell texts kind cell) (value_
 abbrev pub leaf_of_value : List (List ℕ) → Kind → List ℕ → Value → ℕ
 leaf_of_value texts kind column value = leaf_above (cell_le texts kind) column (λ cut. value_le (value_of_cell texts kind cut) value)
 
--- the list of the values from one to another, both counted in, where there is one
+-- the list of the values from one to another, both counted in, if there is one
 abbrev pub list_between : List (List ℕ) → Kind → ℕ → List (ℕ × ℕ) → Option Value → Option Value → List ℕ
 list_between texts kind accuracy rows low high =
     list_of_range (cell_le texts kind) accuracy rows
