@@ -75,7 +75,7 @@ PrintsTheAnswer (Filed filed) = ⊤
 PrintsTheAnswer (PlannedByFile made) = ⊤
 PrintsTheAnswer (Appended made) = ⊤
 
--- a plan takes no more bytes than its limit of memory, where there is one
+-- a plan takes no more bytes than its limit of memory, if there is one
 abbrev pub KeepsItsLimit : Outcome → Type 0
 KeepsItsLimit (Planned run) = AreWithin run.memory (shape_bytes run.plan)
 KeepsItsLimit (Filed filed) = ⊤
