@@ -6,7 +6,7 @@
 //! and `tree_audits` (in `specs/TreePlans.antt`), `rows_lines` and `choice_text` (in `specs/Texts.antt` and
 //! `specs/Lines.antt`), `memory_text` (in `specs/Memory.antt`) and `fault_line` (in `specs/Faults.antt`). Each writing call has one clause, `Wrote`: it leaves a
 //! prefix of its text where the sink fails, as `write_line(status, names, notes)` does. `put_line`, `alias_at`,
-//! `put_level_bound` and `put_node_bound` are parts of which joined_texts makes the rows and audit texts.
+//! `put_level_bound` and `put_node_bound` are parts that joined_texts makes the rows and audit texts of.
 #![tactic(auto)]
 
 mod fault_lines;
