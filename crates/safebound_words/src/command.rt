@@ -58,7 +58,7 @@ pub enum Work<'a> {
         accuracy: u8,
     },
     /// It is planned from the statistics file of this name. The most rows that a plan may cost are the budget, and the most bytes
-    /// that its buffers may take the limit of memory, where there is one.
+    /// that its buffers may take the limit of memory, if there is one.
     PlanFrom {
         file: Word<'a>,
         budget: u64,

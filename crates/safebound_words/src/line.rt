@@ -40,7 +40,7 @@ pub(crate) struct Line<'a> {
     pub count: bool,
 }
 
-// Puts a word where there is none.
+// Puts a word if there is none.
 fn put<'a>(given: &mut Option<&'a str>, word: &'a str) -> Result<(), WordsError>
     ensures ok { OnOk result (option_words given.new ≡ option_words given.old ++ word.now ∷ []) }
     ensures again { OnErr result (length (option_words given.old) ≡ 1) }
