@@ -54,7 +54,7 @@ fn chains_total(entries: &[u8], lists: &[u64]) -> u128
     total
 }
 
-/// The bytes of a plan: those that `row_buffers` takes for the lists, and `reserve` for the levels. `scans` are the most rows of each entry's
+/// The bytes of a plan: those that `row_buffers` takes for the lists, and `reserve` for the levels. `lists` are the most rows of each entry's
 /// list, in FROM order, and `levels` the most rows of each level, in the order of the plan.
 pub fn plan_memory(order: &[u8], lists: &[u64], levels: &[u64]) -> u128
     requires some { 0 < length order.now }
