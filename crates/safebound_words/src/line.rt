@@ -18,7 +18,7 @@ pub(crate) enum Places<'a> {
     Four(&'a str, &'a str, &'a str, &'a str),
 }
 
-/// What the next word is: an item, an option's value, or, behind `--`, a place word.
+/// What the next word is: an item, an option's value, or, after `--`, a place word.
 #[derive(Clone, Copy)]
 pub(crate) enum Next {
     Item,
@@ -114,7 +114,7 @@ impl<'a> Line<'a> {
         }
     }
 
-    // Takes the next word, and says what comes behind it.
+    // Takes the next word, and says what comes after it.
     fn take(&mut self, name: CommandName, next: Next, word: &'a str) -> Result<Next, WordsError>
         requires { FitsNext name next }
         ensures ok { IfOk result (λ after. (words : List Word) →
