@@ -72,7 +72,7 @@ fn section_after(
     })
 }
 
-// The sections, of which that of the table is grown.
+// The sections; that of the table is grown.
 fn sections_after(
     alloc: Global,
     sections: Seq<TableStats>,

@@ -1,11 +1,11 @@
 //! A file of statistics that follows its table: what it is after rows were appended, without a look at the rows that were there before.
 //!
-//! In: a `StatsFile`, and the cells of the new rows of one of its tables. Out: the file in which each list of that table is its rank-wise sum
-//! with the compressed list of the new rows that it stands for. Cuts and frequent values stay. The cost is in the new rows and in the length of
-//! the file.
+//! In: a `StatsFile`, and the cells of the new rows of one of its tables. Out: the file after these rows. Each list of that table is added, rank
+//! by rank, to the compressed list of those new rows that belong to it. Cuts and frequent values stay as they are. The time depends on the
+//! number of new rows and on the length of the file, and not on the table.
 //!
-//! Callers cite `file_after` (in `specs/Appended.antt`) for the file and `MayAppend` (in `specs/Conditions.antt`) for when it may be made. What
-//! the new file stands for is in `laws`.
+//! Callers cite `file_after` (in `specs/Appended.antt`) for the file and `MayAppend` (in `specs/Conditions.antt`) for when it may be made. The
+//! laws say for which rows the new file stands.
 //!
 //! ```text
 //! let file = append_rows(alloc, &schema, file, table, &cells, &pool)?;   // file_after file table (rows_of_cells pool cells)

@@ -1,4 +1,4 @@
--- The files of a store, where it tells them, and what a read of one answers.
+-- The files of a store, if it tells them, and what reading one of them answers.
 use Rattle.std.specs.Prelude.{ℕ, ◌≡◌, ◌+◌, ◌<◌, ◌≤◌, ◌∷◌, [], List, length, take, drop, Option, None, Some, Result, Ok, Err, if◌then◌else◌, ⊤}
 use Rattle.std.specs.Str.{bytes_eq}
 use Rattle.base_io.specs.declared.errors.StoreError.{StoreError}
@@ -6,7 +6,7 @@ use Rattle.base_io.specs.declared.errors.StoreError.TheVariants as store
 use Rattle.base_io.specs.declared.errors.ReadError.{ReadError}
 use Rattle.base_io.specs.declared.errors.ReadError.TheVariants as read
 
--- names with their bytes; of two files with one name the first counts
+-- names with their bytes; if two files have the same name, the first one is read
 abbrev pub Files : Type 0
 Files = List (List ℕ × List ℕ)
 
@@ -15,7 +15,7 @@ abbrev pub file_of : Files → List ℕ → Option (List ℕ)
 file_of [] name = None
 file_of (file ∷ rest) name = if bytes_eq file.0 name then Some file.1 else file_of rest name
 
--- what a store tells of a name: nothing, that there is no such file, or the file's bytes
+-- what a store tells about a name: nothing, that there is no file of this name, or the file's bytes
 pub data Told : Type 0 where
   Nothing : Told
   Absent : Told
@@ -29,13 +29,13 @@ abbrev pub told : Option Files → List ℕ → Told
 told None name = Nothing
 told (Some files) name = told_file (file_of files name)
 
--- `count` bytes of a file, from a place on, stand at the front of a buffer; `count` is 0 exactly where the place is at the file's end or past it
+-- `count` bytes of a file, from a place on, are at the front of a buffer; `count` is 0 exactly if the place is the file's end or past it
 pub record Fills (bytes : List ℕ) (place count : ℕ) (into : List ℕ) : Type 0 where
   pub same : take count into ≡ take count (drop place bytes)
   pub within : 0 < count → place + count ≤ length bytes
   pub end : count ≡ 0 → length bytes ≤ place
 
--- a read may have answered Ok with this many bytes: of an absent file it never does, not even with 0 bytes
+-- a read may have answered Ok with this many bytes; for an absent file it never answers Ok, not even with 0 bytes
 abbrev pub Gives : Told → ℕ → ℕ → List ℕ → Type 0
 Gives Nothing place count into = ⊤
 Gives Absent place count into = ⊥
@@ -47,7 +47,7 @@ IsAbsent Nothing = ⊥
 IsAbsent Absent = ⊤
 IsAbsent (Present bytes) = ⊥
 
--- what a read at a place answers, and leaves in the buffer
+-- what a read at a place answers, and what it leaves in the buffer
 abbrev pub ReadsAt : Told → ℕ → Result ℕ StoreError → List ℕ → Type 0
 ReadsAt file place (Ok count) into = (count ≤ length into) × Gives file place count into
 ReadsAt file place (Err store.Missing) into = IsAbsent file
@@ -65,7 +65,7 @@ IsLonger Nothing limit = ⊤
 IsLonger Absent limit = ⊥
 IsLonger (Present all) limit = limit < length all
 
--- what reading a whole file answers; a fault or want of memory may come at any file
+-- what reading a whole file answers; any file may end with a fault or with want of memory
 abbrev pub ReadsFile : Told → ℕ → Result (List ℕ) ReadError → Type 0
 ReadsFile file limit (Ok bytes) = (length bytes ≤ limit) × IsWhole file bytes
 ReadsFile file limit (Err read.Missing) = IsAbsent file

@@ -1,4 +1,4 @@
--- What contracts see of a sink over memory.
+-- The model of a sink in memory.
 use Rattle.std.specs.Prelude.{ℕ, List}
 
 -- the bytes taken, how many more fit, the calls that fail, and the counts of calls and faults

@@ -4,11 +4,11 @@ use Rattle.std.specs.List.{list_any}
 use Rattle.base_io.specs.declared.errors.StoreError.{StoreError}
 use Rattle.base_io.specs.declared.errors.StoreError.TheVariants as store
 
--- the call of this number is listed; calls are numbered from 1
+-- the call with this number is listed; calls are numbered from 1
 abbrev pub is_listed : ℕ → List ℕ → Bool
 is_listed call fail_at = list_any (λ listed. nat_eq listed call) fail_at
 
--- the answer is the failure, and no absent file
+-- the answer is a failure, and not that the file is absent
 abbrev pub has_failed : Result ℕ StoreError → Bool
 has_failed (Ok count) = false
 has_failed (Err store.Missing) = false

@@ -1,7 +1,7 @@
--- What a sink took, where it tells it.
+-- What a sink took, if it tells its bytes.
 use Rattle.std.specs.Prelude.{ℕ, ◌≡◌, List, ◌++◌, Option, None, Some}
 
--- what was taken, and then these bytes
+-- the bytes that were taken before, and then these
 abbrev pub appended : Option (List ℕ) → List ℕ → Option (List ℕ)
 appended None bytes = None
 appended (Some before) bytes = Some (before ++ bytes)
@@ -13,7 +13,7 @@ pub record GrewByPrefix (old new : Option (List ℕ)) (text : List ℕ) : Type 0
   pub whole : front ++ rest ≡ text
   pub grew : new ≡ appended old front
 
--- a text was appended but for its last bytes, which wait
+-- a text was appended, except for its last bytes, which wait in the buffer
 pub record TookBut (old new : Option (List ℕ)) (waiting text : List ℕ) : Type 0 where
   pub front : List ℕ
   pub whole : front ++ waiting ≡ text

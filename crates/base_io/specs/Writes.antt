@@ -1,19 +1,19 @@
--- What a step leaves that writes.
+-- What is true after a step that writes.
 use Rattle.std.specs.Prelude.{ℕ, ◌≡◌, ◌≤◌, List, ◌++◌, Result, OnOk, OnErr}
 use Rattle.base_io.specs.Causes.{Rose}
 use Rattle.base_io.specs.Sinks.{appended, GrewByPrefix, TookBut}
 use Rattle.base_io.specs.declared.errors.Failed.{Failed}
 use Rattle.base_io.specs.Devices.{Growth}
 
--- the whole promise of a step that writes a text: all of it stands in the sink where it succeeds, and in each case a prefix; no fault
--- is taken back, and a failure was counted
+-- The whole promise of a step that writes a text. If it succeeds, the sink has taken the whole text; in each case it has taken a prefix. The
+-- count of faults doesn't fall, and if the step fails, it has risen.
 pub record Wrote (sink : Growth) (text : List ℕ) (result : Result (Unit {0}) Failed) : Type 0 where
   pub ok : OnOk result (sink.taken_after ≡ appended sink.taken_before text)
   pub prefix : GrewByPrefix sink.taken_before sink.taken_after text
   pub later : sink.faults_before ≤ sink.faults_after
   pub failed : OnErr result (Rose sink.faults_before sink.faults_after)
 
--- the same of a step that writes through a buffer: its last bytes may wait
+-- the same for a step that writes through a buffer: the last bytes may wait there
 pub record Put (sink : Growth) (waiting left text : List ℕ) (result : Result (Unit {0}) Failed) : Type 0 where
   pub ok : OnOk result (TookBut sink.taken_before sink.taken_after left (waiting ++ text))
   pub prefix : GrewByPrefix sink.taken_before sink.taken_after (waiting ++ text)

@@ -4,8 +4,8 @@ use crate::NoMemory;
 use std::alloc::Global;
 use std::marker::Model;
 
-/// A value of its own on the heap, which contracts see as the value and nothing else. A type may lead back to
-/// itself through it.
+/// A value on the heap that contracts see as the value alone. A recursive type may contain a box of its own
+/// type.
 #[derive(Debug, Drop)]
 pub struct Boxed<T> {
     inner: Box<T>,

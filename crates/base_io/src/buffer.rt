@@ -1,4 +1,4 @@
-//! A fixed room in front of a sink.
+//! A buffer of fixed size in front of a sink.
 ghost use Rattle.std.specs.Prelude.{◌≡◌, ◌≤◌, ◌+◌, ◌++◌, [], length, OnOk};
 ghost use Rattle.std.specs.List.{flat_map};
 ghost use Rattle.base_io.specs.Devices.{growth};
@@ -7,11 +7,11 @@ ghost use Rattle.base_io.specs.Writes.{Put, Wrote};
 use crate::{Failed, Sink, write_all};
 use std::marker::Model;
 
-// Large enough that a text takes few calls of its sink.
+// The buffer is large enough that a text takes few calls of its sink.
 const ROOM: usize = 8192;
 
 /// Gathers small writes, so that a sink is called once for many of them. Contracts see the bytes that
-/// wait for the sink. It stands on the stack and takes no memory. After `Failed` it is of no more use.
+/// wait for the sink. It lies on the stack and allocates nothing. After `Failed` it must not be used again.
 #[derive(Drop)]
 pub struct Buffer {
     bytes: [u8; ROOM],
@@ -29,7 +29,7 @@ impl Model for Buffer {
 }
 
 impl Buffer {
-    /// No bytes wait.
+    /// An empty buffer: no bytes wait.
     pub fn new() -> Buffer
         ensures { result ≡ [] }
     {
@@ -59,7 +59,7 @@ impl Buffer {
         Ok(())
     }
 
-    /// Adds bytes, and hands what waits to the sink where there is no room for them.
+    /// Adds bytes. If there is no room for them, it first hands what waits to the sink.
     pub fn put<N: Sink>(&mut self, sink: &mut N, bytes: &[u8]) -> Result<(), Failed>
         ensures { Put (growth N.taken N.faults sink.old sink.new) self.old self.new bytes.now result }
     {

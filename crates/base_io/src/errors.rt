@@ -4,7 +4,7 @@ ghost use Rattle.base_io.specs.declared.errors.ReadError.TheVariants as read;
 
 use std::alloc::{AllocError, AllocFailed};
 
-/// Memory was wanting.
+/// There was too little memory.
 #[derive(Clone, Copy, Debug, PartialEq, Eq)]
 pub struct NoMemory;
 

@@ -1,10 +1,11 @@
-//! What every other crate stands on: files by name, takers of bytes, lists, boxes, names and want of memory.
+//! What every other crate uses: stores that give files by name, sinks that take bytes, lists, boxes, names, and the error for too little
+//! memory.
 //!
-//! The first stage of a query's way reads a file whole with `read_file`, and its last stage
-//! writes texts with `write_all` and `write_parts`.
+//! The first stage of a query reads each file whole, with `read_file`. The last stage writes its texts with `write_all` and
+//! `write_parts`.
 //!
-//! Callers cite `told` (what a store tells of a name), `ReadsFile` (what reading a file answers),
-//! `appended` and `GrewByPrefix` (what a sink took), `Wrote` and `Put` (what a step leaves that writes),
+//! Callers cite `told` (what a store knows about a name), `ReadsFile` (what reading a file answers),
+//! `appended` and `GrewByPrefix` (what a sink took), `Wrote` and `Put` (what is true after a step that writes),
 //! and `Rose` (a count of faults rose). They see `Seq` as the list of its items, `Boxed` as its value and
 //! `Name` as its bytes.
 #![tactic(auto)]

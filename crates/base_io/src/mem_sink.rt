@@ -7,11 +7,11 @@ use crate::{Failed, NoMemory, Seq, Sink};
 use std::alloc::Global;
 use std::marker::Model;
 
-/// A sink over memory with a limited room.
+/// A sink in memory that has room for a limited number of bytes.
 ///
-/// The calls whose numbers are in `fail_at` fail, counted from 1, and so does a piece that has
-/// bytes when no room is left. The counts of calls and faults begin at 0, and stay at the greatest
-/// value of their type. No write takes memory.
+/// Calls are counted from 1, and those whose numbers are in `fail_at` fail. A call also fails if the piece has
+/// bytes and no room is left. The counts of calls and faults begin at 0 and do not rise above the greatest
+/// value of their type. No write allocates memory.
 #[derive(Drop)]
 pub struct MemSink {
     taken: Vec<u8>,
@@ -64,7 +64,7 @@ impl Sink for MemSink {
 
     ghost faults = { λ s. s.faults };
 
-    /// As every sink's, with as many bytes as room is left.
+    /// The contract of every sink; and it takes as many bytes as it has room for.
     fn write(&mut self, bytes: &[u8]) -> Result<usize, Failed>
         ensures bound { IfOk result (λ n. n ≤ length bytes.now) }
         ensures progress { 0 < length bytes.now → IfOk result (λ n. 0 < n) }
@@ -73,7 +73,7 @@ impl Sink for MemSink {
         ensures later { self.old.faults ≤ self.new.faults }
         ensures failed { OnErr result (Rose self.old.faults self.new.faults) }
 
-        // Exactly the listed calls fail, and those that find no room, and each failure is counted.
+        // Only the listed calls fail, and those that find no room. Each failure is counted.
         ensures calls { self.new.calls ≡ one_more self.old.calls }
         ensures fail_at { self.new.fail_at ≡ self.old.fail_at }
         ensures fails { is_err result ≡ (is_listed self.new.calls self.old.fail_at

@@ -6,10 +6,10 @@ ghost use Rattle.base_io.specs.Planned.{has_failed, is_listed};
 
 use crate::{Name, Seq, Store, StoreError};
 
-/// Files in memory. Of two files with one name the first counts.
+/// Files in memory. If two files have the same name, the first one is read.
 ///
-/// The calls whose numbers are in `fail_at` fail, counted from 1. The three counts begin at 0, and
-/// stay at the greatest value of their type.
+/// Calls are counted from 1, and those whose numbers are in `fail_at` fail. The three counts begin at 0 and
+/// do not rise above the greatest value of their type.
 #[derive(Drop)]
 pub struct MemStore {
     pub files: Seq<(Name, Seq<u8>)>,
@@ -50,7 +50,7 @@ fn find_file<'a>(files: &'a [(Name, Seq<u8>)], name: &str) -> Option<&'a [u8]>
     None
 }
 
-// Copies bytes from a place on to the front of a buffer, as many as there are and as fit.
+// Copies bytes, from a place on, into the front of a buffer, until the bytes end or the buffer is full.
 fn copy_front(bytes: &[u8], place: u64, into: &mut [u8]) -> usize
     requires { 0 < length into.old }
     ensures count { result ≡ min (length bytes.now - place) (length into.new) }
@@ -72,7 +72,7 @@ impl Store for MemStore {
 
     ghost misses = { λ s. s.misses };
 
-    /// As every store's, and exactly the listed calls fail.
+    /// The contract of every store; and exactly the listed calls fail.
     fn read_at(&mut self, name: &str, at: u64, into: &mut [u8]) -> Result<usize, StoreError>
         requires place { at ≤ most_file }
         requires room { 0 < length into.old }
@@ -85,7 +85,7 @@ impl Store for MemStore {
             → (self.new.faults ≡ self.old.faults) × (self.new.misses ≡ one_more self.old.misses) }
         ensures misses { (IsErrOf result StoreError.Missing → ⊥) → self.new.misses ≡ self.old.misses }
 
-        // A read gives as many bytes as there are and as fit.
+        // A read gives bytes until the file ends or the buffer is full.
         ensures most { IfOk result (λ n. (bytes : List ℕ) → file_of self.old.files name.now ≡ Some bytes
             → n ≡ min (length bytes - at) (length into.new)) }
 

@@ -1,4 +1,4 @@
-//! A whole file at once.
+//! Reads a whole file at once.
 ghost use Rattle.std.specs.Prelude.{◌≡◌, ◌≤◌, IsErrOf};
 ghost use Rattle.limits.specs.Profile.{most_file};
 ghost use Rattle.base_io.specs.Causes.{Rose, one_more};
@@ -7,13 +7,13 @@ ghost use Rattle.base_io.specs.Files.{ReadsFile, told};
 use crate::{ReadError, Seq, Store, StoreError};
 use std::alloc::Global;
 
-// Large enough that a table file takes few calls, and small beside the file's own bytes.
+// A block is large enough that reading a table takes few calls, and small beside the file itself.
 const BLOCK: usize = 65_536;
 
 /// Reads a whole file of at most `limit` bytes.
 ///
-/// Each block is read into its place in the answered list, which grows by doubling, so the bytes
-/// exist once. `Fault` comes only where the store's count of faults rose.
+/// It reads each block straight into the list that it answers, and the list grows by doubling. So the bytes
+/// are in memory once. It answers `Fault` only if the store's count of faults rose.
 pub fn read_file<S: Store>(
     alloc: Global,
     store: &mut S,
@@ -33,7 +33,7 @@ pub fn read_file<S: Store>(
     ensures misses { (IsErrOf result ReadError.Missing → ⊥) → S.misses store.new ≡ S.misses store.old }
 {
     let mut items = Vec::new(alloc);
-    // Each turn but the last takes at least one byte, and the limit ends them all.
+    // Each turn of the loop but the last reads at least one byte, and the limit bounds the number of turns.
     'turns: for _turn in 0..=limit {
         let at = items.len();
         items.resize(at + BLOCK, 0)?;

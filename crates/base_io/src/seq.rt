@@ -4,7 +4,7 @@ use crate::NoMemory;
 use std::alloc::Global;
 use std::marker::Model;
 
-/// A list, which contracts see as its items and nothing else. A type may lead back to itself through it.
+/// A list that contracts see as its items alone. A recursive type may contain a list of its own type.
 #[derive(Debug, Drop)]
 pub struct Seq<T> {
     items: Vec<T>,
@@ -22,7 +22,7 @@ impl<T> Model for Seq<T> {
 }
 
 impl<T> Seq<T> {
-    /// The empty list. It takes no memory.
+    /// The empty list. It allocates nothing.
     pub fn new(alloc: Global) -> Seq<T>
         ensures { result ≡ [] }
     {
@@ -38,7 +38,7 @@ impl<T> Seq<T> {
         Seq { items }
     }
 
-    /// Takes the last item out.
+    /// Removes the last item and hands it out.
     pub fn pop(&mut self) -> Option<T>
         ensures { MatchOption result ((self.old ≡ []) × (self.new ≡ [])) (λ last. self.old ≡ self.new ++ last ∷ []) }
     {

@@ -1,4 +1,4 @@
-//! A taker of bytes.
+//! A sink: where bytes are written to.
 ghost use Rattle.std.specs.Prelude.{◌≡◌, ◌<◌, ◌≤◌, ℕ, List, Option, length, take, IfOk, OnErr};
 ghost use Rattle.base_io.specs.Causes.{Rose};
 ghost use Rattle.base_io.specs.Sinks.{appended};
@@ -17,7 +17,7 @@ pub trait Sink {
     fn write(&mut self, bytes: &[u8]) -> Result<usize, Failed>
         ensures bound { IfOk result (λ n. n ≤ length bytes.now) }
 
-        // Taking nothing of a piece that has bytes is a failure.
+        // If the piece has bytes and the sink takes none of them, the call has failed.
         ensures progress { 0 < length bytes.now → IfOk result (λ n. 0 < n) }
 
         ensures took { IfOk result (λ n. taken self.new ≡ appended (taken self.old) (take n bytes.now)) }

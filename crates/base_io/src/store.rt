@@ -1,4 +1,4 @@
-//! A source of files.
+//! A store: where files are read from, by name.
 ghost use Rattle.std.specs.Prelude.{◌≡◌, ◌<◌, ◌≤◌, ℕ, Option, length, IsErrOf};
 ghost use Rattle.limits.specs.Profile.{most_file};
 ghost use Rattle.base_io.specs.Causes.{Rose, one_more};
@@ -8,7 +8,7 @@ use crate::StoreError;
 
 /// Gives the bytes of files by their names.
 ///
-/// A store that does not tell its files counts an absent file as a failure.
+/// Some stores do not tell which files they have. Such a store counts an absent file as a failed read.
 pub trait Store {
     /// The files, where the store tells them.
     ghost files: { Self → Option Files };
@@ -19,8 +19,8 @@ pub trait Store {
     /// How often a file was missing.
     ghost misses: { Self → ℕ };
 
-    /// Reads a file's bytes from a place on into the front of a buffer, and answers how many.
-    /// 0 bytes come exactly at the file's end or past it.
+    /// Reads bytes of a file, from `place` on, into the front of a buffer, and answers how many it read.
+    /// It answers 0 exactly where `place` is the end of the file or lies past it.
     fn read_at(&mut self, name: &str, at: u64, into: &mut [u8]) -> Result<usize, StoreError>
         requires place { at ≤ most_file }
         requires room { 0 < length into.old }

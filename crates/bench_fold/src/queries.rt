@@ -48,7 +48,7 @@ impl Shape {
         }
     }
 
-    // The equality of two entries of which the first comes before the other, where there is one.
+    // The equality of two entries of which the first comes before the other, if there is one.
     fn equality(self, left: u8, right: u8, entries: u8) -> Option<Edge> {
         let is_next = u16::from(left) + 1 == u16::from(right);
         let is_last = left == 0 && u16::from(right) + 1 == u16::from(entries);

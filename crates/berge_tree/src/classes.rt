@@ -1,4 +1,4 @@
-//! Whether two columns are in one class of some equalities.
+//! Tells whether two columns are in one class of some equalities.
 ghost use Rattle.std.specs.Prelude.{◌≡◌, IfOk};
 ghost use Rattle.berge_tree.specs.Equalities.{class_of, same_place};
 
@@ -8,7 +8,7 @@ use base_io::{NoMemory, Seq};
 use std::alloc::Global;
 use std::marker::Model;
 
-/// Equalities with the classes that they make of columns. Contracts see the equalities.
+/// Equalities, with the classes of columns that they make. Contracts see it as the equalities alone.
 #[derive(Drop)]
 pub struct Classed {
     edges: Seq<Edge>,

@@ -27,7 +27,7 @@ pub fn names_keep_entries_apart()
         → name a ≢ name b → AreApart es a b }
 {}
 
-/// Equalities of which each in turn joins two parts close no cycle.
+/// Equalities close no cycle if each in turn joins two parts.
 pub fn joined_parts_close_no_cycle()
     ensures { (es : List Edge) → joins_parts (λ e. e) es ≡ true → ClosesNoCycle es }
 {}

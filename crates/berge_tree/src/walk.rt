@@ -1,4 +1,4 @@
-//! The walk that makes the trees.
+//! Walks along the equalities and makes the trees.
 ghost use Rattle.std.specs.Prelude.{◌≡◌, ◌++◌, map, IfOk};
 ghost use Rattle.berge_tree.specs.Boxed.{classes_of, members_of, some_members_of, tree_of};
 ghost use Rattle.berge_tree.specs.Equalities.{AreWithin, ClosesNoCycle};
@@ -17,7 +17,7 @@ use std::alloc::Global;
 // An entry stands once in a tree, and there are at most sixteen.
 const DEPTH: u8 = 16;
 
-// Whether the column is the entry's, but not the one above.
+// Whether the column is one of the entry's, and not the column of the class above.
 fn is_at(column: Column, entry: u8, above: Option<u32>) -> bool
     ensures { result ≡ is_at entry above column }
 {
@@ -85,7 +85,7 @@ fn classes_at(
     }
 }
 
-// Those members of a class whose columns stand from a place on, each with all that is below it, where there are any.
+// The members of a class whose columns stand from a place on, each with all that is below it. It answers None if there are no such members.
 #[cycle(walk)]
 fn members_at(
     alloc: Global,
@@ -151,7 +151,7 @@ fn stands_below(classes: &Classes, entry: u8) -> bool
     }
 }
 
-// Whether it is one of these members, or stands below them.
+// Whether the entry is one of these members, or stands below them.
 #[cycle(standing)]
 fn stands_within(members: &Members, entry: u8) -> bool
     ensures { result ≡ is_among (entries_within (members_of members.now)) entry }
@@ -195,7 +195,7 @@ fn stands_in(trees: &[Tree], entry: u8) -> bool
     false
 }
 
-// Adds the tree of an entry, unless a tree has it.
+// Adds the tree of an entry, unless the entry is in a tree already.
 fn add_tree(
     alloc: Global,
     trees: &mut Seq<Tree>,

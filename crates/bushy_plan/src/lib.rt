@@ -1,11 +1,11 @@
 //! The best join tree. From the bound of every set of entries to the tree by which they are joined.
 //!
-//! In: a bound for each set of the FROM entries, at the number whose bits are the set, and the bound of each entry's scan.
-//! Out: the tree whose greatest bound
-//! is least, as a plan; or the least cost, where that is above the budget; or that it is past what 128 bits tell.
+//! In: a bound for each set of the FROM entries, at the number whose bits are the set, and the bound of each entry's scan. The cost of a tree
+//! is the greatest bound among its inner nodes. Out: the tree of least cost, as a plan; or the least cost, if that is above the budget; or a
+//! refusal, if 128 bits don't hold it.
 //!
-//! Callers cite `IsBestPlan` and `IsBest` for the tree, `IsTreePlan` of tree_plans for its shape, and `IsCause` for a refusal, which is one of
-//! order_search: the least cost is above the budget, or past what 128 bits tell.
+//! Callers cite `IsBestPlan` and `IsBest` for the tree, `IsTreePlan` of tree_plans for its shape, and `IsCause` for a refusal. Refusals are
+//! those of order_search.
 //!
 //! ```text
 //! let plan = choose_bushy(alloc, &bounds, &scans, budget)?;

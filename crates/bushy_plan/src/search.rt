@@ -22,7 +22,7 @@ use tree_plans::{BushyPlan, Join};
 /// root, then by the left tree, then by the right one.
 ///
 /// All bounds and the budget are in rows. A bound of 2^128 - 1 stands for all from there on.
-/// It fills two tables of 2^n numbers in 3^n steps each, of which one stands at a time: the least cost over sets, then the least sum by
+/// It fills two tables of 2^n numbers in 3^n steps each, only one of which is in memory at a time: the least cost over sets, then the least sum by
 /// trees within that cost. A set's left part has its first entry, so each tree is looked at once.
 ///
 /// `Budget` and `PastBits` come exactly where `IsCause` says; `NoMemory` where memory is wanting.

@@ -13,7 +13,7 @@ ghost use Rattle.bushy_join.specs.Trees.{node_rows, IsTreePlanOf};
 ghost use Rattle.planning.specs.Standing.{BoundLevels, BoundLists};
 
 /// Suppose that no bound of a set is below a level over lists of scanned rows, and that each scan's bound is at least the number of its
-/// listed rows and at most that of its table. Then the best tree is a plan over these lists of which no bound is too low, and so is the
+/// listed rows and at most that of its table. Then the best tree is a plan over these lists in which no bound is too low, and so is the
 /// answer of a choice within a budget of at most 4,000,000 rows.
 pub fn best_trees_are_never_under()
     ensures over_bounds { (query : Query) (tables : Tables) (lists : List (List ℕ)) (sets : List ℕ) (plan : BushyPlan)

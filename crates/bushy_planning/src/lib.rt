@@ -1,10 +1,10 @@
 //! Plans over join trees: from a query and its database to the best join tree of its entries, with the bounds of its scans and nodes.
 //!
-//! The stage before joins over a tree, as planning is before those along an order. In: a query and the tables of its entries. The bounds of
-//! all scans and of all sets of entries are planning's, whatever they were made from, and the tree of least cost over them is chosen. Out: the
-//! plan, or why there is none within the budget.
+//! This is the stage before joins over a tree, as planning is the stage before joins along an order. In: a query and the tables of its entries.
+//! The crate takes the bounds of all scans and of all sets of entries from planning, and chooses the tree of least cost over them. Out: the
+//! plan, or why no plan is within the budget.
 //!
-//! Callers cite `tree_answer` of tree_answers for the answer, and `IsTreePlanOf` of bushy_join for a plan of which no bound is too low.
+//! Callers cite `tree_answer` of tree_answers for the answer, and `IsTreePlanOf` of bushy_join for a plan in which no bound is too low.
 //! `BoundLevels` and `BoundLists` of planning say when bounds serve.
 //!
 //! ```text

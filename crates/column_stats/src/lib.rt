@@ -1,13 +1,13 @@
 //! Statistics of a filter column for a joined column, made once and asked without memory (SafeBound, SIGMOD 2023, conditional
 //! degree sequences).
 //!
-//! A plan from tables makes only the lists that its conditions ask for (`cond_stats`); these are all of them, for whoever keeps
-//! statistics, as filed_stats does. In come two columns of a table's cells; out goes a `ColumnStats` with the list of all rows, up to
-//! 32 lists of frequent values, the rest list, 32 cuts and the lists of 63 nodes.
+//! A plan from tables makes only the lists that its conditions ask for (`cond_stats`). This crate makes all of them, for a caller that keeps
+//! statistics, as a statistics file does. In: two columns of a table's cells. Out: a `ColumnStats`. It has the list of all rows, up to 32
+//! lists of frequent values, the rest list for all other values, 32 cuts, and the lists of 63 nodes.
 //!
-//! Callers cite `stats_of`, `list_for_value`, `list_for_range`, `leaf_by_cuts` and `IsValid` (in `specs/Stats.antt`). That these
-//! are the lists of `cond_stats`, and what they dominate, is in the contract of `gather`; what the list of a node dominates that is
-//! made on demand, in `laws`.
+//! Callers cite `stats_of`, `list_for_value`, `list_for_range`, `leaf_by_cuts` and `IsValid` (in `specs/Stats.antt`). The contract of
+//! `gather` says that these are the lists of `cond_stats`, and what they dominate. The laws say what the list of a node dominates that is made
+//! on demand.
 //!
 //! ```text
 //! let stats = gather(alloc, &cells, &pool, 0, 1, 1)?;   // stats ≡ stats_of pool kind 1 (rows_of_pair cells 0 1)

@@ -52,7 +52,7 @@ fn add_nodes(
     Ok(())
 }
 
-/// The lists of all nodes, of which there are none without rows.
+/// The lists of all nodes. Without rows there are no nodes.
 pub(crate) fn node_lists(
     alloc: Global,
     column: &FilterColumn<'_>,

@@ -20,13 +20,13 @@ cell_le texts kind cell other = value_le (value_of_cell texts kind cell) (value_
 abbrev pub leaf_of_value : List (List ℕ) → Kind → List ℕ → Value → ℕ
 leaf_of_value texts kind column value = leaf_above (cell_le texts kind) column (λ cut. value_le (value_of_cell texts kind cut) value)
 
--- the list of the values from one to another, both counted in, where there is one
+-- the list of the values from one to another, both counted in, if there is one
 abbrev pub list_between : List (List ℕ) → Kind → ℕ → List (ℕ × ℕ) → Option Value → Option Value → List ℕ
 list_between texts kind accuracy rows low high =
     list_of_range (cell_le texts kind) accuracy rows
     (option_map (leaf_of_value texts kind (filter_values rows)) low) (option_map (leaf_of_value texts kind (filter_values rows)) high)
 
--- a cell's value is at least the one value and at most the other, where there are such
+-- a cell's value is at least the low value and at most the high one; either may be missing
 abbrev pub is_between : List (List ℕ) → Kind → Option Value → Option Value → ℕ → Bool
 is_between texts kind None None cell = true
 is_between texts kind None (Some high) cell = value_le (value_of_cell texts kind cell) high

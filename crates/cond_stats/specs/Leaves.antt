@@ -27,7 +27,7 @@ abbrev pub last_place : (ℕ → Bool) → List ℕ → ℕ
 last_place passes [] = 0
 last_place passes (x ∷ xs) = if list_any passes xs then suc (last_place passes xs) else 0
 
--- the leaf of whatever lies above the values that pass: the last whose cut passes
+-- the leaf in which the values that pass end: the last one whose cut passes
 abbrev pub leaf_above : (ℕ → ℕ → Bool) → List ℕ → (ℕ → Bool) → ℕ
 leaf_above at_most column passes = last_place passes (cuts at_most column)
 

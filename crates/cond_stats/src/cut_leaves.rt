@@ -40,7 +40,7 @@ fn is_at_most_text(kind: Kind, pool: &Pool, cell: u64, text: &str) -> bool
     }
 }
 
-/// The last of at most 32 places whose cut is at most the number of a cell, and 0 where there is none. A cut that is a text is at most
+/// The last of at most 32 places whose cut is at most the number of a cell, and 0 if there is none. A cut that is a text is at most
 /// no number.
 pub fn leaf_of_int(kind: Kind, cuts: &[u64], number: u64) -> u8
     requires { length cuts.now ≤ 32 }
@@ -56,7 +56,7 @@ pub fn leaf_of_int(kind: Kind, cuts: &[u64], number: u64) -> u8
     leaf
 }
 
-/// The last of at most 32 places whose cut is at most a text, and 0 where there is none. A cut that is a number is at most each text.
+/// The last of at most 32 places whose cut is at most a text, and 0 if there is none. A cut that is a number is at most each text.
 pub fn leaf_of_text(kind: Kind, pool: &Pool, cuts: &[u64], text: &str) -> u8
     requires { length cuts.now ≤ 32 }
     ensures { result ≡ last_place (λ cut. value_le (value_of_cell pool.now kind cut) (Text text.now)) cuts.now }

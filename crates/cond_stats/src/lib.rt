@@ -1,9 +1,9 @@
 //! Conditional statistics: for a filter column and a joined column of one table, the lists that dominate the joined keys of the rows
 //! that a condition on the filter column leaves (SafeBound, SIGMOD 2023, conditional degree sequences).
 //!
-//! The stage after a table is read. In come columns of cells; out go compressed degree lists: of all rows, of the rows with one filter
-//! value, and of the rows with a filter value in a range. A `FilterColumn` sorts the filter column once, and makes each list when it is
-//! asked for.
+//! This is the stage after a table is read. In: columns of cells. Out: compressed degree lists of all rows, of the rows with one filter value,
+//! and of the rows whose filter value lies in a range. A `FilterColumn` sorts the filter column once, and makes each list when it is asked
+//! for it.
 //!
 //! Callers cite `compressed_degrees`, `list_of_value`, `rest`, `list_of_range` and `list_of_node` (in `specs/Lists.antt`) for the lists,
 //! `frequent` and `cuts` for the values that have lists of their own and for where leaves begin, `leaf_of_value`, `list_between` and

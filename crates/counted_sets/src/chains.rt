@@ -9,7 +9,7 @@ use base_io::NoMemory;
 use row_buf::RowBuf;
 use std::alloc::Global;
 
-/// Places are counted from 1, so that 0 says that there is none. 4 bytes for each key and for each place.
+/// Places are counted from 1, so that 0 means no place. It takes 4 bytes for each key and for each place.
 #[derive(Drop)]
 pub(crate) struct Chains {
     lasts: RowBuf<u32>,
@@ -17,7 +17,7 @@ pub(crate) struct Chains {
 }
 
 impl Chains {
-    // No place yet, and room for so many.
+    // Empty chains with room for this many keys and places.
     fn new(alloc: Global, keys: u32, places: u64) -> Result<Chains, NoMemory>
         ensures chains { IfOk result (λ chains. (key_of : ℕ → ℕ) → AreChains key_of keys 0 chains.lasts.items chains.befores.items) }
         ensures spare { IfOk result (λ chains. chains.befores.spare ≡ places) }

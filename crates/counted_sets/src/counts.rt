@@ -44,7 +44,7 @@ pub(crate) fn zeros(alloc: Global, counts: &RowBuf<u32>) -> Result<RowBuf<u32>, 
     Ok(work)
 }
 
-// Counts a slot once less, and lists it where that was the last.
+// Lowers the count of a slot by one, and lists the slot if its count is now 0.
 fn take_one(slot: u32, counts: &mut RowBuf<u32>, work: &mut RowBuf<u32>)
     requires within { slot < length counts.old.items }
     requires some { 0 < slice_index counts.old.items slot }
@@ -60,7 +60,7 @@ fn take_one(slot: u32, counts: &mut RowBuf<u32>, work: &mut RowBuf<u32>)
     }
 }
 
-/// Counts what the item gives once less.
+/// Lowers the count of each slot that the item gives.
 pub(crate) fn take_off(
     uses: &[Use],
     of_item: &Chains,

@@ -1,11 +1,12 @@
 //! The greatest consistent set of items, by counts and a worklist.
 //!
-//! In: items and slots, each by its number, and uses: while an item stands, each of its uses gives one slot and needs that another one is
-//! given. Out: which items stay when every item goes that needs a slot which no standing item gives, until nothing changes.
+//! In: items and slots, which have numbers, and uses. Each use belongs to an item; it gives one slot and needs another one. Out: the items that
+//! stay. An item goes if it needs a slot that no remaining item gives, and this is repeated until nothing changes. In reduced_scans the items
+//! are rows, and a slot is a value on one side of an equality.
 //!
-//! Callers cite `IsGreatest`, over `IsConsistent`. Each item goes at most once, each slot is listed at most once, and a use is looked at
-//! once for its item and once for the slot that it needs: so the time is linear in items, slots and uses, whatever the number of rounds.
-//! All memory is taken before the first item goes.
+//! Callers cite `IsGreatest`, over `IsConsistent`. Each item goes at most once and each slot is listed at most once. A use is looked at once
+//! for its item and once for the slot that it needs. So the time is linear in items, slots and uses, whatever the number of rounds. All memory
+//! is taken before the first item goes.
 #![tactic(auto)]
 
 mod chains;

@@ -11,7 +11,7 @@ use base_io::NoMemory;
 use row_buf::RowBuf;
 use std::alloc::Global;
 
-// Takes an item away, with what it gives. One that isn't marked gives nothing any more.
+// Removes an item, with what it gives. An item that isn't marked was removed before and gives nothing.
 fn remove(
     uses: &[Use],
     of_item: &Chains,
@@ -36,7 +36,7 @@ fn remove(
     take_off(uses, of_item, item, counts, work);
 }
 
-// Takes away every item that needs a slot which is given no more.
+// Removes every item that needs a slot which no item gives any more.
 fn remove_needing(
     uses: &[Use],
     of_item: &Chains,
@@ -74,7 +74,7 @@ fn remove_needing(
     }
 }
 
-/// Marks the items that stay when every item goes that needs a slot which no standing item gives, until nothing changes.
+/// Marks the items that stay. An item goes if it needs a slot that no remaining item gives; this is repeated until nothing changes.
 pub fn reduce(alloc: Global, items: u32, slots: u32, uses: &[Use]) -> Result<RowBuf<bool>, NoMemory>
     requires uses { All (IsUseOf items slots) uses.now }
     requires few { length uses.now < 2 ^ 32 }

@@ -1,4 +1,4 @@
-/// While the item stands it gives the one slot, and it needs that the other one is given.
+/// While the item stays, it gives one slot and needs another one.
 #[derive(Clone, Copy, Debug, PartialEq, Eq)]
 pub struct Use {
     pub item: u32,

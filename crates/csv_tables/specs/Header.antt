@@ -23,7 +23,7 @@ only (x ∷ y ∷ rest) = None
 abbrev pub column_place : List ℕ → Record → Option ℕ
 column_place name header = only (places_from 0 name header)
 
--- the places of the columns, of which the first has this number; the first column without one is refused
+-- the places of the columns; the first column has this number; the first column without one is refused
 abbrev pub column_places : ℕ → List Column → Record → Result (List ℕ) TableError
 column_places number [] header = Ok []
 column_places number (column ∷ columns) header =

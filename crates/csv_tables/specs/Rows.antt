@@ -28,7 +28,7 @@ row_of_record columns places width number fields =
     (refuse_if (not (length fields == width)) (error.Width number (length fields))
     (values_of_record number 0 columns places fields))
 
--- the rows of records, of which the first has this number
+-- the rows of records; the first record has this number
 abbrev pub rows_of_records : List Column → List ℕ → ℕ → ℕ → List Record → Result (List Row) TableError
 rows_of_records columns places width number [] = Ok []
 rows_of_records columns places width number (fields ∷ records) =

@@ -37,8 +37,8 @@ fn place_of(name: &[u8], header: &ByteRecord) -> Option<usize>
     found
 }
 
-/// The places of the columns in a header. The first column that no field names, or more than one
-/// does, is refused.
+/// The places of the columns in a header. It refuses the first column that no field names, or that
+/// several fields name.
 pub(crate) fn places_of(
     alloc: Global,
     columns: &[Column],

@@ -1,4 +1,4 @@
-//! Records that repeat the values of a key.
+//! Checks declared keys: finds the first record that repeats the values of a key.
 ghost use Rattle.std.specs.Prelude.{◌≡◌, ◌<◌, ◌≤◌, ℕ, All, IfErr, IfOk, Ok, OnOk, Some, false, if◌then◌else◌, length, slice_index, true, unwrap_or};
 ghost use Rattle.std.specs.HashMap.{get};
 ghost use Rattle.limits.specs.Profile.{most_rows};
@@ -17,7 +17,7 @@ use schema_types::Table;
 use std::alloc::Global;
 use std::collections::HashMap;
 
-// The place that is kept for a pair, which is this one where none is.
+// The place that is kept for a pair. If none is kept yet, this place is kept.
 fn first_of(seen: &mut HashMap<(u32, u64), u32>, pair: (u32, u64), at: u32) -> Result<u32, NoMemory>
     ensures first { IfOk result (λ first. first ≡ unwrap_or (get same_pair seen.old pair) at) }
     ensures kept { IfOk result (λ first. (q : ℕ × ℕ)
@@ -30,7 +30,7 @@ fn first_of(seen: &mut HashMap<(u32, u64), u32>, pair: (u32, u64), at: u32) -> R
     Ok(at)
 }
 
-// Numbers each place by the first one with the same number and the same cell.
+// Gives each place the number of the first place that has the same number and the same cell.
 fn number_pairs(alloc: Global, group: &mut [u32], cells: &[u64]) -> Result<(), NoMemory>
     requires long { length group.old ≡ length cells.now }
     requires few { length cells.now ≤ most_rows }
@@ -61,7 +61,7 @@ fn repeat_in(group: &[u32]) -> Option<Repeat>
     None
 }
 
-// Whether each cell is greater than the one before it, which takes no memory to find out.
+// Whether each cell is greater than the one before it. This test takes no memory.
 fn ascends(cells: &[u64]) -> bool
     ensures { result ≡ true → (i j : ℕ) → i < j → j < length cells.now → slice_index cells.now i < slice_index cells.now j }
 {
@@ -99,7 +99,7 @@ fn repeat_of_key(
     requires few { rows ≤ most_rows }
     ensures { IfOk result (IsRepeat columns.now key.now rows) }
 {
-    // Keys mostly ascend in their file, and then no table of what was seen is needed.
+    // Keys mostly ascend in their file. Then no table of seen values is needed.
     if has_ascending(key, columns, rows) {
         return Ok(None);
     }
@@ -110,7 +110,7 @@ fn repeat_of_key(
     Ok(repeat_in(&group))
 }
 
-/// Whether no rows repeat the values of a key. The first key in declared order that has a repeat is refused.
+/// Checks that no two rows have the same values in a key. It refuses the first key, in declared order, that has a repeat.
 pub(crate) fn check_keys(
     alloc: Global,
     table: &Table,
@@ -126,7 +126,7 @@ pub(crate) fn check_keys(
     ensures refused { let stated = rows_of_columns pool.now (kinds_of table.now.columns) columns.now rows
         in IfErr result (Refuses (rows_with_keys table.now.keys stated)) }
 {
-    // The pool says with its length that its texts are different, so equal values have equal cells.
+    // The contract of `len` says that the pool's texts are different, so equal values have equal cells.
     let _count = pool.len();
     'keys: for key in table.keys.as_slice() {
         if let Some(repeat) = repeat_of_key(alloc, key.as_slice(), columns, rows)? {

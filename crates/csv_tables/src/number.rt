@@ -1,11 +1,11 @@
-//! The number that a field spells.
+//! Reads the number that a field spells.
 ghost use Rattle.std.specs.Prelude.{◌≡◌, ◌<◌, ◌≤◌, ◌^◌, false, length, option_map, true};
 ghost use Rattle.csv_tables.specs.Numbers.{greatest, number_of as spelled, signed, size_of as spelled_size};
 
-// So many digits spell a number below 10^18, so no step has to look for one that is too large.
+// This many digits spell a number below 10^18, so no step has to test for overflow.
 const SHORT: usize = 18;
 
-// The number that one to eighteen digits spell, where they are digits and spell at most so much.
+// The number that one to eighteen digits spell. It answers None if they aren't digits or spell more than the limit.
 #[tactic(auto, using(crate::proofs::NumberFacts::short_steps))]
 fn short_size(digits: &[u8], most: u64) -> Option<u64>
     requires some { 0 < length digits.now }
@@ -25,7 +25,7 @@ fn short_size(digits: &[u8], most: u64) -> Option<u64>
     Some(size)
 }
 
-// The number that one or more digits spell, where they are digits and spell at most so much.
+// The number that one or more digits spell. It answers None if they aren't digits or spell more than the limit.
 fn long_size(digits: &[u8], most: u64) -> Option<u64>
     requires some { 0 < length digits.now }
     requires most { most ≤ 2 ^ 63 }
@@ -45,7 +45,7 @@ fn long_size(digits: &[u8], most: u64) -> Option<u64>
     Some(size)
 }
 
-// The number that digits spell, where they are digits and spell at most so much.
+// The number that digits spell. It answers None if there are none, if they aren't digits, or if they spell more than the limit.
 fn size_of(digits: &[u8], most: u64) -> Option<u64>
     requires { most ≤ 2 ^ 63 }
     ensures { result ≡ spelled_size most digits.now }
@@ -76,7 +76,7 @@ fn at_most_zero(digits: &[u8]) -> Option<i64>
     Some((-(size as i128)) as i64)
 }
 
-/// The number that a field spells: a sign or none, then digits, in the signed range of 64 bits.
+/// The number that a field spells: an optional sign and then digits, in the signed range of 64 bits.
 pub(crate) fn number_of(field: &[u8]) -> Option<i64>
     ensures { result ≡ spelled field.now }
 {

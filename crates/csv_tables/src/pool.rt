@@ -46,7 +46,7 @@ impl Pool {
         self.texts.len()
     }
 
-    /// The number of a text, where the pool has it.
+    /// The number of a text, if the pool has it.
     pub fn find(&self, text: &str) -> Option<u32>
         ensures { result ≡ position (bytes_eq text.now) self.now }
     {
@@ -72,8 +72,8 @@ impl Pool {
         self.texts[cell as usize].as_str()
     }
 
-    /// The number of a text, which the pool has then: a new text goes last. Where memory is wanting
-    /// the pool stays as it was.
+    /// The number of a text. If the text is new, it is added at the end of the pool. If there is too
+    /// little memory, the pool stays as it was.
     pub fn intern(&mut self, text: &str) -> Result<u32, NoMemory>
         requires { length self.old < 4294967295 }
         ensures number { IfOk result (λ code. slice_get self.new code ≡ Some text.now) }

@@ -1,4 +1,4 @@
-//! The records of a file, one after another.
+//! Reads the records of a file, one after another.
 ghost use Rattle.std.specs.Prelude.{◌≡◌, ◌≤◌, ◌∷◌, [], length, true, false, IfOk, IsUtf8};
 ghost use Rattle.limits.specs.Profile.{most_file};
 ghost use Rattle.csv.specs.Reading.{strip_bom};
@@ -22,7 +22,7 @@ pub(crate) fn open_records<'a>(alloc: Global, bytes: &'a [u8]) -> Reader<&'a [u8
         .from_reader(alloc, bytes)
 }
 
-/// Takes the next record, or answers that there is none. `row` is used again for each.
+/// Reads the next record into `row`, or answers that there is no further one.
 pub(crate) fn next_record(
     reader: &mut Reader<&[u8]>,
     row: &mut ByteRecord,

@@ -1,4 +1,4 @@
-//! A table's cells from its file.
+//! Reads a table's cells from its file.
 ghost use Rattle.std.specs.Prelude.{◌≡◌, ◌<◌, ◌≤◌, ◌+◌, false, Err, IfErr, IfOk, IsUtf8, Ok, OnErr, OnOk, length};
 ghost use Rattle.std.specs.Str.{is_utf8};
 ghost use Rattle.std.specs.Str.Lossy.{utf8_valid_len};
@@ -51,7 +51,7 @@ fn kinds(alloc: Global, columns: &[Column]) -> Result<Seq<Kind>, NoMemory>
     Ok(Seq::from_vec(kinds))
 }
 
-// The columns of a file's records under its header, and how many records they are.
+// The columns of cells of a file's records below its header, and the number of records.
 fn read_columns(
     alloc: Global,
     columns: &[Column],
@@ -85,7 +85,7 @@ fn read_columns(
 /// Reads the cells of a table from its file of at most 64 MiB, close to RFC 4180 as the crate `csv`
 /// reads it. The texts of the file are put into the pool.
 ///
-/// After every answer the pool begins with its old texts in their places.
+/// Whatever it answers, the pool still begins with its old texts, in their places.
 pub fn read_table(
     alloc: Global,
     table: &Table,

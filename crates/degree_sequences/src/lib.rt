@@ -1,7 +1,7 @@
 //! Falling lists of degrees: what a degree list is, when a list dominates keys, and what is made of such lists.
 //!
-//! The bounds of a query stand on these definitions: statistics are lists of degrees, compressed, and a
-//! bound is made of them by products rank by rank and by composition along a tree of joins. Degree lists and
+//! The bounds of a query rest on these definitions. Statistics are compressed lists of degrees. A bound is made from them by
+//! products rank by rank and by composition along a tree of joins. Degree lists and
 //! domination are those of SafeBound (SIGMOD 2023), products and composition those of Degree Sequence Bound
 //! (ICDT 2023), compression by heads is this project's own. Nothing here runs: the crate is
 //! definitions, their lemmas, and two modules of laws and examples, each the contract of an empty function.

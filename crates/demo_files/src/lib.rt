@@ -1,10 +1,10 @@
 //! The files of a shop, made in memory, so that a first run needs no files.
 //!
-//! In comes a number, which shifts who ordered what. Out comes a store that never fails, with a schema, a query and
-//! the files of four tables.
+//! In: a number, which shifts who ordered what. Out: a store with a schema, a query and the files of four tables. No read
+//! of it fails.
 //!
 //! Callers cite `demo_files` (in `specs/Files.antt`), the files by their names. `specs/Shop.antt` says which records
-//! the tables have, and the law `files_are_read_back` that a reader of CSV finds just these in the files.
+//! the tables have. The law `files_are_read_back` says that a reader of CSV finds exactly these records in the files.
 //!
 //! ```text
 //! let store = demo_store(alloc, 7)?;

@@ -43,7 +43,7 @@ pub record IsTold (query : Query) (file : StatsFile) (entry : ℕ) (stats : Entr
   pub columns : map (λ gathered. gathered.column) stats.columns ≡ asked_columns entry (equalities_of query)
   pub steps : All (AreFiledSteps (section_for query file entry) (needs_of query entry) (steps_of entry query.conjuncts)) stats.columns
 
--- why a file tells nothing of a query: the first entry of which something is missing; or memory was wanting
+-- why a file tells nothing of a query: the first entry for which something is missing; or memory was wanting
 abbrev pub IsNeedCause : Query → StatsFile → NeedError → Type 0
 IsNeedCause query file (error.Missing from) = first_missing query file ≡ Some from
 IsNeedCause query file error.NoMemory = ⊤

@@ -28,6 +28,6 @@ abbrev pub unless_missing : Option ℕ → Result Plan PlanError → Result Plan
 unless_missing (Some from) plan = Err (error.Missing from)
 unless_missing None plan = where_told plan
 
--- the plan of a query from a file; or the first entry of which something is missing; or why there is no plan within the budget
+-- the plan of a query from a file; or the first entry for which something is missing; or why there is no plan within the budget
 unfoldable pub filed_plan : Query → StatsFile → ℕ → Result Plan FiledPlanError
 filed_plan query file budget = unless_missing (first_missing query file) (planned_by_file query file budget)

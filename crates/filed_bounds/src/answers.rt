@@ -40,7 +40,7 @@ fn leaf_of(pair: &Pair, literal: &Literal) -> u8
     leaf
 }
 
-// The leaf of an end of a range, where there is one.
+// The leaf of an end of a range, if there is one.
 fn end_leaf(pair: &Pair, end: &Option<Literal>) -> Option<u8>
     requires { length pair.now.cuts ≤ 32 }
     ensures leaf { result ≡ option_map (leaf_of_value pair.now) (option_map value_of end.now) }

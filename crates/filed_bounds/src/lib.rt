@@ -1,7 +1,7 @@
 //! Bounds and plans from a file of statistics: what the file tells of the entries of a query, and the best order by it, without a table.
 //!
 //! In: a query, and a `StatsFile` that keeps the rules. Out: the `QueryStats` that its bounds are made from, as gathered_stats makes them
-//! from tables, or the first FROM entry of which the file lacks a section or a pair; and the best order with its bounds by what is told, or
+//! from tables, or the first FROM entry for which the file lacks a section or a pair; and the best order with its bounds by what is told, or
 //! why there is none.
 //!
 //! Callers cite `filed_statistics` (in `specs/Filed.antt`) for what is told, `first_missing` (in `specs/Found.antt`) for what may be missing,

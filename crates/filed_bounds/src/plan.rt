@@ -40,7 +40,7 @@ fn known_by_file(alloc: Global, query: &Query, file: &StatsFile) -> Result<Known
 /// The best order of the FROM entries by what a file of statistics tells of them (SafeBound, SIGMOD 2023), with the bounds of its scans and
 /// levels, in rows; or why there is none. No table is read. The budget is at most 20,000,000 rows.
 ///
-/// `Missing` names the first entry of which the file lacks something, before any bound is made. `Budget` and `PastBits` come exactly where
+/// `Missing` names the first entry for which the file lacks something, before any bound is made. `Budget` and `PastBits` come exactly where
 /// `filed_plan` says; `NoMemory` where memory is wanting.
 pub fn plan_from_file(
     alloc: Global,

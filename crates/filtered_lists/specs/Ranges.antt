@@ -5,7 +5,7 @@ use Rattle.std.specs.Ordering.{is_lt, is_gt}
 use Rattle.csv_tables.specs.Values.{Value, value_cmp}
 use Rattle.degree_sequences.specs.Degrees.{different}
 
--- the values of a column from a low end to a high end, both included, where there are such ends
+-- the values of a column from a low end to a high end, both included; either end may be missing
 pub record Range : Type 0 where
   pub column : ℕ
   pub low : Option Value
@@ -27,12 +27,12 @@ abbrev pub lower_of : Value → Option Value → Value
 lower_of value None = value
 lower_of value (Some other) = if is_gt (value_cmp value other) then other else value
 
--- the greatest of values, where there is one
+-- the greatest of values, if there is one
 abbrev pub greatest : List Value → Option Value
 greatest [] = None
 greatest (value ∷ values) = Some (greater_of value (greatest values))
 
--- the least of values, where there is one
+-- the least of values, if there is one
 abbrev pub least : List Value → Option Value
 least [] = None
 least (value ∷ values) = Some (lower_of value (least values))

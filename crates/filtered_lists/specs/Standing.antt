@@ -17,7 +17,7 @@ use Rattle.filtered_lists.specs.Ranges.{Range}
 abbrev pub value_in_row : Tables → ℕ → ℕ → ℕ → Value
 value_in_row tables entry column row = column_value tables (λ e. row) (record { from = entry; column = column })
 
--- it is at least the low end, and at most the high end, where there are such
+-- it is at least the low end and at most the high end; either end may be missing
 abbrev pub is_from : Option Value → Value → Bool
 is_from None value = true
 is_from (Some low) value = is_ge (value_cmp value low)

@@ -8,7 +8,7 @@ use Rattle.gathered_stats.specs.declared.rests.RestList.{RestList}
 use Rattle.gathered_stats.specs.Columns.{cells_in}
 use Rattle.gathered_stats.specs.Seen.{seen}
 
--- whether a value, by its cell, is one of the frequent ones of a column. A text that the pool doesn't have is none of them
+-- whether a value, by its cell, is one of the frequent values of a column. A text that the pool doesn't have isn't frequent
 abbrev pub among_frequent : List ℕ → Option ℕ → Bool
 among_frequent column None = false
 among_frequent column (Some cell) = list_any (λ other. other == cell) (frequent column)

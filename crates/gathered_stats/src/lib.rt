@@ -1,11 +1,14 @@
 //! From a query and its tables to the statistics that its bounds ask for.
 //!
-//! The stage between the tables and the bounds. In: a query, its database and an accuracy. Out: for each FROM entry and each
-//! column that the entry joins, the steps of the entry's own conjuncts, each with its list (SafeBound, SIGMOD 2023). A list is made
-//! only where a step asks for it. A filter column is sorted once an entry, and an entry without conditions sorts none. The rest list
-//! of a filter column is made once for each joined column, where a value needs it, and copied for each further value. `gather_beside` gathers
-//! the same of rows of an entry's table, for the joined columns of another entry, whose rows stand beside them. Where these are all rows
-//! of their table, the list of all rows is that of the other entry's own steps.
+//! This is the stage between the tables and the bounds. In: a query, its database and an accuracy. Out: for each FROM entry and each column that
+//! the entry joins, the steps of the entry's own conjuncts, each with its list (SafeBound, SIGMOD 2023).
+//!
+//! A list is made only if a step asks for it. A filter column is sorted once for each entry; an entry without conditions sorts no column. The
+//! rest list of a filter column is made once for each joined column, if a value needs it, and copied for each further value.
+//!
+//! `gather_beside` is for conditions that are carried along a reference to a key. Each row of one entry stands beside the row of another entry
+//! to which it refers. The filter columns are those of the second entry, and the joined columns are those of the first. If the rows are all
+//! rows of the first entry's table, the list of all rows is taken from that entry's own steps.
 //!
 //! Callers cite `statistics_of` (in `specs/Statistics.antt`) for what the answer tells, and `IsGatheredBeside` for rows beside a table's own.
 //!

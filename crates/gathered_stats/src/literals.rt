@@ -63,7 +63,7 @@ fn leaf_of(column: &FilterColumn<'_>, literal: &Literal) -> u8
     }
 }
 
-/// The leaf of an end of a range, where there is one.
+/// The leaf of an end of a range, if there is one.
 pub(crate) fn end_leaf(column: &FilterColumn<'_>, end: &Option<Literal>) -> Option<u8>
     ensures leaf { result ≡ option_map (leaf_of_value column.now.texts column.now.kind column.now.cells) (option_map value_of end.now) }
     ensures below { IfSome result (λ leaf. leaf < 32) }

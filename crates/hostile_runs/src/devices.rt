@@ -1,4 +1,4 @@
-//! A join of two tables over devices of which one call fails.
+//! A join of two tables over devices one of whose calls fails.
 use base_io::{MemSink, MemStore, Name, NoMemory, Seq, Sink, Store};
 use safebound_top::safebound;
 use slow_devices::{SlowSink, SlowStore};

@@ -1,7 +1,7 @@
 //! How many rows an outer join, a semi-join or an anti-join has at most, from bounds of the inner join and of both tables.
 //!
-//! In come three bounds in 64 bits, of which 2^64 - 1 stands for all from there on; out goes one. What a joined table is stands in
-//! specs/Tables, as SQL-92 defines it.
+//! It is given three bounds of 64 bits, and answers one. 2^64 - 1 stands for every number from there on. specs/Tables defines joined tables as
+//! SQL-92 does.
 //!
 //! Callers cite `joined` for the rows of a joined table, `most_joined` for the number that is answered, and `IsWithin` for what a bound says.
 #![tactic(auto)]

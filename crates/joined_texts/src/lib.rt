@@ -1,10 +1,10 @@
 //! The texts of a query of any number of FROM entries, after its execution: the rows text and the audit text.
-//! Nothing here takes memory, so nothing here can want it.
+//! Nothing here takes memory, so nothing here can run out of it.
 //!
-//! The last stage of a run. In come the levels that `hash_join` listed, or the nodes of a join tree that `bushy_join`
-//! listed, the plan or its order, the query and its database; out go bytes to a sink, through one buffer on the stack.
-//! The row numbers of each choice, which stand in the order of the plan or of the tree's leaves, are put at the places
-//! of their entries, and the outputs are printed.
+//! This is the last stage of a run. In: the levels that `hash_join` listed, or the nodes of a join tree that `bushy_join`
+//! listed; the plan or its order, the query and its database. Out: bytes to a sink, through one buffer on the stack.
+//! The row numbers of a choice are in the order of the plan, or of the tree's leaves. They are sorted into FROM order, and
+//! then the outputs are printed.
 //!
 //! Callers cite `printed_rows` and `level_counts`, of trees `selected_rows` and `node_counts` (in `specs/Printed.antt`),
 //! beside `rows_lines`, `audit_lines` and `tree_audits` of printed_texts. What `execute(reserved, &order, &query, &db)`

@@ -25,7 +25,7 @@ fn put_node<N: Sink>(
     put_row_count(rows, buffer, sink)
 }
 
-// A line for each inner node, of which the first has this number.
+// A line for each inner node; the first one has this number.
 fn put_nodes<N: Sink>(
     done: &BushyDone,
     first: u8,

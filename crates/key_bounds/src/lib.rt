@@ -1,12 +1,12 @@
 //! Bounds of all sets and plans of a query where conjuncts are carried along references to keys.
 //!
-//! In: a query, its schema and its tables. Where the schema declares a reference to a key and an equality joins the two columns, the own conjuncts
-//! of the entry that is referred to say which rows of the other entry may take part in a choice for any set with both. Out: what is
-//! known of each entry in each set (`KeyLists`, which is a `KnownInSets`), and the bounds of all sets by it (`from_keys`); the bounds of scans
-//! are those of each table by itself.
+//! In: a query, its schema and its tables. Suppose that the schema declares a reference to a key, and that an equality of the query joins the
+//! two columns. Then, in a set with both entries, only those rows of the referring entry count that refer to a row which the other entry's own
+//! conjuncts leave. Out: row bounds and lists of each entry in each set (`KeyLists`, which is a `KnownInSets`), and the bounds of all sets
+//! (`from_keys`). The bounds of scans are those of each table by itself.
 //!
-//! Callers cite `bounds_by_keys` for what is known in a set, `planned_by_keys` for the plan, and `KeysHold` of key_carriers for what the
-//! tables have to keep. They take from the laws that no bound is too low, and none is above the one without carried conjuncts.
+//! Callers cite `bounds_by_keys` for what is known in a set, `planned_by_keys` for the plan, and `KeysHold` of key_carriers for the keys that
+//! have to hold in the tables. The laws say that no bound is too low, and that no bound is above the one without carried conjuncts.
 #![tactic(auto)]
 
 mod carrying;

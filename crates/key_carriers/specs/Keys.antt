@@ -17,7 +17,7 @@ abbrev pub AreApart : Tables → ℕ → ℕ → Type 0
 AreApart tables entry column = (row other : ℕ) → row < row_counts tables entry → other < row_counts tables entry
     → is_eq (value_cmp (value_at tables entry column row) (value_at tables entry column other)) ≡ true → row ≡ other
 
--- so it is in each column that the query's equalities name and that alone is a key of its table
+-- this holds of each column that the query's equalities name and that alone is a key of its table
 abbrev pub KeysHold : Schema → Query → Tables → Type 0
 KeysHold schema query tables =
     EachNamedColumn (λ entry column. is_key schema (table_of query entry) column ≡ true → AreApart tables entry column) (equalities_of query)

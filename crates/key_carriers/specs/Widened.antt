@@ -20,7 +20,7 @@ with_row row other = (row, other)
 abbrev pub widened_row : Tables → Edge → ℕ → Option (ℕ × ℕ)
 widened_row tables e row = option_map (with_row row) (partner tables e row)
 
--- all such rows in file order. A row that refers to nothing is none of them
+-- all of these rows in file order. A row that refers to nothing is left out
 abbrev pub widened : Tables → Edge → List (ℕ × ℕ)
 widened tables e = filter_map (widened_row tables e) (range_with_len 0 (row_counts tables e.left.entry))
 

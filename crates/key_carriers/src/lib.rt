@@ -2,8 +2,8 @@
 //! a row of such an entry.
 //!
 //! In: a query in parts, its schema and its tables. Out: the equalities along which conjuncts are carried (`carriers`), and for each of them
-//! the widened table as row numbers (`widened`): the rows that refer to a row, each with that row. No row is copied. A row that refers to
-//! nothing is left out, so that nothing rests on references being kept.
+//! the widened table (`widened`). It has pairs of row numbers: a row that refers to a row of the other table, and that row. No row is copied.
+//! A row that refers to nothing is left out. So nothing here assumes that every reference has its row.
 //!
 //! Callers cite `carriers` and `carriers_to` for who carries, `widened`, `referring` and `referred` for the widened table,
 //! `rows_referring` for the rows that refer to a row of the carrier's scan, and `KeysHold` for tables whose keys hold.

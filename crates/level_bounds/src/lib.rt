@@ -1,10 +1,10 @@
 //! Levels and their bounds: the laws that join what a query means with the bounds of its sets of entries.
 //!
-//! In: what a query means over its tables (`sql_meaning`), and the bound of a set of entries (`tree_bounds`). Out: laws,
-//! and nothing that runs.
+//! In: what a query means over its tables (`sql_meaning`), and the bound of a set of entries (`tree_bounds`). Out: laws;
+//! nothing here runs.
 //!
-//! - No level over the entries of a set has more rows than the set's bound, in whatever order they stand, where the bounds
-//!   of the entries are at least what their scans have.
+//! - If the bounds of the entries are right for their scans, no level over the entries of a set has more rows than the
+//!   set's bound, in whatever order they are joined.
 //! - The last level of any order of all entries is the answer of the query, as a multiset.
 //! - Without conjuncts on one entry alone, the bound of a set is near that of the whole tables' degree lists (SafeBound,
 //!   SIGMOD 2023).

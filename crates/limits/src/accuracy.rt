@@ -3,8 +3,8 @@ ghost use Rattle.limits.specs.Profile.{most_accuracy};
 
 use std::marker::Model;
 
-/// The accuracy of compressed lists, from 1 to 64, which contracts see as its number: the larger it is, the nearer are the lists and the more
-/// runs they have.
+/// The accuracy of compressed lists, from 1 to 64. A higher accuracy gives lists that are nearer to the uncompressed ones and have more
+/// runs. Contracts see it as its number.
 #[derive(Clone, Copy)]
 pub struct Accuracy {
     value: u8,

@@ -1,7 +1,7 @@
 //! The limits within which texts are read and queries are planned, each named once: here for the code, and in specs/Profile for contracts.
-//! An accuracy within its limits is a type.
 //!
-//! Callers cite the names of specs/Profile.
+//! An accuracy has a type of its own, `Accuracy`, so that every value of it is within its limits. Contracts cite the names of
+//! specs/Profile, as `most_rows` for `MOST_ROWS`.
 #![tactic(auto)]
 
 ghost use Rattle.std.specs.Prelude.{◌≡◌};

@@ -28,7 +28,7 @@ pub data SameHead : List Lexeme → List Lexeme → Type 0 where
   nothing : SameHead [] []
   token : (t : Lexeme) (xs ys : List Lexeme) → SameHead (t ∷ xs) (t ∷ ys)
 
--- what was read up to where it stopped: a text of the value, or a viable prefix where there is none
+-- what was read up to where it stopped: a text of the value, or a viable prefix if there is none
 abbrev pub Spelled : {A : Type 0} → Language A → List Lexeme → Option A → Type 0
 Spelled L front None = IsViablePrefix L front
 Spelled L front (Some value) = L front value

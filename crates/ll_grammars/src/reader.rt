@@ -83,7 +83,7 @@ impl<'a> Reader<'a> {
         is_taken
     }
 
-    /// Where the next token begins, or the text's end where there is none.
+    /// Where the next token begins, or the text's end if there is none.
     pub fn place(&self, end: u32) -> u32
         ensures { result ≡ place self.now end }
     {

@@ -1,7 +1,8 @@
-//! The reservations of two small plans, an order and a join tree, of which tools/memory-bytes counts the requests for memory.
+//! Reserves the buffers of two small plans, an order and a join tree, while tools/memory-bytes counts the requests for memory.
 //!
-//! The word `take-order` has the one reserved and `take-trees` the other, and `tell-plans`, which is as long, neither; so what the first two
-//! ask of the allocator beyond the last is the reservation. Either way the bytes are told that each plan is to take.
+//! With the word `take-order` the program reserves for the order, and with `take-trees` for the tree. With `tell-plans`, a word of the same
+//! length, it reserves for neither. So whatever the first two request beyond the third is the reservation. In each case the program prints
+//! how many bytes each plan is to take.
 #![tactic(auto)]
 
 ghost use Rattle.std.specs.Prelude.{IfOk, length};

@@ -1,7 +1,8 @@
 //! The best order. From the bound of every set of entries to the left-deep order in which they are joined.
 //!
-//! In: a bound for each set of the FROM entries, at the number whose bits are the set, and the bound of each entry's scan. Out: the order
-//! whose greatest bound is least, with the bounds of its prefixes; or the least cost, where that is above the budget.
+//! In: a bound for each set of the FROM entries, at the number whose bits are the set, and the bound of each entry's scan. The cost of an order
+//! is the greatest bound among its prefixes. Out: the order of least cost, with the bounds of its prefixes. If the least cost is above the
+//! budget, it is answered in place of an order.
 //!
 //! Callers cite `IsBest`, `levels` and `cost` for a plan, `IsPlan` of plans, and `IsCause` for a refusal.
 //!

@@ -1,4 +1,4 @@
-//! Why nothing is chosen.
+//! Why no plan is chosen.
 ghost use Rattle.std.specs.Prelude.{◌≡◌};
 ghost use Rattle.order_search.specs.declared.refusal.PlanError.TheVariants as error;
 
@@ -10,7 +10,7 @@ use std::alloc::AllocError;
 pub enum PlanError {
     /// The least cost of a plan, in rows, is above the budget, and 128 bits tell it.
     Budget { least: u128 },
-    /// The least cost is above 2^128 - 2. The bound 2^128 - 1 stands for all from there on.
+    /// The least cost is above 2^128 - 2. The bound 2^128 - 1 stands for every number from there on.
     PastBits,
     /// Memory was wanting.
     NoMemory,

@@ -1,4 +1,4 @@
-//! The search.
+//! Searches the best order: least cost first, then the least sum among the orders of that cost.
 ghost use Rattle.std.specs.Prelude.{◌≡◌, ◌≤◌, ◌<◌, ◌^◌, length, IfErr, IfOk};
 ghost use Rattle.limits.specs.Profile.{greatest_budget, most_entries};
 ghost use Rattle.order_search.specs.Causes.{IsCause};
@@ -15,15 +15,15 @@ use limits::TOP_BOUND;
 use plans::Plan;
 use std::alloc::Global;
 
-/// The best order of n entries, n from 1 to 12, over a bound for each of the 2^n sets: the order of least cost, which is the greatest bound
-/// of its first k entries, k from 1; among those the one of least sum of these bounds; among those the first in lexicographic order.
+/// The best order of n entries, n from 1 to 12, over a bound for each of the 2^n sets. The cost of an order is the greatest bound of its first k
+/// entries, k from 1 to n. The best order has the least cost; among those of this cost the least sum of these bounds; and among those of this
+/// sum it is the first in lexicographic order.
 ///
-/// All bounds and the budget are in rows. A bound of 2^128 - 1 stands for all from there on.
-/// It fills two tables of 2^n numbers in n 2^n steps each, of which one stands at a time: the least cost over sets, then the least sum by
-/// ways within that cost. To choose left-deep orders by tables over sets is from *Access Path Selection in a Relational Database Management
-/// System* (Selinger and others, SIGMOD 1979).
+/// All bounds and the budget are in rows. A bound of 2^128 - 1 stands for every number from there on. It fills two tables of 2^n numbers, one
+/// after the other, in n 2^n steps each: first the least cost of each set, then the least sum of orders within that cost. Tables over sets for
+/// left-deep orders are from *Access Path Selection in a Relational Database Management System* (Selinger and others, SIGMOD 1979).
 ///
-/// `Budget` and `PastBits` come exactly where `IsCause` says; `NoMemory` where memory is wanting.
+/// It answers `Budget` and `PastBits` exactly where `IsCause` says, and `NoMemory` if there is too little memory.
 pub fn choose(
     alloc: Global,
     bounds: &Seq<u128>,

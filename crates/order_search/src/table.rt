@@ -1,4 +1,4 @@
-//! The least weight for each set of entries that are left. A set comes after all that it holds, since its number is greater.
+//! The least weight for each set of entries that are still to be joined. Subsets have smaller numbers, so they are filled in first.
 ghost use Rattle.std.specs.Prelude.{◌≡◌, ◌-◌, ◌^◌, ◌<◌, ◌≤◌, length, IfOk};
 ghost use Rattle.std.specs.Int.{bit_at};
 ghost use Rattle.limits.specs.Profile.{most_entries};
@@ -9,7 +9,7 @@ use base_io::NoMemory;
 use entry_sets::EntrySet;
 use std::alloc::Global;
 
-// The weight of the lightest way on which the entry comes next.
+// The weight of the lightest way on which this entry comes next.
 #[tactic(auto, using(entry_sets::proofs::Bits::less_without))]
 pub(crate) fn weight_through(
     weight: Weight,

@@ -1,4 +1,4 @@
-//! The first of the lightest ways, read off the table from its first entry on.
+//! Reads the first of the lightest ways off the table, from its first entry on.
 ghost use Rattle.std.specs.Prelude.{◌≡◌, ◌-◌, ◌^◌, ◌<◌, ◌≤◌, ◌↔◌, ℕ, length, slice_index, IfOk, IsTrue};
 ghost use Rattle.limits.specs.Profile.{most_entries, top_bound};
 ghost use Rattle.order_search.specs.Ways.{BeginsLightest, IsFirstLightest, IsTable};
@@ -44,7 +44,7 @@ fn next_entry(weight: Weight, count: u8, bounds: &[u128], table: &[u128], left: 
     entry
 }
 
-// The first of the lightest ways through all entries, where they are lighter than the heaviest that there is.
+// The first of the lightest ways through all entries, if they are lighter than the greatest weight.
 pub(crate) fn first_lightest(
     alloc: Global,
     most: u128,

@@ -1,4 +1,4 @@
-//! What the search keeps small.
+//! Weights: what the search makes least, the greatest bound on a way or the sum of its bounds.
 ghost use Rattle.std.specs.Prelude.{◌≡◌};
 ghost use Rattle.order_search.specs.Ways.{joined as joined_of};
 
@@ -9,12 +9,12 @@ use limits::TOP_BOUND;
 pub(crate) enum Weight {
     /// The greatest of them.
     Greatest,
-    /// Their sum, where none is above this; else the heaviest that there is.
+    /// Their sum, if none of them is above this number; else the greatest weight.
     SumWithin(u128),
 }
 
 impl Weight {
-    // A bound and the weight of what comes behind it.
+    // Puts a bound together with the weight of the rest of the way.
     pub(crate) fn joined(self, bound: u128, behind: u128) -> u128
         ensures { result ≡ joined_of self bound behind }
     {

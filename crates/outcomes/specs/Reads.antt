@@ -1,4 +1,4 @@
--- What a step answers that reads from a store.
+-- What a step that reads from a store answers.
 use Rattle.std.specs.Prelude.{ℕ, ◌≡◌, ◌≢◌, ◌≤◌, Option, None, Some, Result, Ok, Err, ⊤}
 use Rattle.base_io.specs.Causes.{Rose}
 use Rattle.base_io.specs.Files.{Files}
@@ -9,7 +9,7 @@ use Rattle.outcomes.specs.declared.names.FileId.{FileId}
 use Rattle.outcomes.specs.declared.refusal.Refusal.{Refusal}
 use Rattle.outcomes.specs.declared.refusal.Refusal.TheVariants as refusal
 
--- one stage after the other: the first refusal stands
+-- one stage after the other; the first refusal is the answer
 infixl 10 ◌>>=◌
 abbrev pub ◌>>=◌ : {A B : Type 0} → Result A Refusal → (A → Result B Refusal) → Result B Refusal
 (Ok x) >>= f = f x
@@ -20,31 +20,31 @@ abbrev pub told : {A E : Type 0} → (E → Refusal) → Result A E → Result A
 told refusal_of (Ok x) = Ok x
 told refusal_of (Err e) = Err (refusal_of e)
 
--- an answer with its value seen as another
+-- an answer with its value changed by a function
 abbrev pub seen : {A B E : Type 0} → (A → B) → Result A E → Result B E
 seen view (Ok x) = Ok (view x)
 seen view (Err e) = Err e
 
--- the stage refuses no file for its absence
+-- the stage refuses no file because it is absent
 abbrev pub MissesNothing : {A : Type 0} → Result A Refusal → Type 0
 MissesNothing stage = (file : FileId) → stage ≢ Err (refusal.Missing file)
 
--- the refusal is of no absent file
+-- the refusal isn't about an absent file
 abbrev pub IsOfWhatIsThere : Refusal → Type 0
 IsOfWhatIsThere r = (file : FileId) → r ≢ refusal.Missing file
 
--- why a step ended that reads no file: by the stage's own refusal, which isn't of the words; or for want of memory
+-- why a step ended that reads no file: by the stage's own refusal, which isn't about the words; or for want of memory
 abbrev pub StopsBy : {A : Type 0} → Result A Refusal → Ending → Type 0
 StopsBy stage (ending.Refused r) = (stage ≡ Err r) × IsOfWhatIsThere r × (r ≢ refusal.Usage)
 StopsBy stage (ending.Fault file) = ⊥
 StopsBy stage ending.NoMemory = ⊤
 
--- a step that reads one file comes to this one alone
+-- a step that reads one file reads this one alone
 abbrev pub AtFile : FileId → Files → FileId → Type 0
 AtFile file files other = other ≡ file
 
--- why a reading ended: by the stage's own refusal, which isn't of the words, and which a store that tells no files never gives
--- for an absent one; or by a counted fault, at a file to which the stage comes; or for want of memory
+-- Why a reading ended. There are three causes. The stage itself refuses; this isn't about the words, and a store that tells no files never
+-- refuses one as absent. Or a read of a file that the stage reads has failed, and was counted. Or there was too little memory.
 abbrev pub Ends : {A : Type 0} → Reading → (Files → Result A Refusal) → (Files → FileId → Type 0) → Ending → Type 0
 Ends store stage ComesTo (ending.Refused r) =
     ((files : Files) → store.files ≡ Some files → stage files ≡ Err r) × (store.files ≡ None → IsOfWhatIsThere r) × (r ≢ refusal.Usage)
@@ -52,12 +52,12 @@ Ends store stage ComesTo (ending.Fault file) =
     Rose store.faults_before store.faults_after × ((files : Files) → store.files ≡ Some files → ComesTo files file)
 Ends store stage ComesTo ending.NoMemory = ⊤
 
--- over files that the store tells, a value is the stage's
+-- if the store tells its files, a value is the one that the stage gives over them
 abbrev pub Gives : {A : Type 0} → Reading → (Files → Result A Refusal) → (Files → FileId → Type 0) → Result A Ending → Type 0
 Gives store stage ComesTo (Ok x) = (files : Files) → store.files ≡ Some files → stage files ≡ Ok x
 Gives store stage ComesTo (Err e) = Ends store stage ComesTo e
 
--- the whole promise of a step that reads: its answer has its cause, no fault is taken back, and no name is invented
+-- The whole promise of a step that reads. Its answer has its cause, the count of faults doesn't fall, and no name is invented.
 pub record Reads {A : Type 0} (store : Reading) (stage : Files → Result A Refusal) (ComesTo : Files → FileId → Type 0)
     (answer : Result A Ending) : Type 0 where
   pub gives : Gives store stage ComesTo answer

@@ -135,7 +135,7 @@ impl From<StatsError> for Ending {
     }
 }
 
-/// How the reading ends of the file of the table with this place in the schema.
+/// How reading a table's file ends. The table is given by its place in the schema.
 pub fn table_ending(table: u32, error: TableError) -> Ending
     ensures { result ≡ ending_of table error }
 {

@@ -1,12 +1,12 @@
 //! How a run and its steps may end: refusals of the input, ends of a reading, statuses over them; and what
 //! each step promises that reads.
 //!
-//! A `Refusal` follows from the words and the files alone. A reading that stops has an `Ending`: a refusal, a
-//! fault of a device with its file, or want of memory. A `Status` is what a run answers.
+//! A `Refusal` says what is wrong with the words or a file; it follows from these alone. A step that reads may stop
+//! with an `Ending`: a refusal, a failed read with its file, or too little memory. A `Status` is what a run answers.
 //!
-//! Callers cite `ended` and `code_of` (in `specs/Statuses.antt`), and `Reads` (what a step answers that
-//! reads from a store, in `specs/Reads.antt`). Steps that read go one after the other by the law `then_reads`.
-//! What a step leaves that writes is `Wrote` and `Put` of base_io.
+//! Callers cite `ended` and `code_of` (in `specs/Statuses.antt`), and `Reads` (in `specs/Reads.antt`), which says what a
+//! step answers that reads from a store. The law `then_reads` puts two such steps one after the other. For steps that
+//! write there are `Wrote` and `Put` of base_io.
 #![tactic(auto)]
 
 mod ending;

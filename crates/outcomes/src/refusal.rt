@@ -32,7 +32,8 @@ pub enum TableCause {
     Key { row: u32, earlier: u32 },
 }
 
-/// What is wrong with a file of statistics: at a line its text, or a rule on its values; or what a FROM entry needs isn't there.
+/// What is wrong with a file of statistics: a line isn't in the grammar, or breaks a rule on values; or something that a FROM entry needs is
+/// missing.
 #[derive(Clone, Copy, Debug, PartialEq, Eq)]
 pub enum StatsCause {
     Syntax,
@@ -40,10 +41,10 @@ pub enum StatsCause {
     Missing,
 }
 
-/// What the words and the files alone refuse. Places are offsets in bytes from 0.
+/// A refusal, which follows from the words and the files alone. Places are offsets in bytes, from 0.
 #[derive(Clone, Copy, Debug, PartialEq, Eq)]
 pub enum Refusal {
-    /// The words are no command that the program takes up.
+    /// The words are no command of the program.
     Usage,
     /// The file isn't there.
     Missing {
@@ -69,7 +70,7 @@ pub enum Refusal {
         cause: StatsCause,
         at: u32,
     },
-    /// The file has this many of a thing, more than its limit.
+    /// The file has more of something than its limit. This is how many it has.
     Limit {
         which: LimitKind,
         file: FileId,
@@ -79,11 +80,11 @@ pub enum Refusal {
     Budget {
         least: u128,
     },
-    /// The plan's buffers take so many bytes, more than the limit of memory.
+    /// The plan's buffers take this many bytes, which is more than the limit of memory.
     MemoryLimit {
         bytes: u128,
     },
-    /// The least cost of an order is 2^128 - 1, the top bound, which stands for all from there on.
+    /// The least cost of an order is 2^128 - 1, the top bound. It stands for every number from there on.
     PastBits,
 }
 

@@ -5,10 +5,10 @@ ghost use Rattle.outcomes.specs.declared.status.Status.TheVariants as status;
 
 use crate::{Ending, FileId, Refusal, SinkId};
 
-/// The exit status where memory was wanting before the first byte of the plan text, or for the words themselves.
+/// The exit status if there was too little memory: before the first byte of the plan text, or for the words themselves.
 pub const NO_MEMORY: u8 = 11;
 
-/// The exit status where the words can't be had, so that there is no run and no `Status`.
+/// The exit status if the system doesn't give the words. Then there is no run and no `Status`.
 pub const NO_WORDS: u8 = 15;
 
 /// How a run ended.

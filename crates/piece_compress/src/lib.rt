@@ -1,9 +1,9 @@
 //! Compression: from a degree list to a list of few pieces that dominates the same keys.
 //!
-//! In comes the degree list of a column, or of some of its rows, which can be as long as the column has keys.
-//! Out go its pieces, which statistics keep and bounds are made of. At accuracy K the list exceeds the degrees by
-//! at most one K-th at each rank, and keeps their sum. Compression by heads is this project's own; that a list
-//! dominates keys is meant as in SafeBound (SIGMOD 2023).
+//! In: the degree list of a column, or of some of its rows. It can be as long as the column has different keys.
+//! Out: a list of few pieces, which statistics keep and bounds are made from. At accuracy K each element of it exceeds the
+//! degree at the same rank by at most one K-th, and its sum is the same. Compression by heads is this project's own;
+//! domination is that of SafeBound (SIGMOD 2023).
 //!
 //! Callers cite `compressed` of crate `degree_sequences` and `most_pieces`:
 //! `let list = compress(alloc, counts.as_slice(), Accuracy::of(1))?;` gives `list ≡ compressed 1 counts`, and so does `compress_runs`

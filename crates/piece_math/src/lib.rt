@@ -1,8 +1,8 @@
 //! Falling lists of positive numbers kept as pieces of equal elements, and the operations that bounds are made of.
 //!
-//! Statistics come in as pieces; bounds go out as totals. Each operation answers the list of its
-//! definition in `degree_sequences`, each number as 128 bits hold it, at a cost in the number of pieces and
-//! never in the number of ranks (Degree Sequence Bound, ICDT 2023; SafeBound, SIGMOD 2023).
+//! Each operation answers the list that `degree_sequences` defines; a number that 128 bits don't hold is saturated. The
+//! time of an operation depends on the number of pieces and never on the number of ranks (Degree Sequence Bound, ICDT 2023;
+//! SafeBound, SIGMOD 2023). Statistics are pieces, and the bounds that are made of them are totals.
 //!
 //! Callers cite a `Pieces` as the list that it stands for, `expanded` for the list of a slice of pieces, and
 //! `runs` for the number of pieces of a list.

@@ -1,10 +1,11 @@
 //! What a choice among orders answers, as a function of the bounds.
 //!
-//! `choose` promises a relation, which leaves open only whether memory is wanting. Here stands the one
-//! answer that is left: `plan_answer` (in `specs/PlanAnswer.antt`), the plan of `best_order` (in
-//! `specs/BestOrder.antt`) or a refusal. It goes through all orders, and never runs. Callers cite it where
-//! they need a value, and take from the laws that it is what `choose` promises (`IsPromised`): of a whole
-//! answer the clause `only` of `choices` (lemma `only` of proofs/OneChoice), at an exit `chosen` or `refused`.
+//! The contract of `choose` is a relation between bounds and an answer. It leaves open only whether the call runs
+//! out of memory. `plan_answer` (in `specs/PlanAnswer.antt`) is the answer if it doesn't: the plan of `best_order`
+//! (in `specs/BestOrder.antt`) or a refusal. It searches all orders; it is for specifications and never runs.
+//!
+//! Callers cite it if they need a value. The laws say that it is what `choose` promises (`IsPromised`): for a whole
+//! answer take the clause `only` of `choices` (lemma `only` of proofs/OneChoice), at an exit `chosen` or `refused`.
 //!
 //! `bounds_of_sets` (in `specs/Bounds.antt`) makes the list of bounds from a function of the set.
 #![tactic(auto)]

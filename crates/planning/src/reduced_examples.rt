@@ -30,7 +30,7 @@ pub fn along_a_chain()
         ≡ Ok (plan_of (0 ∷ 1 ∷ 2 ∷ []) (1 ∷ 1 ∷ 1 ∷ []) (1 ∷ 1 ∷ 1 ∷ [])) }
 {}
 
-/// A triangle of three times three rows, of which each has its partners: nothing is reduced.
+/// A triangle of three times three rows. Each row has its partners, so nothing is reduced.
 pub fn a_triangle()
     ensures reduced { reduced_of triangle three_tables ≡ (0 ∷ 1 ∷ 2 ∷ []) ∷ (0 ∷ 1 ∷ 2 ∷ []) ∷ (0 ∷ 1 ∷ 2 ∷ []) ∷ [] }
     ensures plan { planned_reduced triangle three_tables 1 9 ≡ Ok (plan_of (0 ∷ 1 ∷ 2 ∷ []) (3 ∷ 3 ∷ 3 ∷ []) (3 ∷ 5 ∷ 9 ∷ [])) }

@@ -1,7 +1,7 @@
 //! Plans: in which order the entries of a query are joined, and what bounds each step.
 //!
-//! A search makes a plan; it is printed, memory is taken by it, and joins follow it. A plan is left-deep: each step joins one more entry to
-//! all before it. A tree of joins will be a type of its own beside it.
+//! order_search makes a plan. Then the plan is printed, memory is taken by its bounds, and the joins follow its order. A plan is left-deep: each
+//! step joins one more entry to all before it. A plan over a tree of joins is another type, in tree_plans.
 //!
 //! Callers cite `IsPlan` for a plan of so many entries, and `IsOrder` for its order.
 #![tactic(auto)]

@@ -1,9 +1,9 @@
 //! Bounds of filtered entries: from an entry's own conjuncts, and the lists that they ask for, to the list that dominates what
 //! its scan leaves.
 //!
-//! In: a query, and lists of its filter columns for its joined columns. `read_steps` turns an entry's own conjuncts into steps
-//! over a stack of answers: NOT is pushed down, ANDs are joined, a literal on the left is turned round, and the comparisons
-//! of one column in an AND are one range. `QueryStats` holds these steps, each with its list, for each joined column, and
+//! In: a query, and lists of its filter columns for its joined columns. `read_steps` turns an entry's own conjuncts into steps that run over a
+//! stack of lists. It pushes NOT down to the comparisons, joins nested ANDs, turns a comparison with its literal on the left round, and makes
+//! one range of all comparisons of a column in an AND. `QueryStats` holds these steps, each with its list, for each joined column.
 //! `bound_list` and `row_bound` run them. Nothing here knows where the lists come from.
 //!
 //! Callers cite `steps_of` (in `specs/Steps.antt`) for what is asked, `TellsList` and `TellsRows` (in `specs/Told.antt`) for

@@ -15,7 +15,7 @@ pub enum Literal {
     Text(Name),
 }
 
-/// The values of a column from a low end to a high end, both included, where there are such ends.
+/// The values of a column from a low end to a high end, both included. Either end may be missing.
 #[derive(Debug, Drop)]
 pub struct Range {
     pub column: u32,

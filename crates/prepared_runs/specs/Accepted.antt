@@ -15,7 +15,7 @@ use Rattle.safebound_words.specs.declared.command.ListSource.TheVariants as sour
 use Rattle.safebound_words.specs.declared.command.OutText.{OutText}
 
 -- a query, for each of its FROM entries the rows of its table, its plan, what this is made from, for each entry the numbers of the rows that
--- are joined, the limit of memory, where there is one, and which text goes to out
+-- are joined, the limit of memory, if there is one, and which text goes to out
 pub record Accepted : Type 0 where
   pub query : Query
   pub rows : List (List Row)

@@ -14,7 +14,7 @@ shape_cost (shaped.Along plan) = greatest plan.levels
 shape_cost (shaped.Over plan) = plan.cost
 
 -- rows or their counts are asked for, the plan costs no more than the budget, and its buffers take no more bytes than the limit of memory,
--- where there is one
+-- if there is one
 pub record MayJoin (task : PlanWork) (plan : Shaped) : Type 0 where
   pub asked : task.out ≢ out_text.Nothing
   pub affordable : shape_cost plan ≤ task.budget

@@ -49,7 +49,7 @@ abbrev pub filed_within : Query → StatsFile → Plan → Option ℕ → Result
 filed_within query stats plan memory = within_limit memory (plan_bytes plan.order plan.scans plan.levels)
     (PlannedByFile (record { query = query; file = stats; plan = plan; memory = memory }))
 
--- the plan of a query by what a file tells of it: the best order with its bounds, or the first entry of which something is missing, or
+-- the plan of a query by what a file tells of it: the best order with its bounds, or the first entry for which something is missing, or
 -- PastBits, or Budget with the least cost, or MemoryLimit with the bytes of the plan
 unfoldable pub filed_plan_stage : Query → StatsFile → ℕ → Option ℕ → Result Outcome Refusal
 filed_plan_stage query stats budget memory = do

@@ -83,14 +83,14 @@ IsJoined query db lists (joined.Nodes plan done) = AreNodesOf query db lists pla
 
 -- ---- what is kept of a run
 
--- buffers that were prepared have the rows of each part, and hold as many bytes as before
+-- the buffers that were prepared have the rows of each part now, and hold as many bytes as before
 pub record AreDone (query : Query) (db : Database) (joins : Joins) (kept : Joined) : Type 0 where
   pub plan : plan_joined kept ≡ plan_in joins.room
   pub parts : (k : ℕ) → k < part_count (plan_in joins.room)
       → rows_in kept k ≡ part_rows query (tables_of db) (lists_of joins.lists.items) (plan_in joins.room) k
   pub bytes : bytes_in kept ≡ bytes_held joins
 
--- those of what was left to do, if it joins
+-- the buffers of what was left to do, if that is a join
 abbrev pub IsLeft : Query → Database → Rest → Option Joined → Type 0
 IsLeft query db (rest.Rows joins) kept = IsSomeAnd kept (AreDone query db joins)
 IsLeft query db (rest.Audit joins) kept = IsSomeAnd kept (AreDone query db joins)
@@ -102,7 +102,7 @@ pub record KeepsBuffers (run : Accepted) (kept : Joined) : Type 0 where
   pub parts : (k : ℕ) → k < part_count run.plan → rows_in kept k ≡ part_rows run.query (tables run) run.lists run.plan k
   pub bytes : bytes_in kept ≡ shape_bytes run.plan
 
--- those of `run`, of `audit` and of `demo`; `plan` takes none
+-- the buffers of `run`, of `audit` and of `demo`; `plan` takes no buffers
 abbrev pub AreKept : OutText → Accepted → Option Joined → Type 0
 AreKept out_text.Rows run kept = IsSomeAnd kept (KeepsBuffers run)
 AreKept out_text.Audit run kept = IsSomeAnd kept (KeepsBuffers run)

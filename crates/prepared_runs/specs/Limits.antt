@@ -12,7 +12,7 @@ within_limit (Some limit) bytes value = if nat_le bytes limit then Ok value else
 abbrev pub limit_test : Option ℕ → ℕ → Result (Unit {0}) Refusal
 limit_test limit bytes = within_limit limit bytes tt
 
--- so many bytes are within the limit, where there is one
+-- so many bytes are within the limit, if there is one
 abbrev pub AreWithin : Option ℕ → ℕ → Type 0
 AreWithin None bytes = ⊤
 AreWithin (Some limit) bytes = bytes ≤ limit

@@ -1,4 +1,4 @@
--- What the words and the files come to, where nothing is refused; and what holds of it.
+-- The outcome of a run that isn't refused, as the words and the files determine it, and what holds of it.
 use Rattle.std.specs.Prelude.{ℕ, ◌≡◌, List, Option, ⊤}
 use Rattle.appended_stats.specs.Appended.{file_after}
 use Rattle.appended_stats.specs.Conditions.{HasNewRows}
@@ -18,14 +18,14 @@ use Rattle.prepared_runs.specs.Accepted.{Accepted, BoundsHold, RowsAreTheAnswer}
 use Rattle.prepared_runs.specs.Limits.{AreWithin}
 use Rattle.prepared_runs.specs.Shapes.{shape_bytes}
 
--- a statistics file of a query of a schema, and for each FROM entry the rows of its table, of which it is made
+-- a statistics file of a query, and for each FROM entry the rows of its table, from which the file is made
 pub record FiledTables : Type 0 where
   pub schema : Schema
   pub query : Query
   pub rows : List (List Row)
   pub file : StatsFile
 
--- a plan of a query, the statistics file of which it is made, and the limit of memory, where there is one
+-- a plan of a query, the statistics file from which it is made, and the limit of memory, if there is one
 pub record FiledPlan : Type 0 where
   pub query : Query
   pub file : StatsFile
@@ -51,8 +51,8 @@ abbrev pub HoldsWhereItStands : FiledPlan → Type 0
 HoldsWhereItStands made = (tables : Tables) → StandsFor made.query made.file tables
     → IsPlanOf made.query tables (scans_of made.query tables) made.plan
 
--- the file is what another one has become by these rows; and for whatever that one stood, this one stands for it with these rows after those of
--- their table
+-- The file is an earlier file with these rows added. If the earlier file stood for some tables, this one stands for the same tables with
+-- these rows at the end of their table.
 pub record StandsForMore (made : AppendedRows) : Type 0 where
   pub before : StatsFile
   pub keeps : KeepsRules made.schema before
@@ -60,8 +60,8 @@ pub record StandsForMore (made : AppendedRows) : Type 0 where
   pub stands : (query : Query) (tables after : Tables) → StandsFor query before tables → HasNewRows query made.table made.rows tables after
       → StandsFor query made.file after
 
--- no bound is too low: of a plan over tables for these, of a plan from a file for all tables for which the file stands; a file that is
--- written stands for its tables, and one with new rows for what it stood for before and these rows
+-- No bound is too low. A plan over tables has bounds for these tables. A plan from a file has bounds for all tables for which the file stands.
+-- A file that is written stands for its tables, and a file with new rows stands for what it stood for before, with these rows.
 abbrev pub NoBoundIsTooLow : Outcome → Type 0
 NoBoundIsTooLow (Planned run) = BoundsHold run
 NoBoundIsTooLow (Filed filed) = StandsFor filed.query filed.file (tables_in filed.rows)
@@ -75,7 +75,7 @@ PrintsTheAnswer (Filed filed) = ⊤
 PrintsTheAnswer (PlannedByFile made) = ⊤
 PrintsTheAnswer (Appended made) = ⊤
 
--- a plan takes no more bytes than its limit of memory, where there is one
+-- a plan takes no more bytes than its limit of memory, if there is one
 abbrev pub KeepsItsLimit : Outcome → Type 0
 KeepsItsLimit (Planned run) = AreWithin run.memory (shape_bytes run.plan)
 KeepsItsLimit (Filed filed) = ⊤

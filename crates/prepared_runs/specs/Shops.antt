@@ -25,7 +25,7 @@ shop_store number = record {
   misses_after = 0;
 }
 
--- the store that is read: that of the shop, where there is one, or else the one that was handed in
+-- the store that is read: that of the shop, if there is one, or else the one that was handed in
 abbrev pub store_read : Option ℕ → Reading → Reading
 store_read None handed_in = handed_in
 store_read (Some number) handed_in = shop_store number

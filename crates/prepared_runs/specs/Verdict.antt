@@ -1,5 +1,5 @@
--- What the words and the files determine, in stages: the words, the schema, the query, the tables or the statistics file, the plan; or behind the
--- schema the statistics file and new rows of one of its tables.
+-- What the words and the files determine, in stages. The stages are the words, the schema, the query, the tables or the statistics file, and
+-- the plan. For `append` the stages after the schema are the statistics file and the new rows of one of its tables.
 use Rattle.std.specs.Prelude.{ℕ, ◌≡◌, ◌⊎◌, List, Option, None, Some, Result, Ok, Err, IsOkAnd}
 use Rattle.limits.specs.Profile.{most_text}
 use Rattle.base_io.specs.Files.{Files}
@@ -36,7 +36,7 @@ use Rattle.prepared_runs.specs.Sources.{lists_by, sourced}
 use Rattle.prepared_runs.specs.declared.shapes.Shaped.{Shaped}
 use Rattle.safebound_words.specs.declared.command.PlanWork.{PlanWork}
 
--- the command of the words, or Usage where they are none
+-- the command that the words ask for, or Usage if they are no command
 abbrev pub or_usage : Option Command → Result Command Refusal
 or_usage None = Err refusal.Usage
 or_usage (Some command) = Ok command
@@ -62,7 +62,7 @@ query_stage name schema files = do
   text ← read file.Query most_text name files
   query_of_text schema text
 
--- the plan of a query of a schema over its tables, of the shape that is asked for, by what the source gives
+-- the plan of a query over its tables, in the shape that is asked for, from the bounds that the source gives
 abbrev pub plan_asked : PlanWork → Schema → Query → Tables → Result Shaped PlanError
 plan_asked task schema query ts = planned_by task.shape (sourced task.source schema query ts) task.accuracy task.budget
 
@@ -85,7 +85,7 @@ plan_stage task schema query rows = do
   plan ← told plan_refusal (plan_asked task schema query (tables_in rows))
   within_limit task.memory (shape_bytes plan) (Planned (run_asked task query rows plan))
 
--- what is done with a query: here alone one work is told from another
+-- what is done with a query; only this definition tells one work from another
 abbrev pub work_run : Work → Schema → Query → Files → Result Outcome Refusal
 work_run (works.Plan task) schema query files = do
   rows ← tables_stage schema query.from files
@@ -104,7 +104,7 @@ aim_run (aims.Query name work) schema files = do
   work_run work schema query files
 aim_run (aims.Append append) schema files = append_run append schema files
 
--- what a run is over, or the first refusal that applies
+-- the outcome of a run, or the first refusal that applies
 unfoldable pub command_run : Command → Files → Result Outcome Refusal
 command_run command files = do
   schema ← schema_stage command.schema_file files
@@ -121,24 +121,24 @@ schema_read words files = do
   command ← command_stage words
   schema_stage command.schema_file files
 
--- ---- to which files the verdict comes
+-- ---- which files the verdict reads
 
--- the file is one that is read for the query: one of its tables, and no table before it is refused; or the statistics file
+-- The file is read for the query: it is one of the query's tables, and no table before it is refused; or it is the statistics file.
 abbrev pub IsWorkFile : Work → Schema → Query → Files → FileId → Type 0
 IsWorkFile (works.Plan task) schema query files id = IsTableReached schema (tables_of_query query.from) files id
 IsWorkFile (works.File accuracy) schema query files id = IsTableReached schema (tables_of_query query.from) files id
 IsWorkFile (works.PlanFrom name budget memory) schema query files id = id ≡ file.Stats
 
--- the file is one that is read over a schema: that of the query, and where it is read those for it; or the statistics file, and where its section
--- is there the file of new rows
+-- The file is read after the schema. It is the file of the query, or one that is read for the query. For `append` it is the statistics file,
+-- or, if that file has a section of the table, the file of new rows.
 abbrev pub IsAimFile : Aim → Schema → Files → FileId → Type 0
 IsAimFile (aims.Query name work) schema files id =
     (id ≡ file.Query) ⊎ IsOkAnd (query_stage name schema files) (λ query. IsWorkFile work schema query files id)
 IsAimFile (aims.Append append) schema files id =
     (id ≡ file.Stats) ⊎ IsOkAnd (section_read append schema files) (λ section. id ≡ file.Table section.table)
 
--- the verdict comes to this file, and nothing before it is refused: where the words are a command to that of the schema, and where this is
--- read to those that are read over it
+-- The verdict reads this file, and nothing before it is refused. If the words are a command, the verdict reads the schema's file; if that
+-- declares a schema, it reads the files that are read after it.
 abbrev pub IsReached : List (List ℕ) → Files → FileId → Type 0
 IsReached words files id = IsOkAnd (command_stage words)
     (λ command. (id ≡ file.Schema) ⊎ IsOkAnd (schema_stage command.schema_file files) (λ schema. IsAimFile command.aim schema files id))

@@ -1,4 +1,4 @@
-//! New rows of a table in a statistics file.
+//! `append`: reads a statistics file and new rows of one of its tables, and makes the file with these rows.
 ghost use Rattle.std.specs.Prelude.{◌≡◌, ◌+◌, ◌<◌, All, IfErr, IfOk, IsOkAnd, Ok, find, length, nat_le, option_map};
 ghost use Rattle.std.specs.Str.{str_eq_ignore_ascii_case};
 ghost use Rattle.limits.specs.Profile.{most_rows};
@@ -28,7 +28,7 @@ use stats_file::{StatsFile, TableStats};
 use std::alloc::Global;
 use table_files::{TableRows, read_rows};
 
-/// A statistics file, the place of a table, and the new rows of this table that are in the file.
+/// A statistics file, the table that has new rows, by its place in the schema, and these rows. The file counts them already.
 #[derive(Drop)]
 pub struct PreparedAppend {
     pub table: u32,
@@ -43,7 +43,7 @@ pub struct Counted {
     pub rows: u32,
 }
 
-// Whether two names are the same, letter case aside.
+// Whether two names are equal, apart from letter case.
 fn are_alike(one: &str, other: &str) -> bool
     ensures { result ≡ str_eq_ignore_ascii_case one.now other.now }
 {
@@ -59,7 +59,7 @@ fn is_named(name: &Word, schema: &Schema, section: &TableStats) -> bool
     are_alike(table.name.as_str(), name.get())
 }
 
-// The section of the table of this name, letter case aside, where the file has one.
+// The section of the table of this name, apart from letter case, if the file has one.
 fn section_named<'a>(name: &Word, schema: &Schema, stats: &'a StatsFile) -> Option<&'a TableStats>
     requires { KeepsRules schema.now stats.now }
     ensures { option_map (λ section. section.now) result ≡ find (is_of_table schema.now name.now) stats.now.tables }
@@ -91,14 +91,14 @@ fn count_section(name: &Word, schema: &Schema, stats: &StatsFile) -> Result<Coun
     }
 }
 
-// Whether these rows and so many more are no more than a table's.
+// Whether a table may have this many rows and `more` new ones.
 fn are_few(before: u32, more: u32) -> bool
     ensures { result ≡ nat_le (before + more) most_rows }
 {
     u64::from(before) + u64::from(more) <= u64::from(MOST_ROWS)
 }
 
-// Makes the file with new rows of a table, unless it has too many with them.
+// Makes the file with new rows of a table, unless the table has too many rows with them.
 fn grow(
     alloc: Global,
     schema: &Schema,
@@ -171,8 +171,8 @@ fn append_to<S: Store>(
     append_read(alloc, store, &append.rows_file, schema, stats, found)
 }
 
-/// Reads a statistics file and new rows of one of its tables, and makes the file with these rows. The rows that were there before are
-/// not read.
+/// Reads a statistics file and new rows of one of its tables, and makes the file with these rows. It doesn't read the rows that the table
+/// had before.
 pub fn prepare_append<S: Store>(
     alloc: Global,
     store: &mut S,

@@ -33,7 +33,7 @@ use stats_reading::read_stats;
 use std::alloc::Global;
 use table_files::{load_file, read_tables};
 
-/// A statistics file of a query's tables, and the database of which it is made.
+/// A statistics file of a query's tables, and the database from which it was made.
 #[derive(Drop)]
 pub struct PreparedFile {
     pub query: Query,
@@ -41,7 +41,7 @@ pub struct PreparedFile {
     pub file: StatsFile,
 }
 
-/// A plan of a query, the statistics file of which it is made, the limit of memory, where there is one, and the bytes of the plan.
+/// A plan of a query, the statistics file from which it was made, the limit of memory, if there is one, and the bytes of the plan.
 #[derive(Drop)]
 pub struct PreparedPlan {
     pub query: Query,
@@ -82,7 +82,7 @@ fn ending_of(error: FiledPlanError) -> Ending
     }
 }
 
-// Gives a plan that is made, unless it is above the limit of memory.
+// Answers the plan, unless it takes more bytes than the limit of memory.
 fn limited(
     query: Query,
     file: StatsFile,
@@ -107,7 +107,7 @@ fn limited(
     })
 }
 
-// Plans a query from a statistics file, within a budget and a limit of memory. No table is read.
+// Plans a query from a statistics file, within a budget and a limit of memory. It reads no table.
 fn plan_filed(
     alloc: Global,
     schema: &Schema,

@@ -1,4 +1,4 @@
-//! The two texts, from their files.
+//! Reads the schema text and the query text from their files.
 ghost use Rattle.std.specs.Prelude.{IfOk};
 ghost use Rattle.base_io.specs.Devices.{reading};
 ghost use Rattle.outcomes.specs.Reads.{AtFile, Reads};

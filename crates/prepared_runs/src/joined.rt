@@ -75,7 +75,7 @@ fn join_nodes(
     Joined::Nodes(plan, done)
 }
 
-/// Lists the rows of each part of a plan. It takes no memory and can't fail, and the buffers hold as many bytes as before.
+/// Lists the rows of each part of a plan. It takes no memory and can't fail. Afterwards the buffers hold as many bytes as before.
 pub fn join(joins: Joins, query: &Query, db: &Database) -> Joined
     requires database { IsDatabaseOf query.now db.now }
     requires joins { CanJoin query.now db.now joins }

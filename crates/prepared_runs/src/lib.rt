@@ -1,10 +1,17 @@
 //! A run up to its first byte: what the words and the files determine, and all that is read, planned and reserved for it.
 //!
-//! `load_schema` and `prepare_run` read every file, plan, and take all memory of the run. They write
-//! nothing. `join` lists the rows of a plan in the memory that was taken for them. `open_shop` makes the files that `demo` reads.
+//! It is for the top call, which writes what this crate prepares. `load_schema` and `prepare_run` read every file, plan, and take all memory
+//! of the run. They write nothing. `join` lists the rows of a plan in the memory that was taken for them. `open_shop` makes the files that
+//! `demo` reads.
 //!
-//! Callers cite `verdict` (in `specs/Verdict.antt`), a value in stages: a refusal, or what the run comes to (`Outcome`). A step that reads has
-//! the clause `Reads` over its stage of the verdict. What is ready can be written (`CanBeWritten` in `specs/Ready.antt`).
+//! Callers cite `verdict` (in `specs/Verdict.antt`). It is computed in stages, from the words to the plan, and is a refusal or an `Outcome`.
+//! Each step that reads has the clause `Reads` over its stage of the verdict. What `prepare_run` answers can be written without further memory
+//! (`CanBeWritten` in `specs/Ready.antt`).
+//!
+//! ```text
+//! let schema = load_schema(alloc, store, &command.schema_file)?;
+//! let ready = prepare_run(alloc, store, &command.aim, &schema)?;    // nothing is written so far
+//! ```
 #![tactic(auto)]
 
 mod append;

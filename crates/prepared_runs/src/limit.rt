@@ -1,4 +1,4 @@
-//! How many bytes a plan takes, and a limit on them. Nothing is taken here.
+//! How many bytes a plan takes, and whether they are within a limit. No memory is taken here.
 ghost use Rattle.std.specs.Prelude.{◌≡◌, ◌≤◌, ℕ};
 ghost use Rattle.limits.specs.Profile.{most_entries};
 ghost use Rattle.plans.specs.LeftDeep.{IsPlan};
@@ -35,7 +35,7 @@ pub fn memory_of(plan: &Shaped) -> u128
     }
 }
 
-/// Refuses so many bytes where they are above the limit, if there is one.
+/// Refuses this number of bytes if there is a limit and they are above it.
 pub fn keep_limit(limit: Option<u64>, bytes: u128) -> Result<(), Refusal>
     ensures { result ≡ limit_test limit bytes }
 {

@@ -1,4 +1,4 @@
-//! Everything that a run takes memory for, before it writes.
+//! Everything that a run does before it writes: it reads, plans, and takes all memory.
 ghost use Rattle.std.specs.Prelude.{◌≡◌, ◌≤◌, IfErr, IfOk, Ok};
 ghost use Rattle.base_io.specs.Devices.{reading};
 ghost use Rattle.key_carriers.specs.Keys.{KeysHold};
@@ -37,19 +37,19 @@ use schema_types::Schema;
 use std::alloc::Global;
 use table_files::read_tables;
 
-/// What is left to do once the plan text is written, with all memory for it.
+/// What is left to do after the plan text is written. It has all memory that this takes.
 #[derive(Drop)]
 pub enum Rest {
     /// Joins, and writes the rows for all entries.
     Rows(Joins),
     /// Joins, and writes how many rows each level or inner node has.
     Audit(Joins),
-    /// Nothing but this plan's text is written.
+    /// Only this plan's text is written, and nothing is joined.
     Nothing(Shaped),
 }
 
-/// A query, the database of its tables, what its plan is made from, the limit of memory, where there is one, the bytes of the plan, and
-/// what is left to do, with the plan.
+/// A query over tables that is ready to be joined: the query, the database of its tables, where its plan's bounds come from, the limit of
+/// memory, if there is one, the bytes of the plan, and what is left to do, with the plan.
 #[derive(Drop)]
 pub struct Prepared {
     pub query: Query,
@@ -60,14 +60,14 @@ pub struct Prepared {
     pub rest: Rest,
 }
 
-// What is left to do where nothing is joined: the plan alone, and no memory is taken.
+// What is left to do if nothing is joined. It is the plan alone, and no memory is taken.
 fn without_joins(planned: Planned) -> Rest
     ensures { result ≡ Rest.Nothing planned.plan }
 {
     Rest::Nothing(planned.plan)
 }
 
-// Takes the memory for what is left to do, by a plan that is within the budget and the limit of memory.
+// Takes the memory for what is left to do. The plan is within the budget and the limit of memory.
 fn make_room(
     alloc: Global,
     task: &PlanWork,
@@ -94,7 +94,7 @@ fn make_room(
     }
 }
 
-/// What a run comes to, with all that is left to write.
+/// What a run has read, planned and reserved. Only writing is left.
 #[derive(Drop)]
 pub enum Ready {
     /// A plan over tables, and what is left to do.
@@ -107,7 +107,7 @@ pub enum Ready {
     Appended(PreparedAppend),
 }
 
-// Plans a query of a schema over its database, and takes the memory for what is left to do, unless it is above the limit.
+// Plans a query over its database, and takes the memory for what is left to do, unless the plan needs more than the limit.
 fn prepare_plan(
     alloc: Global,
     task: &PlanWork,
@@ -156,7 +156,7 @@ fn prepare_tables<S: Store>(
     prepare_plan(alloc, task, schema, query, db)
 }
 
-// Reads what the work needs, and does all of it but for what is written.
+// Reads what the work needs, and does everything but the writing.
 fn prepare_query<S: Store>(
     alloc: Global,
     store: &mut S,
@@ -211,8 +211,8 @@ fn prepare_work<S: Store>(
     prepare_query(alloc, store, work, schema, query)
 }
 
-/// Reads the query and then its tables or the statistics file, plans it, and takes all memory of the run; or reads a statistics file and new
-/// rows, and makes the file with them. It writes nothing.
+/// Does everything of a command but the writing. For a query it reads the query and then its tables or the statistics file, plans, and takes
+/// all memory of the run. For `append` it reads a statistics file and new rows, and makes the file with them.
 pub fn prepare_run<S: Store>(
     alloc: Global,
     store: &mut S,

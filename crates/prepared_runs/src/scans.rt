@@ -1,4 +1,4 @@
-//! The lists of rows that a run joins, and the memory of the joins.
+//! Where bounds and rows come from, the lists of rows that a run joins, and the memory of the joins.
 ghost use Rattle.std.specs.Prelude.{◌≡◌, ◌⊎◌, ◌<◌, ◌≤◌, ℕ, Err, IfErr, IfOk, Ok, length, slice_index};
 ghost use Rattle.order_search.specs.declared.refusal.PlanError.TheVariants as error;
 ghost use Rattle.reserve_plan.specs.Memory.{buffers_bytes, lists_bytes};
@@ -33,13 +33,13 @@ use std::alloc::Global;
 /// The rows that are joined.
 #[derive(Drop)]
 pub enum Scans {
-    /// Those of each entry's whole scan, which aren't listed yet.
+    /// Each entry's whole scan. Its rows aren't listed yet.
     Whole,
-    /// These of each entry, by their numbers and in file order.
+    /// For each entry a list of row numbers, in file order.
     Listed(Vec<RowBuf<u32>>),
 }
 
-// What a source gives: what is known of the entries, and the rows that are joined.
+// What a source gives: the bounds of all sets of entries and of their scans, and the rows that are joined.
 #[derive(Drop)]
 struct Given {
     known: Known,
@@ -60,7 +60,7 @@ pub struct Joins {
     pub room: Room,
 }
 
-// What a source gives of a query of a schema over its database. Here alone the code tells one source from another.
+// What a source gives for a query over its database. Only this function tells one source from another.
 fn given_by(
     alloc: Global,
     source: ListSource,
@@ -108,7 +108,7 @@ fn given_by(
     }
 }
 
-/// Plans a query of a schema over its database as the task asks.
+/// Plans a query over its database, as the task asks.
 pub fn plan_task(
     alloc: Global,
     task: &PlanWork,
@@ -182,8 +182,8 @@ fn list_rows(
     }
 }
 
-/// Takes all memory that the joins of a plan need, and lists the rows that are joined. Lists and buffers hold exactly the bytes of the plan.
-/// The caller has to know that the task joins, and that the plan is within its budget and its limit of memory.
+/// Takes all memory that the joins of a plan need, and lists the rows that are joined. The lists and buffers hold exactly the bytes of the
+/// plan. The caller has to know that the task asks for a join, and that the plan is within the task's budget and limit of memory.
 pub fn prepare_joins(
     alloc: Global,
     task: &PlanWork,

@@ -35,13 +35,13 @@ pub enum Shaped {
 /// A plan, and buffers for the rows that its joins list.
 #[derive(Drop)]
 pub enum Room {
-    /// Those of the levels of an order.
+    /// The buffers are those of the levels of an order.
     Levels(Plan, Reserved),
-    /// Those of the inner nodes of a join tree.
+    /// The buffers are those of the inner nodes of a join tree.
     Nodes(BushyPlan, BushyReserved),
 }
 
-/// The best plan of a shape by bounds that are known, in rows; or why there is none within the budget.
+/// The best plan of a shape for these bounds; or why no plan is within the budget.
 pub fn plan_by(alloc: Global, shape: Shape, known: &Known, budget: u64) -> Result<Shaped, PlanError>
     requires some { 1 ≤ length known.now.scans }
     requires few { length known.now.scans ≤ most_entries }
@@ -71,7 +71,7 @@ pub fn bounds_of_scans(plan: &Shaped) -> &[u64]
     }
 }
 
-/// Takes all memory of the joins of a plan but for the lists that are joined. The caller has to know that the plan may have it.
+/// Takes all memory of the joins of a plan, except for the lists that are joined. The caller has to know that the plan may take it.
 pub fn reserve_room(
     alloc: Global,
     _task: &PlanWork,

@@ -7,7 +7,7 @@ use demo_files::demo_store;
 use std::alloc::Global;
 use std::marker::Model;
 
-/// Files in memory, of which no read fails.
+/// Files in memory; no read of them fails.
 #[derive(Drop)]
 pub struct Shop {
     store: MemStore,

@@ -14,7 +14,7 @@ node_bound k join =
 abbrev pub node_line : ℕ → Join → List ℕ
 node_line k join = node_bound k join ++ codes "\n"
 
--- a line for each inner node, of which the first has number k
+-- a line for each inner node; the first one has number k
 abbrev pub node_lines : ℕ → List Join → List ℕ
 node_lines k [] = []
 node_lines k (join ∷ joins) = node_line k join ++ node_lines (k + 1) joins
@@ -27,7 +27,7 @@ tree_lines sources plan = scan_lines sources plan.scans ++ node_lines (length pl
 abbrev pub node_audit : ℕ → Join → ℕ → List ℕ
 node_audit k join rows = node_bound k join ++ row_count rows
 
--- a line for each inner node with the number of its rows, of which the first has number k
+-- a line for each inner node with the number of its rows; the first node has number k
 abbrev pub node_audits : ℕ → List Join → List ℕ → List ℕ
 node_audits k [] counts = []
 node_audits k (join ∷ joins) [] = []

@@ -1,12 +1,15 @@
 //! The texts that a run prints: the plan text, the records of the rows text, and the line that tells a status.
-//! Nothing here takes memory, so nothing here can want it.
+//! Nothing here takes memory, so nothing here can run out of it.
 //!
-//! In come a plan, along an order or over a join tree, the entries of a query, a database and the rows of a choice; or a
-//! status, and what its line may name. Callers cite `plan_lines` and `audit_lines` (in `specs/Plans.antt`), `tree_lines`
-//! and `tree_audits` (in `specs/TreePlans.antt`), `rows_lines` and `choice_text` (in `specs/Texts.antt` and
-//! `specs/Lines.antt`), `memory_text` (in `specs/Memory.antt`) and `fault_line` (in `specs/Faults.antt`). Each writing call has one clause, `Wrote`: it leaves a
-//! prefix of its text where the sink fails, as `write_line(status, names, notes)` does. `put_line`, `alias_at`,
-//! `put_level_bound` and `put_node_bound` are parts of which joined_texts makes the rows and audit texts.
+//! In: a plan, the entries of a query, a database and the rows of a choice; or a status, and the names that its line may
+//! use. Out: bytes to a sink.
+//!
+//! Callers cite `plan_lines` and `audit_lines` (in `specs/Plans.antt`), `tree_lines` and `tree_audits` (in
+//! `specs/TreePlans.antt`), `rows_lines` and `choice_text` (in `specs/Texts.antt` and `specs/Lines.antt`), `memory_text`
+//! (in `specs/Memory.antt`) and `fault_line` (in `specs/Faults.antt`). Each call that writes has one clause, `Wrote`. It
+//! says that the sink takes the whole text, or a prefix of it if the sink fails, as with `write_line(status, names, notes)`.
+//! joined_texts puts the rows and audit texts together from `put_line`, `alias_at`, `put_level_bound` and
+//! `put_node_bound`.
 #![tactic(auto)]
 
 mod fault_lines;

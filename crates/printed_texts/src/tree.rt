@@ -41,7 +41,7 @@ fn write_node<N: Sink>(k: u64, join: Join, buffer: &mut Buffer, sink: &mut N) ->
     buffer.put(sink, LINE_END)
 }
 
-// A line for each inner node, of which the first has this number.
+// A line for each inner node; the first one has this number.
 fn write_nodes<N: Sink>(
     first: u64,
     joins: &[Join],

@@ -1,7 +1,7 @@
 //! What statistics tell of the entries of a query: row bounds, and lists of joined columns.
 //!
-//! In: a query in parts, and the statistics of its entries. Out: for each FROM entry a number of rows that its scan does not pass, and for
-//! each of its joined columns a list, once each, of which the bounds of all sets of entries are folded.
+//! In: a query in parts, and the statistics of its entries. Out: for each FROM entry a row bound of its scan, and one list for each of its
+//! joined columns. set_bounds folds the bounds of all sets of entries from these.
 //!
 //! Callers cite `Tells` for what statistics tell of a query, `StandFor` for when that stands for tables, and `scan_bounds` and `set_bounds`
 //! for the answers.

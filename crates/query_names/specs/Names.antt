@@ -30,7 +30,7 @@ column_at from table number =
 abbrev pub column_named : ℕ → Table → List ℕ → Option EntryColumn
 column_named from table name = option_and_then (column_at from table) (place_of (column_names table) name)
 
--- the column of this name in an entry's table, where there is one
+-- the column of this name in an entry's table, if there is one
 unfoldable pub column_in : Schema → List ℕ → Entry → Option EntryColumn
 column_in schema name entry = option_and_then (λ table. column_named entry.number table name) (slice_get schema.tables entry.table)
 

@@ -7,7 +7,8 @@ use indexmap::IndexSet;
 use std::alloc::Global;
 use std::marker::Model;
 
-/// Values, each with the number of its equality, as its cell: texts join by their numbers in the pool. Contracts see the list of them.
+/// Values of equalities. A value is kept as its cell, with the number of its equality; texts are equal if their numbers in the pool are.
+/// Contracts see the list of them.
 #[derive(Drop)]
 pub(crate) struct ClassSet {
     pairs: IndexSet<(u32, u64)>,
@@ -22,7 +23,7 @@ impl Model for ClassSet {
 }
 
 impl ClassSet {
-    /// No values. It takes no memory.
+    /// The empty list. It allocates nothing.
     pub(crate) fn new(alloc: Global) -> ClassSet
         ensures { result ≡ [] }
     {
@@ -39,7 +40,7 @@ impl ClassSet {
         self.pairs.len()
     }
 
-    /// The number of a value of an equality. A new one goes last.
+    /// The number of a value of an equality. A new value is added at the end.
     pub(crate) fn number(&mut self, equality: u32, cell: u64) -> Result<u32, NoMemory>
         requires { length self.old < 2 ^ 31 }
         ensures class { IfOk result (λ class. slice_get self.new class ≡ Some (equality, cell)) }

@@ -27,9 +27,9 @@ pub fn reduced_scans_are_by_rounds()
         → reduced ≡ reduced_of query tables }
 {}
 
-/// No row of the answer is lost: scanned rows that together satisfy all equalities are reduced rows, so are those of each choice of the
-/// last level, in any order of the entries, and over the reduced scans this level is the same list. Its choices, as the values of the
-/// outputs, are the answer, each row as often as there.
+/// No row of the answer is lost. If scanned rows together satisfy all equalities, each of them is a reduced row. So the rows of each choice of
+/// the last level are reduced rows, in any order of the entries, and over the reduced scans this level is the same list. Its choices, as the
+/// values of the outputs, are the answer; each row occurs as often as in the answer.
 pub fn no_row_of_the_answer_is_lost()
     ensures choices { (query : Query) (tables : Tables) (reduced : List (List ℕ)) (choice : List ℕ) → NamesItsEntries query
         → AreReducedScans query tables reduced → SatisfiesEqualities query tables choice

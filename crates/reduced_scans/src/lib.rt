@@ -3,11 +3,11 @@
 //! In: a query, its database, and the list of each entry's scan. Out: for each entry the list of its reduced rows, in file order, by
 //! `reduce_scans`.
 //!
-//! First semi-joins remove rows without any match, where values lie in a short range. Then each row that is left is linked to the values
-//! that it gives and needs, and a worklist removes the rows whose match is gone.
+//! First, if the values of a column lie in a short range, semi-joins remove rows that have no match at all. Then each row that is left is
+//! linked to the values that it gives and to those that it needs, and a worklist removes the rows whose last match is gone.
 //!
-//! Callers cite `AreReducedScans`, and `reduced_of` for the same lists as a function. That there is exactly one such family, that repeated
-//! rounds reach it, and that no row of the answer is lost by it, are laws.
+//! Callers cite `AreReducedScans`, and `reduced_of` for the same lists as a function. The laws say that exactly one family of lists is
+//! reduced, that repeated rounds reach it, and that no row of the answer is lost.
 #![tactic(auto)]
 
 mod classes;

@@ -25,7 +25,7 @@ use query_types::Query;
 use row_buf::RowBuf;
 use std::alloc::Global;
 
-// Marks the rows that stay, list by list. Values and uses are let go.
+// Marks the rows that stay, list by list. Values and uses are freed.
 fn marks_of(
     alloc: Global,
     db: &Database,
@@ -67,7 +67,7 @@ fn marked_count(list: &[u32], marks: &RowBuf<bool>, first: u32) -> u64
     count
 }
 
-// The rows of a list that are marked, in a buffer with room for just these.
+// The marked rows of a list, in a buffer that has room for exactly these.
 fn marked_rows(
     alloc: Global,
     list: &[u32],
@@ -113,14 +113,14 @@ fn marked_lists(
     Ok(lists)
 }
 
-/// The reduced scans of a query: of each entry's scan the most rows such that each finds, for each equality of one of the entry's
-/// columns with a column of another entry, a row with the same value among those of that entry; in file order.
+/// The reduced scans of a query: the largest lists of scanned rows in which each row has its matches. For each equality of one of its entry's
+/// columns with a column of another entry, a row needs a row with the same value in the list of that entry. Lists are in file order.
 ///
-/// `scans` has the scan of each FROM entry, and the equalities are those of `split`. First semi-joins along the equalities, from the first
-/// to the last and back, remove rows whose value the other side doesn't have: where values lie in a short range, each is looked up by its
-/// place. Then the values of the rows that are left are numbered by one hash of each cell, and a worklist removes rows without a match. So
-/// the time is on average linear in the rows times their equalities, and so is the memory. All of it but the answer is let go before the
-/// call returns, each list of the answer has room for its own rows alone, and the answer has room for one list for each entry.
+/// `scans` has the scan of each FROM entry, and the equalities are those of `split`. First, semi-joins along the equalities, from the first to
+/// the last and back, remove rows whose value the other side doesn't have. They look a value up by its place in a range, so they run only if
+/// the values lie in a short range. Then the values of the rows that are left get numbers, by one hash of each cell, and a worklist removes rows
+/// without a match. So the time is on average linear in the rows times their equalities, and so is the memory. All memory but the answer's is
+/// freed before the call returns. Each list of the answer has room for exactly its own rows, and the answer for exactly one list an entry.
 pub fn reduce_scans(
     alloc: Global,
     query: &Query,

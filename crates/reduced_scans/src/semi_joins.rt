@@ -44,7 +44,7 @@ fn rows_within(
     Ok(kept)
 }
 
-// The rows of a list that may have a partner, where the partners' cells lie in a short range.
+// The rows of a list that may have a partner. Rows are removed only if the partners' cells lie in a short range.
 fn semi_join(
     alloc: Global,
     cells: &[u64],
@@ -80,7 +80,7 @@ fn cells_at<'a>(db: &'a Database, column: Place) -> &'a [u64]
     cells_of_column(db, reference)
 }
 
-// Puts the semi-join of a side's list with that of the other side in its place.
+// Replaces the list of a side by its semi-join with the list of the other side.
 fn sift_side(
     alloc: Global,
     db: &Database,
@@ -109,7 +109,7 @@ fn sift_side(
     Ok(())
 }
 
-// Both sides of an equality, each by the other.
+// Reduces both sides of an equality, each by the other.
 fn sift_equality(
     alloc: Global,
     db: &Database,
@@ -127,7 +127,7 @@ fn sift_equality(
     Ok(())
 }
 
-// All equalities, from the first to the last.
+// Reduces along all equalities, from the first to the last.
 fn sift_forward(
     alloc: Global,
     db: &Database,
@@ -145,7 +145,7 @@ fn sift_forward(
     Ok(())
 }
 
-// All equalities, from the last to the first.
+// Reduces along all equalities, from the last to the first.
 fn sift_back(
     alloc: Global,
     db: &Database,
@@ -187,8 +187,8 @@ fn copy(alloc: Global, list: &[u32]) -> Result<RowBuf<u32>, NoMemory>
     Ok(rows)
 }
 
-/// Of each scan the rows that are left once semi-joins along all equalities, from the first to the last and back, put rows aside that
-/// have no partner. An equality puts none aside of a side where the values of the other side lie too far apart.
+/// The rows of each scan that are left after semi-joins along all equalities, from the first to the last and back. A semi-join removes rows
+/// that have no partner. It removes no row if the values of the other side lie too far apart.
 pub(crate) fn sifted(
     alloc: Global,
     db: &Database,

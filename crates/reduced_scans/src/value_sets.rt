@@ -6,7 +6,7 @@ ghost use Rattle.reduced_scans.specs.SemiJoins.{is_marked};
 use base_io::NoMemory;
 use std::alloc::Global;
 
-// Fewer places than this are always few enough.
+// A range with fewer places than this is always short.
 const FEW: u64 = 64;
 
 /// Values: the least of their range, and for each place from there on whether its value is one of them.

@@ -77,7 +77,7 @@ fn add_side(
     Ok(())
 }
 
-/// The item of an entry's first row, where items are numbered list by list.
+/// The item of an entry's first row. Items are numbered list by list.
 pub(crate) fn first_item(scans: &[RowBuf<u32>], entry: usize) -> u32
     requires entry { entry ≤ length scans.now }
     requires few { length scans.now ≤ most_entries }

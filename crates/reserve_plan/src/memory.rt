@@ -21,7 +21,7 @@ pub fn total(numbers: &[u64]) -> u128
     total
 }
 
-/// The bytes of the chains of so many rows.
+/// The bytes of the chains of this many rows.
 pub fn row_chain_bytes(rows: u64) -> u128
     ensures value { result ≡ row_chain_bytes rows }
     ensures small { result < 2 ^ 69 }
@@ -31,7 +31,7 @@ pub fn row_chain_bytes(rows: u64) -> u128
     KEY_BYTES as u128 * rows + ROW_NUMBER_BYTES as u128 * rows + ROW_NUMBER_BYTES as u128 * buckets
 }
 
-/// The bytes of a list of buffers of row numbers, with room for so many rows each.
+/// The bytes of a list of buffers of row numbers, with room for these numbers of rows.
 pub fn lists_memory(sizes: &[u64]) -> u128
     requires few { length sizes.now ≤ most_entries }
     ensures value { result ≡ lists_bytes sizes.now }
@@ -54,8 +54,8 @@ fn chains_total(entries: &[u8], lists: &[u64]) -> u128
     total
 }
 
-/// The bytes of a plan, where each entry's list has at most so many rows, in FROM order, and each level, in the order of the plan: those
-/// that `row_buffers` takes for the lists and `reserve` for the levels.
+/// The bytes of a plan: those that `row_buffers` takes for the lists, and `reserve` for the levels. `lists` are the most rows of each entry's
+/// list, in FROM order, and `levels` the most rows of each level, in the order of the plan.
 pub fn plan_memory(order: &[u8], lists: &[u64], levels: &[u64]) -> u128
     requires some { 0 < length order.now }
     requires few { (length order.now ≤ most_entries) × (length lists.now ≤ most_entries) × (length levels.now ≤ most_entries) }

@@ -2,10 +2,10 @@ use link_index::{Chains, RowForest};
 use row_buf::RowBuf;
 use std::mem::size_of;
 
-/// The bytes of chains in a list of them, without what they hold.
+/// The bytes of one `Chains` in a list of them, without its buffers.
 pub const CHAINS_BYTES: usize = size_of::<Chains>();
 
-/// The buffers of a plan. How many bytes they hold `reserved_bytes` says.
+/// The buffers of a plan. `reserved_bytes` says how many bytes they hold.
 #[derive(Drop)]
 pub struct Reserved {
     /// For each level after the first, the chains of its entry's rows.

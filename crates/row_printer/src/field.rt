@@ -1,4 +1,4 @@
-//! Fields, quoted where they need it.
+//! Writes fields, and quotes those that need it.
 ghost use Rattle.std.specs.Prelude.{◌≡◌, ◌++◌, codes};
 ghost use Rattle.std.specs.List.{list_any};
 ghost use Rattle.base_io.specs.Devices.{growth};
@@ -55,8 +55,8 @@ fn put_quoted<N: Sink>(field: &[u8], buffer: &mut Buffer, sink: &mut N) -> Resul
     buffer.put(sink, QUOTE)
 }
 
-/// Puts a field of a record with several: in double quotes where it holds a comma, CR, LF or a double quote,
-/// each double quote doubled. On `Failed` a prefix of what waits and of the field's text was taken.
+/// Writes a field of a record that has several fields. A field that holds a comma, CR, LF or a double quote is put in double quotes, and
+/// each double quote in it is doubled. If it answers `Failed`, the sink took a prefix of what waited and of the field's text.
 pub fn put_field<N: Sink>(field: &[u8], buffer: &mut Buffer, sink: &mut N) -> Result<(), Failed>
     ensures { Put (growth N.taken N.faults sink.old sink.new) buffer.old buffer.new (field_text field.now) result }
 {
@@ -67,7 +67,7 @@ pub fn put_field<N: Sink>(field: &[u8], buffer: &mut Buffer, sink: &mut N) -> Re
     }
 }
 
-/// Puts the field of a record that has one: two double quotes where it is empty, so that no record is an
+/// Writes the field of a record that has only this one. An empty field is written as two double quotes, so that no record is an
 /// empty line.
 pub fn put_lone_field<N: Sink>(
     field: &[u8],
@@ -82,14 +82,14 @@ pub fn put_lone_field<N: Sink>(
     }
 }
 
-/// Puts what stands between two fields.
+/// Writes the comma between two fields.
 pub fn put_comma<N: Sink>(buffer: &mut Buffer, sink: &mut N) -> Result<(), Failed>
     ensures { Put (growth N.taken N.faults sink.old sink.new) buffer.old buffer.new (codes ",") result }
 {
     buffer.put(sink, COMMA)
 }
 
-/// Puts the end of a record.
+/// Writes the end of a record.
 pub fn put_record_end<N: Sink>(buffer: &mut Buffer, sink: &mut N) -> Result<(), Failed>
     ensures { Put (growth N.taken N.faults sink.old sink.new) buffer.old buffer.new (codes "\r\n") result }
 {

@@ -1,8 +1,9 @@
 //! Records of a printed CSV text, on their way through a buffer into a sink. Nothing here takes memory.
 //!
-//! Callers cite `field_text` and `record_text` (in `specs/Fields.antt`), which say how fields are quoted
-//! and records end. A caller puts a record field by field: `put_lone_field` where it has one, else
-//! `put_field`, with `put_comma` between, and then `put_record_end`.
+//! A caller writes a record field by field. It calls `put_field` for each field, `put_comma` between two fields, and `put_record_end`
+//! at the end. A record with only one field is written by `put_lone_field` and `put_record_end`.
+//!
+//! Callers cite `field_text` and `record_text` (in `specs/Fields.antt`). They say how a field is quoted and how a record ends.
 #![tactic(auto)]
 
 mod cases;

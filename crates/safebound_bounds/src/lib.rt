@@ -1,12 +1,14 @@
 //! The bounds of all sets of entries, from what a planner hands in: row bounds, equalities, and lists of columns as runs.
 //!
-//! A list for fewer rows than its entry's row bound leaves rows without a value, which match nothing: in a set in which an equality names
-//! the column they aren't counted. A list for more is cut. Out go 2^n bounds of 64 bits, written into the caller's room, or the bound of one
-//! set, where 2^64 - 1 stands for all from there on; or a `Refusal`, and then the room is as it was. No call has a condition: what it needs
-//! of its values it tests.
+//! A call writes 2^n bounds of 64 bits into the caller's buffer, the room, or answers the bound of one set. 2^64 - 1 stands for every number
+//! from there on. If it answers a `Refusal`, the room is as it was. No call has a precondition: it tests what it needs.
+//!
+//! A list may count fewer rows than its entry's row bound. The other rows then have no value in that column (NULL) and match nothing, so a
+//! set in which an equality names the column doesn't count them. A list that counts more rows is cut.
 //!
 //! Callers cite `known_in` for what the values mean in a set, `all_bounds` and `bound_in` for the answers, `IsBoundsCause`, `IsWithinCause`
-//! and `IsSetCause` for refusals, `work_of` for what a limit is compared with, and `ValuesFit` for tables to which the bounds apply.
+//! and `IsSetCause` for refusals, `work_of` for the number that is compared with the limit of work, and `ValuesFit` for tables to which the
+//! bounds apply.
 #![tactic(auto)]
 
 mod arguments;

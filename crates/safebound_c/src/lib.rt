@@ -1,7 +1,7 @@
 //! The library as C sees it: each call of include/safebound.h, thin over the crates that check values and answer.
 //!
-//! A call answers a status and leaves a number behind `detail`. `TellsAnswer` says what both stand for, and with them what was written into the
-//! caller's room. No call has a condition, and calls keep nothing between them.
+//! A call answers a status and writes a number to `*detail`. `TellsAnswer` says what the two mean, and what was written into the caller's
+//! buffer. No call has a precondition, and no call keeps anything for the next one.
 #![tactic(auto)]
 
 mod bounding;

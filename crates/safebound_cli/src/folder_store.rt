@@ -1,4 +1,4 @@
-//! Real files.
+//! A store over real files.
 ghost use Rattle.std.specs.Prelude.{◌≡◌, ◌≤◌, IfOk, None, length};
 
 use base_io::{Store, StoreError};
@@ -14,8 +14,8 @@ struct Opened<F> {
     place: u64,
 }
 
-/// Files by names relative to the working folder. It tells nothing of them. The file that it read last
-/// stays open. Every failure of the system is counted, an absent file's too.
+/// A store of files whose names are relative to the working folder. Contracts know nothing of their bytes. The file that was read last
+/// stays open. The store counts every failure of the system, and an absent file is one.
 #[derive(Drop)]
 pub struct FolderStore<'a, R: Files> {
     rt: &'a R,
@@ -35,7 +35,7 @@ impl<'a, R: Files + AllocGlobal> FolderStore<'a, R> {
         }
     }
 
-    // The file of this name, opened where the last one read is another.
+    // The file of this name. It is opened, unless it is the file that was read last.
     fn opened(&mut self, name: &str) -> io::Result<Opened<R::File>>
         ensures { self.new.faults ≡ self.old.faults }
     {
@@ -49,7 +49,7 @@ impl<'a, R: Files + AllocGlobal> FolderStore<'a, R> {
         }
     }
 
-    // After a failure no file stays open, so the next read begins anew.
+    // After a failure no file stays open, so that the next read opens the file again.
     fn read_part(&mut self, name: &str, at: u64, into: &mut [u8]) -> io::Result<usize>
         ensures count { IfOk result (λ n. n ≤ length into.new) }
         ensures faults { self.new.faults ≡ self.old.faults }

@@ -1,10 +1,10 @@
-//! Real streams.
+//! A sink over a real stream.
 ghost use Rattle.std.specs.Prelude.{◌≡◌, None};
 
 use base_io::{Failed, Sink};
 use std::io::Write;
 
-/// A stream whose failed writes are counted. It tells nothing of what was taken.
+/// A stream whose failed writes are counted. Contracts know nothing of the bytes that it took.
 #[derive(Drop)]
 pub struct StreamSink<W> {
     stream: W,

@@ -9,7 +9,7 @@ use Rattle.outcomes.specs.declared.status.Status.{Status}
 use Rattle.safebound_top.specs.Headline.{Headline}
 use Rattle.prepared_runs.specs.Shops.{shop_of, store_read}
 
--- a store that tells its files, and of which no read fails
+-- a store that tells its files; no read of it fails
 abbrev pub read_from : Files → Files → ℕ → ℕ → Reading
 read_from files after misses_before misses_after = record {
   files = Some files;

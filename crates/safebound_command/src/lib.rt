@@ -1,9 +1,10 @@
 //! The whole program over files in memory, as C sees it: include/safebound_command.h.
 //!
-//! One call runs a command line over files that the caller lends, and writes both texts into rooms of the caller's. Its status is the
-//! exit status of the program. The words stand in a fixed array, so want of memory is an answer of the run alone. `CallEnds` (in
-//! `specs/Command.antt`) says what the call answers: the headline of the top call, over a store that tells just these files and never
-//! fails, and streams that fail only where their room is full.
+//! One call runs a command line over files that the caller lends. It writes the two texts into two buffers of the caller's, called rooms, and
+//! answers the exit status of the program. The words are copied into an array of fixed size, so only the run itself can run out of memory.
+//!
+//! Callers cite `CallEnds` (in `specs/Command.antt`). It is the headline of the top call, over a store that has exactly these files and never
+//! fails, and over streams that fail only if their room is full.
 #![tactic(auto)]
 
 mod command;

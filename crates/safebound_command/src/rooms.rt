@@ -43,7 +43,7 @@ pub(crate) fn run_over(
     }
 }
 
-/// Refuses words that are more than a command line has. No file is read, and nothing is written to the other room.
+/// Refuses a command line that has too many words. It reads no file, and writes nothing to the other room.
 pub(crate) fn refuse_over(
     words: &[&[u8]],
     files: &[SliceFile<'_>],

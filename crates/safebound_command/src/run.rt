@@ -12,7 +12,7 @@ use safebound_words::MOST_WORDS;
 use slice_devices::{SliceFile, SliceSink, SliceStore};
 use std::alloc::Global;
 
-/// Runs the program. Both streams still have their rooms, what they took stands there, and the buffers of the joins are handed out.
+/// Runs the program. Afterwards both streams still have their rooms, with what was written in them. It hands out the buffers of the joins.
 pub(crate) fn run(
     alloc: Global,
     words: &[&str],
@@ -40,7 +40,7 @@ pub(crate) fn run(
     safebound(alloc, words, store, out, notes, kept)
 }
 
-/// Refuses words that are more than a command line has. The stream still has its room, and what it took stands there.
+/// Refuses a command line that has too many words. Afterwards the stream still has its room, with what was written in it.
 pub(crate) fn refuse(
     _words: &[&[u8]],
     _files: &[SliceFile<'_>],

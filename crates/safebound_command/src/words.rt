@@ -7,12 +7,12 @@ use arrayvec::ArrayVec;
 use safebound_words::MOST_WORDS;
 use std::str;
 
-/// Why words aren't handed on.
+/// Why the words aren't handed on to the program.
 #[derive(Clone, Copy, Debug, PartialEq, Eq)]
 pub(crate) enum NoWords {
     /// One of them isn't UTF-8.
     NotUtf8,
-    /// They are more than any command line has.
+    /// There are more of them than any command line has.
     TooMany,
 }
 

@@ -25,7 +25,7 @@ pub fn the_headline_keeps_the_promise()
     ensures { (call : Call) → Headline call → Promise call }
 {}
 
-/// `demo` never ends with a read fault, or with an absent file: each file that it reads is one of its shop's, and no read of these fails.
+/// `demo` never ends with a read fault or an absent file: it reads only files of its shop, and no read of these fails.
 pub fn demo_meets_no_read_fault()
     ensures fault { (call : Call) (number : ℕ) → Headline call → shop_of call.words ≡ Some number → call.store ≡ shop_store number
         → (file : FileId) → call.status ≢ status.ReadFault file }
@@ -33,8 +33,8 @@ pub fn demo_meets_no_read_fault()
         → (file : FileId) → call.status ≢ status.Refused (refusal.Missing file) }
 {}
 
-/// Near, where no conjunct names one entry alone, and without `--reduce` and `--keys`: at accuracy K, K^n times the printed bound of each level or
-/// inner node of n entries is at most (K + 1)^n times the uncompressed one.
+/// Printed bounds are near the uncompressed ones, if no conjunct names one entry alone and neither `--reduce` nor `--keys` is given. At
+/// accuracy K, K^n times the printed bound of a level or inner node of n entries is at most (K + 1)^n times its uncompressed bound.
 pub fn printed_bounds_are_near()
     ensures levels { (words : List (List ℕ)) (files : Files) (shop : Option ℕ) (schema query : List ℕ) (task : PlanWork) (run : Accepted) (plan : Plan)
         → command_stage words ≡ Ok (over_query shop schema query (works.Plan task)) → verdict words files ≡ Ok (Planned run)

@@ -7,9 +7,9 @@ ghost use Rattle.safebound_top.specs.Promise.{AsksQuery};
 ghost use Rattle.safebound_laws.specs.FileCalls.{AppendCall, AppendedEach, PlanCall, PlannedFrom, StatsCall, WroteStats, last_bytes};
 ghost use Rattle.safebound_laws.specs.FilePlans.{GrownPlanHolds, PlanHolds, PlanIsNear, PlanIsOfTables};
 
-/// `stats`, then `plan --stats`: where the one wrote the bytes that the other read as its statistics file, and both declare one schema, then
-/// for every query that the later call accepts no scan and no level has more rows than its plan text says, over the rows in the files that
-/// `stats` read.
+/// `stats`, then `plan --stats`: suppose that the second call read the bytes that the first one wrote, as its statistics file, and that both
+/// declare the same schema. Then for every query that the second call accepts, no scan and no level has more rows than the plan text says,
+/// over the rows in the files that `stats` read.
 pub fn plans_from_written_files_hold()
     ensures { (schema : Schema) (bytes : List ℕ) (made : StatsCall) (planned : PlanCall)
         → WroteStats made schema bytes → PlannedFrom schema bytes planned → PlanHolds made planned schema }
@@ -22,15 +22,15 @@ pub fn plans_from_appended_files_hold()
         → GrownPlanHolds made appends planned schema }
 {}
 
-/// The plan is the one that the tables have: of whatever query it is that the later call accepts, the plan that `plan` makes of the rows that
+/// The plan is the one that the tables have. For every query that the later call accepts, it is the plan that `plan` makes of the rows that
 /// `stats` read, at the accuracy of `stats` and within the later call's budget.
 pub fn plans_from_written_files_are_those_of_the_tables()
     ensures { (schema : Schema) (bytes : List ℕ) (made : StatsCall) (planned : PlanCall)
         → WroteStats made schema bytes → PlannedFrom schema bytes planned → PlanIsOfTables made planned schema }
 {}
 
-/// So it is near: where no conjunct of the query names one entry alone, then at accuracy K, K^n times the printed bound of each level of n
-/// entries is at most (K + 1)^n times the uncompressed one. At the usual accuracy, 1, the bound is at most 2^n times it.
+/// So its bounds are near the uncompressed ones, if no conjunct of the query names one entry alone. At accuracy K, K^n times the printed bound
+/// of a level of n entries is at most (K + 1)^n times its uncompressed bound. At the usual accuracy, 1, it is at most 2^n times that.
 pub fn plans_from_written_files_are_near()
     ensures { (schema : Schema) (bytes : List ℕ) (made : StatsCall) (planned : PlanCall)
         → WroteStats made schema bytes → PlannedFrom schema bytes planned

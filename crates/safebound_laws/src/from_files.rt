@@ -22,8 +22,8 @@ ghost use Rattle.safebound_top.specs.OutcomeTexts.{out_text};
 ghost use Rattle.prepared_runs.specs.Verdict.{command_run};
 ghost use Rattle.safebound_laws.specs.Printed.{printed};
 
-/// Over a schema that a text declares, the text of a file that keeps the rules is answered by that file; and reading it answers the file, or
-/// want of memory.
+/// Take a schema that a text declares, and a file that keeps the rules. The definition answers the file's text with this file. Reading the text
+/// answers this file too, or that memory was wanting.
 pub fn files_of_declared_schemas_are_read()
     ensures answered { (text : List ℕ) (schema : Schema) (file : StatsFile) → IsSchemaOf text (Ok schema) → KeepsRules schema file
         → stats_answer schema (file_text schema file) ≡ Ok file }
@@ -32,8 +32,9 @@ pub fn files_of_declared_schemas_are_read()
         → (answer ≡ Ok file) ⊎ (answer ≡ Err error.NoMemory) }
 {}
 
-/// Where `stats` over some files comes to the text of a statistics file, and a file of these bytes is among them, `plan --stats` of that file
-/// prints what `plan` prints at the accuracy of the text, within each budget and each limit of memory, or is refused alike.
+/// Suppose that `stats` over some files writes the text of a statistics file, and that a file with these bytes is among them. Then
+/// `plan --stats` with this file prints what `plan` prints at the accuracy of the text, or both are refused for the same cause. This holds for
+/// each budget and each limit of memory.
 pub fn files_plan_as_their_tables()
     ensures { (schema_file query_file stats_file : List ℕ) (accuracy budget : ℕ) (memory : Option ℕ) (files : Files) (written : Outcome) (text : List ℕ)
         → 0 < accuracy → accuracy ≤ most_accuracy

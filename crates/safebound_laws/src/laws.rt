@@ -31,9 +31,9 @@ ghost use Rattle.prepared_runs.specs.Verdict.{verdict};
 ghost use Rattle.safebound_words.specs.declared.command.ListSource.{ListSource};
 ghost use Rattle.safebound_words.specs.declared.command.Shape.{Shape};
 
-/// What the words and the files come to has no bound that is too low, and its printed rows, if any, are the answer of the
-/// query. Of a plan from a statistics file this holds over all tables for which the file stands; a statistics file that is
-/// made stands for its tables. A plan takes no more bytes than its limit of memory, where there is one. It does nothing.
+/// The outcome that the words and the files determine has no bound that is too low. If it prints rows, these are the answer of the query. For a
+/// plan from a statistics file, the bounds hold over all tables for which the file stands. A statistics file that is made stands for its
+/// tables. A plan takes no more bytes than the limit of memory, if there is one. The function does nothing.
 pub fn run_law()
     ensures bounds { (words : List (List ℕ)) (files : Files) → IfOk (verdict words files) NoBoundIsTooLow }
     ensures rows { (words : List (List ℕ)) (files : Files) → IfOk (verdict words files) PrintsTheAnswer }
@@ -56,9 +56,9 @@ pub fn sources_stand()
         → tables_stage schema query.from files ≡ Ok rows → Needs source schema query (tables_in rows) }
 {}
 
-/// Of the errors of the four readers and of all plans the verdict meets none that is want of memory: no text, no
-/// table's bytes, and no plan answers it, whatever the source gives and whatever the shape, and none from a statistics
-/// file. So each refusal of the verdict tells something of the words or of a file. It does nothing.
+/// The definitions never answer that memory was wanting: not for a text, not for a table's bytes, and not for a plan, whatever its source and
+/// shape, nor for a plan from a statistics file. So each refusal of the verdict says something about the words or about a file. The function
+/// does nothing.
 pub fn no_reader_wants_memory()
     ensures schemas { (text : List ℕ) → schema_answer text ≢ Err schema_error.NoMemory }
     ensures queries { (schema : Schema) (text : List ℕ) → query_answer schema text ≢ Err query_error.NoMemory }

@@ -1,14 +1,15 @@
-//! What follows from the top call's definitions: no law computes anything, and its contract is the law.
+//! What follows from the top call's definitions: no law computes anything, and its contract is the law. It is for readers of the proofs: no
+//! command of the program calls it.
 //!
-//! `laws` has what the headline rests on: that no verdict has a bound that is too low, that its rows are the answer, and that no refusal is
-//! want of memory under another name. `corollaries` has what follows from the headline and the verdict. `from_files` compares plans from
-//! statistics files with plans from tables, and `appends` says what the file stands for that `append` writes.
-//!
-//! `file_plans` goes from the bytes of statistics files to bounds: its laws are over whole calls, each with its words, its files and its
-//! streams, and nothing connects one call with another but the bytes that the one wrote and the other read, and the schema that both declare.
-//! `written_files` has what they rest on: what holds of a file after an append, and that a file stands for its tables whatever the query.
-//!
-//! No command of the program uses this crate.
+//! - `laws` has what the headline rests on. No verdict has a bound that is too low, its rows are the answer, and no refusal hides that
+//!   memory was wanting.
+//! - `corollaries` has what follows from the headline and the verdict.
+//! - `from_files` compares plans from statistics files with plans from tables.
+//! - `appends` says for which rows the file stands that `append` writes.
+//! - `file_plans` goes from the bytes of statistics files to bounds. Its laws are over several whole calls, each with its words, its files
+//!   and its streams. Two calls are connected only by the bytes that one wrote and the other read, and by the schema that both declare.
+//! - `written_files` has what `file_plans` rests on: what holds of a file after an append, and that a file stands for its tables whatever
+//!   the query is.
 #![tactic(auto)]
 
 pub mod appends;

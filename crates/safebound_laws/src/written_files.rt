@@ -24,7 +24,8 @@ pub fn appended_texts_are_read_back()
         → stats_answer grows.schema (file_text grows.schema grows.after) ≡ Ok grows.after }
 {}
 
-/// Where a file of a query's tables stands for them, it stands for the tables of each other query, with the same rows where both name a table.
+/// If a file that is made of a query's tables stands for them, it stands for the tables of any other query too, as long as a table that both
+/// queries name has the same rows in both.
 pub fn files_stand_for_other_queries()
     ensures { (query other : Query) (file : StatsFile) (tables also : Tables) → StandsFor query file tables → IsOfTables query file
         → HaveSameRows query tables other also → StandsFor other file also }

@@ -32,7 +32,7 @@ IsAppendCause runs others room (refusal.Room needed) =
 IsAppendCause runs others room refusal.NoMemory = ⊤
 IsAppendCause runs others room _ = ⊥
 
--- of a compressed list: an accuracy that is none, a wrong run, too little room, or want of memory
+-- of a compressed list: an accuracy out of its range, a wrong run, too little room, or want of memory
 abbrev pub IsCompressCause : List Run → ℕ → ℕ → Refusal → Type 0
 IsCompressCause runs accuracy room (refusal.Accuracy given) = (given ≡ accuracy) × ((accuracy ≡ 0) ⊎ (most_accuracy < accuracy))
 IsCompressCause runs accuracy room (refusal.Run place) =

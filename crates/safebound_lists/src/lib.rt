@@ -1,12 +1,13 @@
-//! What a planner asks of lists that it holds itself: every value that comes in is checked, the proved crates are called, and answers are
-//! written into the caller's room.
+//! What a planner asks of lists that it holds itself. Each call checks every value that it is given, calls the proved crates, and writes its
+//! answer into a buffer of the caller's, the room.
 //!
-//! In come lists as runs; out go degree sequences, lists of few runs, and what becomes of two lists or of one where conditions are tested:
-//! rank-wise sums, lesser and greater lists, and lists that are cut. Each call answers how many elements it wrote, or a `Refusal`, and then the
-//! room is as it was. No call has a condition: what it needs of its values it tests.
+//! Lists are given as runs. One call makes the degree sequence of a column from its keys, and one makes a list with fewer runs. Other
+//! calls do what conditions do to lists: they add two lists rank by rank, take the lesser or the greater of each two elements, or cut a list.
+//! Each call answers how many elements it wrote. If it answers a `Refusal`, the room is as it was. No call has a precondition: it tests what it
+//! needs.
 //!
 //! Callers cite `AreRight` for lists, `MayBeCompressed`, `MayBeAdded`, `AreBothRight` and `MayBeRaised` for what calls take, `IsWritten` for
-//! what stands in a room, and for each call the causes of its refusals.
+//! what is in the room afterwards, and for each call the causes of its refusals.
 #![tactic(auto)]
 
 mod adding;

@@ -1,13 +1,13 @@
 //! The best order and the best join tree over bounds that a planner hands in, with 64 bits.
 //!
-//! In comes a bound for each set of entries, at the number whose bits are the set, where 2^64 - 1 stands for all from there on. Out go the
-//! levels of the best left-deep order, or the joins of the best tree, written into the caller's room; or a `Refusal`, and then the room is
-//! as it was. No call has a condition: what it needs of its values it tests.
+//! The planner gives a bound for each set of entries, at the number whose bits are the set. 2^64 - 1 stands for every number from there on.
+//! A call writes the levels of the best left-deep order, or the joins of the best tree, into the caller's buffer, the room. If it answers a
+//! `Refusal`, the room is as it was. No call has a precondition: it tests what it needs.
 //!
-//! For an order or a tree there is also how many bytes the buffers of this project's engine take.
+//! Two more calls tell how many bytes the buffers of an order or a tree take in this project's engine.
 //!
-//! Callers cite `IsBestOrder` and `IsBestTree` for what stands in a room, and `IsOrderCause` and `IsTreeCause` for refusals; of bytes `IsOrderMemory` and
-//! `IsTreeMemory`.
+//! Callers cite `IsBestOrder` and `IsBestTree` for what is in the room afterwards, `IsOrderCause` and `IsTreeCause` for refusals, and
+//! `IsOrderMemory` and `IsTreeMemory` for bytes.
 #![tactic(auto)]
 
 mod memory;

@@ -37,7 +37,7 @@ pub record Written (out notes : Growth) (outcome : Outcome) (result : Result (Un
   pub later_out : out.faults_before ≤ out.faults_after
   pub later_notes : notes.faults_before ≤ notes.faults_after
 
--- a text was handed to a sink, where there is one
+-- a text was handed to a sink, if there is one
 abbrev pub WroteIfAny : Growth → Option (List ℕ) → Result (Unit {0}) Failed → Type 0
 WroteIfAny out None result = DidNotGrow out × (result ≡ Ok tt)
 WroteIfAny out (Some text) result = Wrote out text result

@@ -29,12 +29,12 @@ OverFiles call P = (files : Files) → call.store.files ≡ Some files → P fil
 abbrev pub DidNotGrow : Growth → Type 0
 DidNotGrow sink = (sink.taken_after ≡ sink.taken_before) × (sink.faults_after ≡ sink.faults_before)
 
--- it grew by exactly the text, where there is one, and else it took nothing
+-- it grew by exactly the text, if there is one, and else it took nothing
 abbrev pub GrewWhole : Growth → Option (List ℕ) → Type 0
 GrewWhole sink None = DidNotGrow sink
 GrewWhole sink (Some text) = Grew sink text
 
--- what it took, and then the text, where there is one
+-- what it took, and then the text, if there is one
 abbrev pub grown : Option (List ℕ) → Option (List ℕ) → Option (List ℕ)
 grown taken None = taken
 grown taken (Some text) = appended taken text
@@ -87,7 +87,7 @@ pub record WriteFaultsHaveTheirCause (call : Call) : Type 0 where
   pub of_notes : call.status ≡ status.WriteFault sink.Notes → FaultsRose call.notes × DidNotGrow call.out
       × OverFiles call (λ files v. IsOkAnd v (λ outcome. WasCutAndTold call.notes (notes_text outcome)
       (fault_text call.status call.words files)))
-  -- of out: the plan text stands in the notes, where there is one, and then the line; in out a prefix of its text
+  -- of out: the plan text stands in the notes, if there is one, and then the line; in out a prefix of its text
   pub of_out : call.status ≡ status.WriteFault sink.Out → FaultsRose call.out
       × OverFiles call (λ files v. IsOkAnd v (λ outcome. WasCut call.out (out_text outcome)
       × GrewOrWasCut (grown call.notes.taken_before (notes_text outcome)) call.notes.taken_after call.notes.faults_before call.notes.faults_after

@@ -12,14 +12,14 @@ abbrev pub filed_plan_text : FiledPlan → List ℕ
 filed_plan_text made =
     plan_lines made.query.from made.plan ++ memory_text made.memory (plan_bytes made.plan.order made.plan.scans made.plan.levels)
 
--- the text for notes, where there is one: the plan text
+-- the text for notes, if there is one: the plan text
 abbrev pub notes_text : Outcome → Option (List ℕ)
 notes_text (Planned run) = Some (plan_text run)
 notes_text (Filed filed) = None
 notes_text (PlannedByFile made) = Some (filed_plan_text made)
 notes_text (Appended made) = None
 
--- the text for out, where there is one
+-- the text for out, if there is one
 abbrev pub out_text : Outcome → Option (List ℕ)
 out_text (Planned run) = out_text_of run
 out_text (Filed filed) = Some (file_text filed.schema filed.file)

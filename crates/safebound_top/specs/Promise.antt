@@ -2,7 +2,7 @@
 -- is counted from the plan's bounds by the sizes of the program's own buffers and of their items.
 --
 -- Suppose that a call of `run` ends with Done, over files that the store tells. Then the schema's file declares one schema, the query's file
--- asks one query of it, and each FROM entry has the rows in its table's file. A plan was printed of which no bound is too low. And rows were
+-- asks one query of it, and each FROM entry has the rows in its table's file. A plan was printed in which no bound is too low. And rows were
 -- printed that are those of the answer, in any order, each as often as in the answer.
 --
 -- - Bounds count rows that are kept, and not those that are tried. A choice has one scanned row of each entry of a level or node. It counts

@@ -20,7 +20,7 @@ rows_text run = rows_lines run.query.select (printed run)
 abbrev pub audit_text : Accepted → List ℕ
 audit_text run = shape_audits run.query.from run.plan (part_counts run)
 
--- the text for out, where there is one
+-- the text for out, if there is one
 abbrev pub text_for : OutText → Accepted → Option (List ℕ)
 text_for out_text.Rows run = Some (rows_text run)
 text_for out_text.Audit run = Some (audit_text run)

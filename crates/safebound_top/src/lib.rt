@@ -1,15 +1,19 @@
 //! The top call: from the words of a command line to the bytes of two streams.
 //!
-//! It only calls the stages in order. `read_words` finds what is asked for; `load_schema` and `prepare_run` read every file, plan, take all
-//! memory of the run and write nothing; `write_outcome` writes the plan text and then the rows text or the audit text, or the text of a
-//! statistics file, and takes no memory. On every status but `Done`, `write_fault` tells the status in one line.
+//! It calls the stages in order, and does nothing else. `read_words` finds what is asked for. `load_schema` and `prepare_run` read every
+//! file, plan, take all memory of the run, and write nothing. `write_outcome` writes the plan text, and then the rows text or the audit text;
+//! or it writes the text of a statistics file. It takes no memory. If the status isn't `Done`, `write_fault` tells it in one line.
 //!
-//! `safebound` has four clauses. `promise` says what a `run` that is done has printed, from its words, its files and SQL alone
-//! (`Promise` in `specs/Promise.antt`). `headline` says what comes out of any call, and why (`Headline` in `specs/Headline.antt`),
-//! `untouched` that `demo` leaves the store that was handed in as it was, and `buffers` that the joins went through the buffers of the
-//! plan, with just its bytes (`KeepsItsBuffers` of prepared_runs): these are handed out. The headline stands on `verdict` (of
-//! prepared_runs): what the words and the files determine. A step that reads has the clause `Reads` over its
-//! stage of the verdict, and `Ran` and `Course` (in `specs/Course.antt`) compose them.
+//! `safebound` has four clauses:
+//!
+//! - `promise` says what a `run` that is done has printed. It speaks of words, files and SQL alone (`Promise` in `specs/Promise.antt`).
+//! - `headline` says what comes out of any call, and why (`Headline` in `specs/Headline.antt`).
+//! - `untouched` says that `demo` leaves the caller's store as it was.
+//! - `buffers` says that the joins wrote into the buffers of the plan, and that these have exactly the plan's bytes
+//!   (`KeepsItsBuffers` of prepared_runs). The call hands them out.
+//!
+//! The headline speaks of `verdict` (of prepared_runs): what the words and the files determine. Each step that reads has the clause `Reads`
+//! over its stage of the verdict, and `Ran` and `Course` (in `specs/Course.antt`) put the stages together.
 #![tactic(auto)]
 
 mod report;

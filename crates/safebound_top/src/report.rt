@@ -12,7 +12,7 @@ use printed_texts::{Named, write_line};
 use safebound_words::{Aim, Command, Work};
 use schema_types::Schema;
 
-// The statistics file that is read, as a command names it, where one is.
+// The name of the statistics file that a command reads. It is empty if the command reads none.
 fn stats_file_of<'a>(work: &'a Work<'a>) -> &'a str
     ensures { result.now ≡ stats_file_told work.now }
 {
@@ -60,8 +60,8 @@ fn names_of<'a>(command: Option<&'a Command<'a>>, schema: Option<&'a Schema>) ->
     }
 }
 
-/// Writes the line of a status that is not `Done`. A file is named by the word of the command, a table by its
-/// file and a column by its name, as the schema has them.
+/// Writes the line of a status that isn't `Done`. The line names a file by the command's word for it, a table by its file, and a column by
+/// its name in the schema.
 pub fn write_fault<N: Sink>(
     status: Status,
     command: Option<&Command>,
@@ -75,7 +75,7 @@ pub fn write_fault<N: Sink>(
     write_line(status, names_of(command, schema), sink)
 }
 
-/// Tells a status as the last act of a call. A failure of this write changes nothing else.
+/// Writes the line of a status, at the end of a call. If this write fails, the status stays the same.
 pub fn report<N: Sink>(
     status: Status,
     command: Option<&Command>,

@@ -29,7 +29,7 @@ use query_types::{Query, Source};
 use schema_types::Schema;
 use stats_file::{StatsFile, write_stats};
 
-// Writes the rows for all entries, of a plan that was joined.
+// Writes the rows text of a plan that was joined.
 fn write_joined<O: Sink>(
     joined: &Joined,
     query: &Query,
@@ -49,7 +49,7 @@ fn write_joined<O: Sink>(
     }
 }
 
-// Writes how many rows each level or inner node has, of a plan that was joined.
+// Writes the audit text of a plan that was joined: how many rows each level or inner node has.
 fn write_sizes<O: Sink>(joined: &Joined, sources: &[Source], out: &mut O) -> Result<(), Failed>
     requires { HasParts (length sources.now) joined.now }
     ensures { Wrote (growth O.taken O.faults out.old out.new)
@@ -61,7 +61,7 @@ fn write_sizes<O: Sink>(joined: &Joined, sources: &[Source], out: &mut O) -> Res
     }
 }
 
-// Does what is left to do, and hands out the buffers in which it joined, if it did.
+// Does what is left to do. If that is a join, it hands out the buffers with the rows.
 fn write_rest<O: Sink>(
     rest: Rest,
     query: &Query,
@@ -126,7 +126,7 @@ fn write_bounds<N: Sink>(rest: &Rest, sources: &[Source], notes: &mut N) -> Resu
     }
 }
 
-// Writes the plan text of what is left to do, and behind it the line of its bytes, where there is a limit of memory.
+// Writes the plan text of what is left to do. If memory is limited, it adds the line with the bytes of the plan.
 fn write_plan_text<N: Sink>(
     rest: &Rest,
     memory: Option<u64>,
@@ -142,7 +142,7 @@ fn write_plan_text<N: Sink>(
     write_memory(memory, bytes, notes)
 }
 
-// Writes the plan text to `notes`, and then what is left to do to `out`, and hands out the buffers of the joins.
+// Writes the plan text to `notes`. Then it does what is left to do, writes its text to `out`, and hands out the buffers of the joins.
 fn write_texts<O: Sink, N: Sink>(
     prepared: Prepared,
     out: &mut O,
@@ -173,7 +173,7 @@ fn write_texts<O: Sink, N: Sink>(
     }
 }
 
-// Writes the text of a statistics file to `out`. The notes aren't touched.
+// Writes the text of a statistics file to `out`, and nothing to `notes`.
 fn write_file<O: Sink>(file: &StatsFile, schema: &Schema, out: &mut O) -> Result<(), SinkId>
     requires { KeepsRules schema.now file.now }
     ensures { (notes : Growth) (outcome : Outcome) → DidNotGrow notes → notes_text outcome ≡ None
@@ -185,7 +185,7 @@ fn write_file<O: Sink>(file: &StatsFile, schema: &Schema, out: &mut O) -> Result
     }
 }
 
-// Writes the plan text of a plan from a statistics file, and behind it the line of its bytes, where there is a limit of memory.
+// Writes the plan text of a plan from a statistics file. If memory is limited, it adds the line with the bytes of the plan.
 fn write_filed_text<N: Sink>(made: &PreparedPlan, notes: &mut N) -> Result<(), Failed>
     requires { IsPlan (length made.now.query.from) made.now.plan }
     ensures { Wrote (growth N.taken N.faults notes.old notes.new)
@@ -195,7 +195,7 @@ fn write_filed_text<N: Sink>(made: &PreparedPlan, notes: &mut N) -> Result<(), F
     write_memory(made.memory, made.bytes, notes)
 }
 
-// Writes the plan text of a plan from a statistics file to `notes`. `out` isn't touched.
+// Writes the plan text of a plan from a statistics file to `notes`, and nothing to `out`.
 fn write_filed_plan<N: Sink>(made: PreparedPlan, notes: &mut N) -> Result<(), SinkId>
     requires { IsPlanned made }
     ensures { (out : Growth) → DidNotGrow out → Written out (growth N.taken N.faults notes.old notes.new) (plan_from made) result }
@@ -206,8 +206,8 @@ fn write_filed_plan<N: Sink>(made: PreparedPlan, notes: &mut N) -> Result<(), Si
     }
 }
 
-/// Writes the texts of what a run comes to: the one for `notes`, and then the one for `out`, where there are such. It hands out the buffers in
-/// which it joined, if it did, with the rows in them.
+/// Writes the texts of a run: first the one for `notes`, if the run has one, and then the one for `out`, if the run has one. If the run
+/// joins, it hands out the buffers with the rows of the joins.
 pub fn write_outcome<O: Sink, N: Sink>(
     ready: Ready,
     schema: &Schema,

@@ -39,7 +39,7 @@ fn stopped<N: Sink>(
     status
 }
 
-// Writes the texts of what the run comes to, and hands out the buffers of its joins; or tells the stream that couldn't be written.
+// Writes the texts of the run, and hands out the buffers of its joins. If a write fails, it tells which stream couldn't be written.
 fn written<O: Sink, N: Sink>(
     ready: Ready,
     command: &Command,
@@ -182,17 +182,19 @@ pub fn refuse_words<N: Sink>(notes: &mut N) -> Status
     status
 }
 
-/// Runs a command: reads the words' files, plans, takes all memory, writes the plan text to `notes` and the rows text or
-/// the audit text, where one is asked for, to `out`; or tells in one line of `notes` why not. `stats` writes a statistics
-/// file to `out` and no plan, `plan --stats` reads one and no table, and `append` reads one and new rows and writes it with
-/// these to `out`. `demo` reads files that it makes in memory, and leaves `store` as it is.
+/// Runs a command. It reads the files that the words name, plans the query, and takes all memory. Then it writes the plan text to `notes`, and
+/// the rows text or the audit text to `out`, if one is asked for. If it can't, it writes one line to `notes` that says why.
 ///
-/// Once all is written, `kept` has the buffers in which `run`, `audit` or `demo` joined: the rows of each level, or of each inner node, stand
-/// in them, and their capacities times the sizes of items sum to exactly the bytes of the plan. With `--memory N` these bytes are what the
-/// plan text prints, and at most N (sentences 1 and 9 of the headline). No other command takes such buffers. The caller lets them go.
+/// Some commands differ. `stats` writes a statistics file to `out` and no plan. `plan --stats` reads a statistics file and no table. `append`
+/// reads a statistics file and new rows, and writes the file with these rows to `out`. `demo` reads files that it makes in memory, and
+/// leaves `store` as it is.
 ///
-/// The contract is what `run` promises (`specs/Promise.antt`), the project's headline, sentence by sentence in `specs/Headline.antt`, and
-/// what the buffers hold (`KeepsItsBuffers` of prepared_runs).
+/// After `run`, `audit` or `demo`, `kept` has the buffers of the joins, with the rows of each level or of each inner node. Their capacities
+/// times the sizes of their items sum to exactly the bytes of the plan. With `--memory N` the plan text prints these bytes, and they are at
+/// most N (sentences 1 and 9 of the headline). No other command takes such buffers. The caller frees them.
+///
+/// The contract says what `run` promises (`specs/Promise.antt`), what comes out of any call (`specs/Headline.antt`, sentence by sentence),
+/// and what the buffers hold (`KeepsItsBuffers` of prepared_runs).
 pub fn safebound<S: Store, O: Sink, N: Sink>(
     alloc: Global,
     words: &[&str],

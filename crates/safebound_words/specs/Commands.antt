@@ -34,7 +34,7 @@ abbrev pub shape_by : Bool → Shape
 shape_by false = shapes.Order
 shape_by true = shapes.Tree
 
--- a text for out, a budget, an accuracy, a source, the flag `--bushy`, and a limit of memory, where there is one
+-- a text for out, a budget, an accuracy, a source, the flag `--bushy`, and a limit of memory, if there is one
 abbrev pub plan_over : OutText → ℕ → ℕ → ListSource → Bool → Option ℕ → Work
 plan_over out budget accuracy source bushy memory = works.Plan
     (record { budget = budget; accuracy = accuracy; source = source; shape = shape_by bushy; memory = memory; out = out })

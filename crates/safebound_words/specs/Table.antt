@@ -139,7 +139,7 @@ from_file file limit (schema ∷ query ∷ []) given = do
   if stands_alone given then Some (over_query None schema query (works.PlanFrom file budget limit)) else None
 from_file file limit places given = None
 
--- a plan from a statistics file, where there is one, or from the tables
+-- a plan from a statistics file, if there is one, or from the tables
 abbrev pub planned_from : Option Word → List Word → Given → Option Command
 planned_from None places given = over_files out_text.Nothing places given
 planned_from (Some file) places given = with_limit (from_file file) places given

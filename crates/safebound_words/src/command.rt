@@ -9,7 +9,7 @@ pub enum OutText {
     Rows,
     /// For each level of the plan's order, or each inner node of its tree, its bound and its number of rows.
     Audit,
-    /// None: `out` isn't written.
+    /// No text: `out` isn't written.
     Nothing,
 }
 
@@ -22,7 +22,7 @@ pub enum ListSource {
     Keyed,
     /// Reduced scans, for both.
     Reduced,
-    /// Reduced scans, for both, of which choices are counted.
+    /// Reduced scans, for both. Bounds are made by counting choices of their rows.
     Counted,
 }
 
@@ -35,9 +35,9 @@ pub enum Shape {
     Tree,
 }
 
-/// How a query is planned over its tables: the most rows that a plan may cost, how closely lists of degrees are compressed,
-/// what bounds are made from, the shape of the plan, the most bytes that its buffers may take, where there is such a limit,
-/// and which text goes to `out`.
+/// How a query is planned over its tables: the budget, which is the most rows that a plan may cost; the accuracy of compression; what
+/// bounds are made from; the shape of the plan; the limit of memory, which is the most bytes that its buffers may take, if there is a
+/// limit; and which text goes to `out`.
 #[derive(Clone, Copy, Debug)]
 pub struct PlanWork {
     pub budget: u64,
@@ -57,8 +57,7 @@ pub enum Work<'a> {
     File {
         accuracy: u8,
     },
-    /// It is planned from the statistics file of this name. The most rows that a plan may cost are the budget, and the most bytes
-    /// that its buffers may take the limit of memory, where there is one.
+    /// It is planned from the statistics file of this name, within a budget and a limit of memory, if there is one.
     PlanFrom {
         file: Word<'a>,
         budget: u64,
@@ -79,11 +78,11 @@ pub struct NewRows<'a> {
 pub enum Aim<'a> {
     /// This work is done with the query in the file of this name.
     Query { file: Word<'a>, work: Work<'a> },
-    /// The statistics file is written as it is after the new rows.
+    /// The statistics file is written with the new rows.
     Append(NewRows<'a>),
 }
 
-/// The name of the schema's file, what is done over the schema, and the number of the shop whose files are made and read, if one is.
+/// The name of the schema's file, what is done over the schema, and for `demo` the number of the shop whose files are made and read.
 #[derive(Debug, Drop)]
 pub struct Command<'a> {
     pub schema_file: Word<'a>,
@@ -91,7 +90,7 @@ pub struct Command<'a> {
     pub shop: Option<u32>,
 }
 
-/// Why words are no command.
+/// Why the words are no command.
 #[derive(Clone, Copy, Debug, PartialEq, Eq)]
 pub enum WordsError {
     /// They ask for nothing that the table of commands has.

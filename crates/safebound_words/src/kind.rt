@@ -18,7 +18,7 @@ pub(crate) enum Kind<'a> {
     Option(OptionName),
     /// An option and its value.
     Value(OptionName, &'a str),
-    /// A dash and more that is no option and no flag of the command.
+    /// A word that begins with a dash and is no option and no flag of the command.
     Unknown,
 }
 
@@ -29,7 +29,7 @@ fn is_dashed(word: &str) -> bool
     matches!(word.as_bytes(), [b'-', _, ..])
 }
 
-// A word up to its first `=`, and what stands behind that, where it has one.
+// A word up to its first `=`, and what comes after the `=`, if there is one.
 fn split_value(word: &str) -> (&str, Option<&str>)
     ensures front { result.0.now ≡ (told_parts word.now).0 }
     ensures value { option_map (λ v. v.now) result.1 ≡ (told_parts word.now).1 }
@@ -40,7 +40,7 @@ fn split_value(word: &str) -> (&str, Option<&str>)
     }
 }
 
-// What a dashed word is that is no flag of the command.
+// What a word with a dash is, if it isn't a flag of the command.
 fn option_kind(name: CommandName, word: &str) -> Kind<'_>
     ensures { kind_seen result ≡ told_option (option_of name (told_parts word.now).0) (told_parts word.now).1 }
 {

@@ -18,7 +18,7 @@ pub(crate) enum Places<'a> {
     Four(&'a str, &'a str, &'a str, &'a str),
 }
 
-/// What the next word is: an item, an option's value, or, behind `--`, a place word.
+/// What the next word is: an item, an option's value, or, after `--`, a place word.
 #[derive(Clone, Copy)]
 pub(crate) enum Next {
     Item,
@@ -40,7 +40,7 @@ pub(crate) struct Line<'a> {
     pub count: bool,
 }
 
-// Puts a word where there is none.
+// Puts a word if there is none.
 fn put<'a>(given: &mut Option<&'a str>, word: &'a str) -> Result<(), WordsError>
     ensures ok { OnOk result (option_words given.new ≡ option_words given.old ++ word.now ∷ []) }
     ensures again { OnErr result (length (option_words given.old) ≡ 1) }
@@ -114,7 +114,7 @@ impl<'a> Line<'a> {
         }
     }
 
-    // Takes the next word, and says what comes behind it.
+    // Takes the next word, and says what comes after it.
     fn take(&mut self, name: CommandName, next: Next, word: &'a str) -> Result<Next, WordsError>
         requires { FitsNext name next }
         ensures ok { IfOk result (λ after. (words : List Word) →

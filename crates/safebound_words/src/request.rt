@@ -13,7 +13,7 @@ use crate::table::{CommandName, OptionName};
 use crate::word::Word;
 use limits::{MOST_BUDGET, MOST_ROWS, USUAL_ACCURACY, USUAL_BUDGET};
 
-// The value of an option that was given this word, or none.
+// The value of an option, from the word that was given for it, if one was.
 fn value_of(option: OptionName, given: Option<&str>) -> Option<u64>
     ensures value { result ≡ option_value option (option_words given.entry) }
     ensures most { IfSome result (λ value. value ≤ (option_row option).most) }
@@ -25,7 +25,7 @@ fn value_of(option: OptionName, given: Option<&str>) -> Option<u64>
     }
 }
 
-// The limit of memory that a line names: no limit where the option doesn't stand.
+// The limit of memory of a line. There is no limit if the option isn't given.
 fn limit_in(line: &Line) -> Option<Option<u64>>
     ensures { result ≡ option_map limit_of (option_value option.Memory (option_words line.now.memory)) }
 {
@@ -56,7 +56,7 @@ fn shape_of(bushy: bool) -> Shape
     if bushy { Shape::Tree } else { Shape::Order }
 }
 
-// The greatest budget: of a join tree no node may have more rows than a table.
+// The greatest budget. A node of a join tree may have no more rows than a table.
 fn most_budget(shape: Shape) -> u64
     ensures { result ≡ most_budget_of shape }
 {
@@ -80,7 +80,7 @@ fn over<'a>(schema: &'a str, query: &'a str, work: Work<'a>) -> Command<'a>
     }
 }
 
-// A plan over SCHEMA and QUERY, where these are the place words, and where each option has a value.
+// A plan over SCHEMA and QUERY, if these are the place words and each option has a right value.
 #[tactic(auto, unfolding(crate::specs::Table::over_files))]
 fn over_files<'a>(out: OutText, line: &Line<'a>) -> Option<Command<'a>>
     ensures { result ≡ asked_over_files out (words_of line.now.places) (given_of line.now) }
@@ -212,7 +212,7 @@ fn demo<'a>(number: u32) -> Command<'a>
     }
 }
 
-// The shop of NUMBER, where that is the one place word.
+// The shop of NUMBER, if that is the only place word.
 fn shop_of<'a>(line: &Line<'a>) -> Option<Command<'a>>
     ensures { result ≡ asked_of_number (words_of line.now.places) (given_of line.now) }
 {

@@ -14,7 +14,7 @@ use crate::table::command_named;
 /// No command line has more words.
 pub const MOST_WORDS: usize = 16;
 
-// The command that the words are, computed.
+// The command that the words ask for.
 fn command_in<'a>(words: &[&'a str]) -> Option<Command<'a>>
     ensures { result ≡ asked_by (map (λ w. w.now) words.now) }
 {
@@ -29,7 +29,7 @@ fn command_in<'a>(words: &[&'a str]) -> Option<Command<'a>>
 /// Reads the words of a command line, without the program's own name, in one walk from left to right. It takes
 /// no memory.
 ///
-/// `Usage` comes exactly where the words ask for nothing: they are no line of the table, an option stands twice,
+/// It answers `Usage` exactly if the words ask for nothing: they are no line of the table, an option is given twice,
 /// or a value is outside its range.
 pub fn read_words<'a>(words: &[&'a str]) -> Result<Command<'a>, WordsError>
     ensures command { IfOk result (AskFor (map (λ w. w.now) words.now)) }

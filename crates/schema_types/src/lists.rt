@@ -13,7 +13,7 @@ use ll_grammars::Lexeme;
 use sql_tokens::name;
 use std::alloc::Global;
 
-// A column of a list, of which the names before it are known.
+// A column of a list; the names before it in the list are known.
 #[tactic(auto, using(crate::proofs::Places::stands_in_is), unfolding(crate::specs::Offences::listed_offences))]
 fn check_listed(
     alloc: Global,

@@ -23,7 +23,7 @@ pub(crate) fn is_forest(alloc: Global, parts: &Parts, subset: EntrySet) -> Resul
     Ok(edges.len() == count_within(parts.equalities.as_slice(), subset))
 }
 
-// The part with the entries of an equality of which one is in it.
+// The part with the entries of an equality, one of which is in it already.
 fn with_edge(part: EntrySet, edge: Edge) -> EntrySet
     requires { IsNamed edge }
 {

@@ -1,7 +1,8 @@
 //! A store and a sink over memory that the caller lends. They take no memory themselves, and copy no file.
 //!
-//! `SliceStore` gives the files of a list; no read of it fails. `SliceSink` writes into a room from its front; a write fails only where
-//! the room is full. Callers cite `files_of` (what such a store tells) and `told_of` (what such a sink tells), in `specs/Slices.antt`.
+//! `SliceStore` gives the files of a list, and no read of it fails. `SliceSink` writes into a buffer of the caller's, the room, from its front
+//! on. A write fails only if the room is full. Callers cite `files_of` for the files of the store, and `told_of` for the bytes of the sink, both
+//! in `specs/Slices.antt`.
 #![tactic(auto)]
 
 mod slice_sink;

@@ -1,8 +1,8 @@
-//! Devices that cut every transfer, for tries of what stands on stores and sinks. Nothing here takes memory.
+//! Devices that cut every transfer, for tests of code that reads stores and writes sinks. Nothing here takes memory.
 //!
-//! `SlowStore` and `SlowSink` hand on at most so many bytes of each call to a store or a sink over memory. What
-//! they tell, their counts and their failures are the inner ones', so callers cite of them what they cite of
-//! `MemStore` and `MemSink`, and `most_bytes` (in `specs/Cuts.antt`).
+//! `SlowStore` and `SlowSink` stand before a store and a sink in memory, and hand on at most a given number of bytes in each
+//! call. Files, counts and failures are those of the inner device. So callers cite the same definitions as for `MemStore`
+//! and `MemSink`, and `most_bytes` (in `specs/Cuts.antt`).
 #![tactic(auto)]
 
 mod slow_sink;

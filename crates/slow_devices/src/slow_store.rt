@@ -7,7 +7,7 @@ ghost use Rattle.slow_devices.specs.Cuts.{most_bytes};
 
 use base_io::{MemStore, Store, StoreError};
 
-/// Files in memory, of which each call gives at most `most` bytes; 0 counts as 1. Files, counts and failures are
+/// Files in memory. Each call gives at most `most` bytes; 0 counts as 1. Files, counts and failures are
 /// those of the inner store.
 #[derive(Drop)]
 pub struct SlowStore {

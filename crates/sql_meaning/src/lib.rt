@@ -1,9 +1,9 @@
 //! What a query means: when a condition holds, the choices of rows behind an answer, and the answer itself, over
-//! whole tables as lists of rows. Nothing here knows of plans, bounds or hashing: what runs a query is proved against
-//! these definitions.
+//! whole tables as lists of rows. Nothing here knows of plans, bounds or hashing. The code that runs a query is proved
+//! against these definitions.
 //!
-//! In come a query (`query_types`) and a database (`csv_tables`) that is of it (`IsDatabaseOf`). `holds` says whether a
-//! condition holds in given rows, without memory; `answer_slow` lists the choices of the answer, for tests. Callers
+//! In: a query (`query_types`) and a database (`csv_tables`) that has its tables (`IsDatabaseOf`). `holds` tests a condition
+//! on given rows and allocates nothing. `answer_slow` lists the choices of the answer by nested loops, for tests. Callers
 //! cite `tables_of`, `cond_holds`, `entries_named`, `choices_of`, `chosen`, `answer`, `conjuncts_of`, `level_over` for
 //! levels over given lists of rows, `level` and `scan` over whole tables, and the laws of `laws`.
 #![tactic(auto)]

@@ -1,13 +1,13 @@
 //! Query texts: from the bytes of a query file to a query over a schema, or the first refusal.
 //!
-//! The stage after the schema is read (`schema_types`): the tokens of the text (`sql_tokens`), the tree that they
-//! spell (`query_grammar`), what its names and conditions mean (`query_names`), and here the order of all refusals,
-//! outputs and limits. What comes out is a `Query` of `query_types`.
+//! This is the stage after the schema is read (`schema_types`). The crates below it make the tokens of the text
+//! (`sql_tokens`), the syntax tree (`query_grammar`), and the meaning of names and conditions (`query_names`). This crate
+//! reads outputs, tests limits, and puts all refusals in order. It answers a `Query` of `query_types`.
 //!
-//! Callers cite three words. `IsAnswer` (in `specs/Reading.antt`) says what a text may be answered, each refusal
-//! with its place, and `one_answer` that this is one answer besides want of memory. `bound` (in `specs/Bound.antt`)
-//! is what a syntax tree gives over a schema. `IsOf` (in `query_types`) holds of every query that was read. So a
-//! caller writes
+//! Callers cite three definitions. `IsAnswer` (in `specs/Reading.antt`) says what a text may be answered, and each
+//! refusal with its place; the law `one_answer` says that only one answer is possible, unless memory is wanting. `bound`
+//! (in `specs/Bound.antt`) is the query of a syntax tree over a schema, or the first refusal. `IsOf` (in `query_types`)
+//! holds of every query that was read. So a caller writes
 //!
 //! ```text
 //! if text.len() > 1_048_576 {

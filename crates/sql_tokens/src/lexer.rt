@@ -10,7 +10,7 @@ use crate::{LexError, Token};
 use base_io::Seq;
 use std::alloc::Global;
 
-/// The tokens of what stands from the place `start` on, or the first place where it goes wrong.
+/// The tokens of the text from `start` on, or the first place where the text goes wrong.
 #[tactic(auto, using(crate::proofs::Walk::walk_gap, crate::proofs::Walk::walk_token, crate::proofs::Walk::walk_wrong, crate::proofs::Walk::walk_done, crate::proofs::Walk::walk_start))]
 fn tokens_from(alloc: Global, start: u32, text: &[u8]) -> Result<Seq<Token>, LexError>
     requires { start + length text.now ≤ most_text }
@@ -55,10 +55,12 @@ fn mark_len_of(text: &[u8]) -> usize
 }
 
 /// The tokens of a text. A byte order mark at the very start is skipped, and counts for the places.
-/// Bytes that are no UTF-8 are refused before all else, at the first of the first bad sequence; else
-/// the first offence in text order is: a character that begins no token (at it), a quote that nothing
-/// closes or an identifier of no characters (at the quote that opens), or a control character in a
-/// delimited identifier (at it).
+///
+/// Bytes that aren't UTF-8 are refused before anything else, at the first byte of the first bad
+/// sequence. Otherwise the first offence in text order is refused:
+/// - a character that begins no token, at this character;
+/// - a quote that is never closed, or a delimited identifier without characters, at the opening quote;
+/// - a control character in a delimited identifier, at this character.
 pub fn tokens(alloc: Global, text: &[u8]) -> Result<Seq<Token>, LexError>
     requires { length text.now ≤ most_text }
     ensures ok { IfOk result (λ found. IsLexed text.now found) }

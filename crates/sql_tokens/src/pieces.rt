@@ -7,7 +7,7 @@ ghost use Rattle.sql_tokens.specs.Pieces.{closed, identifier, literal, symbol, p
 use crate::TokenKind;
 use crate::runs::Run;
 
-/// What a text begins with, and how many bytes that takes; or how far on it goes wrong.
+/// What a text begins with, and its number of bytes; or the number of bytes after which it goes wrong.
 #[derive(Clone, Copy, Debug)]
 pub enum Piece {
     Gap(usize),
@@ -15,7 +15,7 @@ pub enum Piece {
     Wrong(usize),
 }
 
-/// How many bytes there are up to the quote that closes, with it.
+/// How many bytes there are up to the closing quote, with this quote.
 #[tactic(auto, using(crate::proofs::Closing::closed_keeps_one, crate::proofs::Closing::closed_keeps_two, crate::proofs::Closing::closed_last, crate::proofs::Closing::closed_here, crate::proofs::Closing::closed_never))]
 fn closed_len(quote: u8, bytes: &[u8]) -> Option<usize>
     ensures value { result ≡ closed quote bytes.now }

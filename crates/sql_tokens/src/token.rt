@@ -15,7 +15,7 @@ pub enum TokenKind {
     Symbol,
 }
 
-/// A token, which lies from `start` to `end` in its text, in bytes.
+/// A token, and the bytes from `start` to `end` of its text.
 #[derive(Clone, Copy, Debug)]
 pub struct Token {
     pub kind: TokenKind,

@@ -1,8 +1,8 @@
 //! What the text of a statistics file answers over a schema, as a function of both.
 //!
-//! `read_stats` promises a relation, which leaves open only whether memory is wanting. Here stands the one answer that is
-//! left: `stats_answer` (in `specs/StatsTexts.antt`). Callers cite it where they need a value, and take from the laws that
-//! it is what the relation says.
+//! The contract of `read_stats` is a relation between a text and its answer. It leaves open only whether the call runs out of memory.
+//! `stats_answer` (in `specs/StatsTexts.antt`) is the answer if it doesn't. Callers cite it if they need a value; the laws say that the
+//! relation allows this answer and no other one.
 #![tactic(auto)]
 
 mod examples;

@@ -27,7 +27,7 @@ datum_text (datum.Text bytes) = hex_text bytes
 abbrev pub run_text : Piece → List ℕ
 run_text run = decimal run.value ++ (codes "*" ++ decimal run.count)
 
--- the runs with blanks between them, or a dash where there is none
+-- the runs with blanks between them, or a dash if there is none
 abbrev pub runs_text : List Piece → List ℕ
 runs_text [] = codes "-"
 runs_text (run ∷ runs) = run_text run ++ flat_map (λ next. codes " " ++ run_text next) runs

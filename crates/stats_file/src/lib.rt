@@ -1,7 +1,10 @@
 //! Files of statistics: conditional statistics of tables as a value, and the text of such a file.
 //!
-//! Callers cite `KeepsRules` (in `specs/Rules.antt`), the rules on the values of a file, `file_text` (in
-//! `specs/FileText.antt`), its one text, and `Answers` (in `specs/Answers.antt`), what bytes are answered.
+//! A `StatsFile` has a section for each table: its number of rows, and for pairs of a filter column and a joined column all lists. It is for
+//! `stats`, which writes such files, and for `plan --stats` and `append`, which read them.
+//!
+//! Callers cite `KeepsRules` (in `specs/Rules.antt`) for the rules on the values of a file, `file_text` (in `specs/FileText.antt`) for the one
+//! text that a file has, and `Answers` (in `specs/Answers.antt`) for what reading some bytes answers.
 //!
 //! ```text
 //! write_stats(&file, &schema, sink)?;

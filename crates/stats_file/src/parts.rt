@@ -1,4 +1,4 @@
-//! The parts of which lines are made. Nothing here takes memory.
+//! The parts that lines are made of. Nothing here takes memory.
 ghost use Rattle.std.specs.Prelude.{◌≡◌, ◌<◌, ◌++◌, codes, decimal};
 ghost use Rattle.std.specs.Fmt.{signed_decimal};
 ghost use Rattle.std.specs.List.{flat_map};

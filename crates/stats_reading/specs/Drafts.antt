@@ -88,7 +88,7 @@ PairsAscend s = AllPairs StandsBefore s.section.pairs
 
 -- ---- what may be next
 
--- the earlier pair with this filter column, where there is one
+-- the earlier pair with this filter column, if there is one
 abbrev pub IsLike : Draft → Pair → Type 0
 IsLike s q = slice_get s.section.pairs s.like ≡ Some q
 
@@ -209,7 +209,7 @@ pair_words table columns = (hex_text (name_at table columns.0), hex_text (name_a
 abbrev pub table_words : Place → List ℕ × List ℕ
 table_words v = (hex_text v.table.name, decimal v.rows)
 
--- the place of something of this name, where there is one
+-- the place of something of this name, if there is one
 abbrev pub IsNamed : {X : Type 0} → (X → List ℕ) → List X → List ℕ → Option ℕ → Type 0
 IsNamed {X} name xs word None = All (λ x. word ≢ hex_text (name x)) xs
 IsNamed {X} name xs word (Some place) = (x : X) × (slice_get xs place ≡ Some x) × (word ≡ hex_text (name x))

@@ -58,7 +58,7 @@ pub record Goes (schema : Schema) (s t : Draft) (line : List ℕ) : Type 0 where
   pub texts : (more : List (List ℕ)) → TextLeft s.stage (line ∷ more) ↔ TextLeft t.stage more
   pub valid : IsValidDraft t.stage schema t
 
--- the line is one of the grammar here, but none of a file
+-- the grammar allows the line here, but no file has it
 pub record Breaks (schema : Schema) (s : Draft) (line : List ℕ) : Type 0 where
   pub files : (file : StatsFile) (more : List (List ℕ)) → FileLeft s.stage schema s file (line ∷ more) → ⊥
   pub some : List (List ℕ)

@@ -50,7 +50,7 @@ pub record IsLineOf (kind : LineKind) (first second line : List ℕ) : Type 0 wh
   pub parts : AreParts kind first second
   pub whole : line ≡ front kind ++ words_text kind first second
 
--- where there is one word, the second one is empty
+-- if there is one word, the second one is empty
 abbrev pub IsAlone : LineKind → List ℕ → Type 0
 IsAlone kind second = has_two kind ≡ false → second ≡ []
 
@@ -60,7 +60,7 @@ pub record MayBeLineOf (kind : LineKind) (first second line : List ℕ) : Type 0
   pub alone : IsAlone kind second
   pub only : (k : LineKind) (a b : List ℕ) → IsLineOf k a b line → AreParts kind first second
 
--- a line that is none of the grammar
+-- a line that the grammar doesn't have
 abbrev pub IsNoLine : List ℕ → Type 0
 IsNoLine line = (kind : LineKind) (first second : List ℕ) → IsLineOf kind first second line → ⊥
 

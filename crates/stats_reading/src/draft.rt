@@ -9,9 +9,9 @@ use schema_types::Kind;
 use stats_file::{Pair, TableStats};
 use std::alloc::Global;
 
-/// A file of which some lines are read: the tables that are complete, the table at hand without the pair at hand, and
+/// A file some of whose lines are read: the tables that are complete, the table at hand without the pair at hand, and
 /// this pair. Of the pair it is known of which kind its values are, and where pairs stand in the table that have its
-/// filter column and its joined column; where there is none, the place is behind all.
+/// filter column and its joined column; if there is none, the place is behind all.
 #[derive(Debug, Drop)]
 pub struct Draft {
     pub stage: Stage,

@@ -40,7 +40,7 @@ fn end_open_pair(alloc: Global, draft: &mut Draft) -> Result<(), Fault>
     Ok(())
 }
 
-/// The pair at hand is complete, where there is one.
+/// The pair at hand is complete, if there is one.
 pub fn end_pair(alloc: Global, draft: &mut Draft) -> Result<(), Fault>
     ensures { Ends (PairEnds draft.old.stage draft.old) draft.new result }
 {
@@ -58,7 +58,7 @@ fn end_open_table(alloc: Global, draft: &mut Draft) -> Result<(), Fault>
     Ok(())
 }
 
-/// The table at hand is complete, where there is one.
+/// The table at hand is complete, if there is one.
 pub fn end_table(alloc: Global, draft: &mut Draft) -> Result<(), Fault>
     ensures { Ends (TableEnds draft.old.stage draft.old) draft.new result }
 {

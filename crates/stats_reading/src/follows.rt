@@ -41,7 +41,7 @@ pub fn whole_follows(draft: &Draft, list: &Pieces) -> bool
     list.total() == u128::from(draft.section.rows) && is_whole_of_twin(draft, list)
 }
 
-// Whether a value is none of the frequent ones.
+// Whether a value isn't frequent.
 fn is_new(frequent: &[(Datum, Pieces)], value: &Datum) -> bool
     ensures { IsTrue result ↔ All (λ e. e.0 ≢ value.now) frequent.now }
 {

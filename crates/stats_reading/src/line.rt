@@ -184,7 +184,7 @@ pub fn may_be_read(line: Line) -> bool
     !is_tested(line.kind) || are_words(line)
 }
 
-/// The fault of a line whose words aren't taken, where they may be none of the grammar.
+/// The fault of a line whose words aren't taken, which may be words that the grammar doesn't have.
 pub fn fault_of(line: Line, fault: Fault) -> Fault
     ensures { IsFaultOf line.entry.kind line.entry.first.now line.entry.second.now fault result }
 {

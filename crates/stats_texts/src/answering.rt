@@ -28,7 +28,7 @@ fn is_written(alloc: Global, file: &StatsFile, schema: &Schema, bytes: &[u8]) ->
     write_stats(file, schema, &mut sink).is_ok() && sink.written() == bytes
 }
 
-/// The answer to a text over a schema, or `Other` where there is none.
+/// The answer to a text over a schema, or `Other` if there is none.
 pub fn answer(alloc: Global, schema: &str, bytes: &[u8]) -> Verdict {
     if bytes.len() > MOST_FILE as usize || schema.len() > MOST_TEXT as usize {
         return Verdict::Other;

@@ -1,4 +1,4 @@
--- The runs of which a list is made.
+-- The runs that a list is made of.
 use Rattle.std.specs.Prelude.{ℕ, ◌+◌, ◌*◌, ◌<◌, ◌≤◌, List}
 use Rattle.piece_math.specs.declared.pieces.Piece.{Piece}
 use Rattle.stats_file.specs.Lines.{runs_text}

@@ -1,7 +1,8 @@
 //! The words of a statistics file, one by one: which of them the grammar knows, and which values they spell.
 //!
-//! What comes in is a word without the blanks around it; what goes out is a test of the grammar, or the one value that
-//! the word spells. Callers cite `Spells` (in `specs/Words.antt`) and the words of stats_file's `specs/Grammar.antt`.
+//! In: a word without the blanks around it. Out: whether the grammar has such a word, or the one value that it spells.
+//!
+//! Callers cite `Spells` (in `specs/Words.antt`) and the words of stats_file's `specs/Grammar.antt`.
 //!
 //! ```text
 //! let rows = number(word, u64::from(MOST_ROWS));

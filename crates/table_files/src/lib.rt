@@ -2,11 +2,11 @@
 //!
 //! A query has from one to twelve FROM entries. Each table that they name is read once, in the order in
 //! which FROM first names it, from the file that has its name in lower case and `.csv`. Entries of one table
-//! share its cells, and all tables share one pool of texts. A file's bytes are let go once its cells stand.
+//! share its cells, and all tables share one pool of texts. A file's bytes are freed as soon as its cells are made.
 //!
 //! Callers cite `tables_stage` (in `specs/Stage.antt`): for each entry the rows of its table, or the first
-//! refusal, as the schema, FROM and the files determine it; `IsReached` (there): to which files the stage
-//! comes; and `entry_rows` and `HasCells` (in `specs/EntryTables.antt`): what a database has for each entry.
+//! refusal, as the schema, FROM and the files determine it. `IsReached`, in the same file, says which files the stage
+//! reads. `entry_rows` and `HasCells` (in `specs/EntryTables.antt`) say what a database has for each entry.
 #![tactic(auto)]
 
 mod each;

@@ -10,7 +10,7 @@ use Rattle.filtered_lists.specs.Lists.{ColumnLists, RowCounts}
 use Rattle.sql_meaning.specs.Tables.{Tables, row_counts}
 use Rattle.table_stats.specs.Columns.{column_values, first_row, leaf_of_value, numbered, paired, row_le}
 
--- the leaf of an end of a range, where there is one
+-- the leaf of an end of a range, if there is one
 abbrev pub end_leaf : List Value → Option Value → Option ℕ
 end_leaf values end = option_map (leaf_of_value values) end
 

@@ -1,10 +1,10 @@
 //! The statistics of a query's tables, over plain rows: for a filter column and a joined column of an entry's table the lists that
 //! bounds are made of (SafeBound, SIGMOD 2023), and the numbers of rows.
 //!
-//! Nothing here knows of cells or of a pool of texts: a value is the first row that has it. That columns of cells have the same lists
-//! is a law, as is that the lists stand for the tables.
+//! Nothing here knows of cells or of a pool of texts. Where a number is needed for a value, it is the first row that has the value. Two laws
+//! say that columns of cells have the same lists, and that the lists stand for the tables.
 //!
-//! In: tables as lists of rows. Out: definitions and laws, and nothing that runs. Callers cite `column_lists` and `entry_counts` (in
+//! In: tables as lists of rows. Out: definitions and laws; nothing here runs. Callers cite `column_lists` and `entry_counts` (in
 //! `specs/Statistics.antt`) for what is known, `TellsValues` (in `specs/Keys.antt`) for keys of rows, `StandsFor` (in
 //! `specs/Cells.antt`) for the cell of a literal, and `laws`. `examples` works out a table of six rows.
 #![tactic(auto)]

@@ -1,9 +1,9 @@
 //! What a schema text and a query text answer, as functions of the text.
 //!
-//! `read_schema` and `read_query` promise relations, which leave open only whether memory is wanting. Here
-//! stands the one answer that is left: `schema_answer` (in `specs/SchemaTexts.antt`) and `query_answer`
-//! (in `specs/QueryTexts.antt`). Callers cite them where they need a value, and take from the laws that it
-//! is what the relation says.
+//! The contracts of `read_schema` and `read_query` are relations between a text and its answer. They leave open only
+//! whether a call runs out of memory. `schema_answer` (in `specs/SchemaTexts.antt`) and `query_answer` (in
+//! `specs/QueryTexts.antt`) are the answers if it doesn't. Callers cite them if they need a value; the laws say that
+//! the relations allow these answers and no others.
 #![tactic(auto)]
 
 mod examples;

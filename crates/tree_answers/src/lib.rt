@@ -1,8 +1,8 @@
 //! What a choice among join trees answers, as a function of the bounds: to `choose_bushy` what `plan_answers` is to `choose`.
 //!
-//! `choose_bushy` promises a relation, which leaves open only whether memory is wanting. Here stands the one
-//! answer that is left: `tree_answer` (in `specs/TreeAnswer.antt`), the plan of `best_tree` (in
-//! `specs/AllTrees.antt`) or a refusal. It goes through all trees, and never runs.
+//! The contract of `choose_bushy` is a relation between bounds and an answer. It leaves open only whether the call
+//! runs out of memory. `tree_answer` (in `specs/TreeAnswer.antt`) is the answer if it doesn't: the plan of
+//! `best_tree` (in `specs/AllTrees.antt`) or a refusal. It searches all trees; it is for specifications and never runs.
 #![tactic(auto)]
 
 mod examples;

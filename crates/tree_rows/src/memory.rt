@@ -42,8 +42,8 @@ fn chains_total(scans: &[u64], joins: &[Join]) -> u128
     total
 }
 
-/// The bytes of joins over lists of rows, of which the sizes are given, one for each entry: those that `row_buffers` takes for the lists and
-/// `reserve_bushy` for the joins. The nodes that are joined exist.
+/// The bytes that `row_buffers` takes for lists of these sizes, one for each entry, and `reserve_bushy` for these joins over them. The nodes
+/// that are joined have to exist.
 pub fn joins_memory(scans: &[u64], joins: &[Join]) -> u128
     requires few { (length scans.now ≤ most_entries) × (length joins.now ≤ most_entries) }
     requires nodes { AllByRecursion (λ join. join.right < length scans.now + length joins.now) joins.now }

@@ -32,7 +32,7 @@ small_rows = rows_of r_column ∷ rows_of s_column ∷ []
 abbrev pub small_lists : List (List ℕ)
 small_lists = (0 ∷ 1 ∷ 2 ∷ 3 ∷ 4 ∷ 5 ∷ []) ∷ (0 ∷ 1 ∷ 2 ∷ 3 ∷ 4 ∷ []) ∷ []
 
--- the join of both, with a limit of memory, where there is one, in the order S, R, with bounds 6 and 5 of the scans and 5 and 12 of the levels
+-- the join of both, with a limit of memory, if there is one, in the order S, R, with bounds 6 and 5 of the scans and 5 and 12 of the levels
 abbrev pub two_tables_run : OutText → Option ℕ → Accepted
 two_tables_run out memory = record {
   query = pair;
