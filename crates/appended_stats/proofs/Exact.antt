@@ -18,8 +18,8 @@ use Rattle.stats_file.specs.declared.types.Pair.{Pair}
 use Rattle.stats_file.specs.declared.types.TableStats.{TableStats}
 use Rattle.table_stats.specs.Columns.{column_values, paired, value_of_row}
 use Rattle.table_stats.proofs.DatabaseColumns.{column_is, values_are}
-use Rattle.filed_stats.specs.Pairs.{pair_in_cells, pair_in_table, pair_of_values}
-use Rattle.filed_stats.proofs.SameValues.{pair_is}
+use Rattle.stats_file_of_query.specs.Pairs.{pair_in_cells, pair_in_table, pair_of_values}
+use Rattle.stats_file_of_query.proofs.SameValues.{pair_is}
 use Rattle.appended_stats.specs.Appended.{alone, pair_after, section_after, values_in}
 use Rattle.appended_stats.specs.Cells.{grown_by_cells, one_by_cells, pair_by_cells, section_by_cells}
 use Rattle.appended_stats.specs.Grown.{grown_pair}

@@ -13,7 +13,7 @@ use Rattle.csv_tables.specs.declared.types.Cells.{Cells}
 use Rattle.cond_stats.specs.Rows.{filter_values, joined_keys}
 use Rattle.column_stats.specs.Pairs.{cells_of_column, kind_of_column, rows_of_pair}
 use Rattle.level_bounds.specs.Keys.{HaveDifferentCharacters}
-use Rattle.renamed_lists.proofs.Rows.{columns_are}
+use Rattle.relabelling_laws.proofs.Rows.{columns_are}
 use Rattle.schema_types.specs.declared.types.Column.{Column}
 use Rattle.schema_types.specs.declared.types.Kind.TheVariants as kind
 use Rattle.schema_types.specs.declared.types.Schema.{Schema}
@@ -23,10 +23,10 @@ use Rattle.stats_file.specs.declared.types.Pair.{Pair}
 use Rattle.stats_file.specs.declared.types.StatsFile.{StatsFile}
 use Rattle.stats_file.specs.declared.types.TableStats.{TableStats}
 use Rattle.stats_file.specs.Rules.{Agree, CountTheSame, IsPair, IsSection, KeepsRules, StandsBefore}
-use Rattle.filed_stats.specs.Files.{no_table, table_at}
-use Rattle.filed_stats.specs.Pairs.{pair_in_cells}
-use Rattle.filed_stats.proofs.PairRules.{pairs_mapped}
-use Rattle.filed_stats.proofs.Rules.{agree, pair_kept}
+use Rattle.stats_file_of_query.specs.Files.{no_table, table_at}
+use Rattle.stats_file_of_query.specs.Pairs.{pair_in_cells}
+use Rattle.stats_file_of_query.proofs.PairRules.{pairs_mapped}
+use Rattle.stats_file_of_query.proofs.Rules.{agree, pair_kept}
 use Rattle.appended_stats.specs.Appended.{file_after}
 use Rattle.appended_stats.specs.Cells.{grown_by_cells, one_by_cells, pair_by_cells, section_by_cells}
 use Rattle.appended_stats.specs.Conditions.{HasRoom, MayAppend}

@@ -11,16 +11,16 @@ use Rattle.stats_file.specs.declared.types.Datum.{Datum}
 use Rattle.stats_file.specs.declared.types.Pair.{Pair}
 use Rattle.stats_file.specs.declared.types.StatsFile.{StatsFile}
 use Rattle.stats_file.specs.declared.types.TableStats.{TableStats}
-use Rattle.stats_file.specs.Rules.{IsPair, IsSection, IsTreeOf}
+use Rattle.stats_file.specs.Rules.{IsPair, IsSection, IsHistogramOf}
 use Rattle.appended_stats.specs.Conditions.{MayAppend, MayGrow, MayGrowWhere, SectionMayGrow}
 use Rattle.appended_stats.proofs.PairKept.{nodes_all}
 use Rattle.appended_stats.proofs.FileKept.{has_filter, has_joined, its_cells}
 
-cuts_few : (kd : Kind) (n : ℕ) (cuts : List Datum) (nodes : List (List ℕ)) → IsTreeOf kd n cuts nodes → length cuts ≤ 32
+cuts_few : (kd : Kind) (n : ℕ) (cuts : List Datum) (nodes : List (List ℕ)) → IsHistogramOf kd n cuts nodes → length cuts ≤ 32
 cuts_few kd zero cuts nodes is = omega (arith, ap (λ (s : List Datum). length s) is.0)
 cuts_few kd (suc n) cuts nodes is = omega (arith, is.leaves)
 
-nodes_small : (kd : Kind) (n : ℕ) (cuts : List Datum) (nodes : List (List ℕ)) → n < 2 ^ 32 → IsTreeOf kd n cuts nodes → All (λ (list : List ℕ). sum list < 2 ^ 32) nodes
+nodes_small : (kd : Kind) (n : ℕ) (cuts : List Datum) (nodes : List (List ℕ)) → n < 2 ^ 32 → IsHistogramOf kd n cuts nodes → All (λ (list : List ℕ). sum list < 2 ^ 32) nodes
 nodes_small kd zero cuts nodes few is = λ i d low. absurd (omega (arith, low, ap (λ (s : List (List ℕ)). length s) is.1))
 nodes_small kd (suc n) cuts nodes few is = λ i d low. omega (arith, (is.lists i d low).within, few)
 

@@ -28,8 +28,8 @@ use Rattle.level_bounds.proofs.Lists.{map_both}
 use Rattle.piece_math.proofs.Cutting.{positive-cut_at}
 use Rattle.std.proofs.lemmas.List.FromFn.{length-map-range_with_len}
 use Rattle.stats_file.specs.Rules.{IsList}
-use Rattle.filed_stats.proofs.Agreeing.{map-flat}
-use Rattle.filed_stats.proofs.Lists.{is_compressed, where_listed}
+use Rattle.stats_file_of_query.proofs.Agreeing.{map-flat}
+use Rattle.stats_file_of_query.proofs.Lists.{is_compressed, where_listed}
 use Rattle.appended_stats.specs.Grown.{list_of_any, lists_of_nodes, lists_of_size, rank_sums}
 
 -- ---- two lists added rank by rank

@@ -29,9 +29,9 @@ use Rattle.degree_sequences.proofs.Minima.{IsFalling-cut_at, running_sum-cut_at}
 use Rattle.degree_sequences.proofs.RunningSums.{running_sum-le-sum}
 use Rattle.filtered_lists.specs.Standing.{value_in_row}
 use Rattle.level_bounds.proofs.Lists.{range_within}
-use Rattle.renamed_lists.specs.Renaming.{AreEqualAlike}
-use Rattle.renamed_lists.proofs.Dominated.{passing_dominated, rows_dominated}
-use Rattle.renamed_lists.proofs.Rows.{columns_are, of_rows}
+use Rattle.relabelling_laws.specs.Relabelling.{AreEqualAlike}
+use Rattle.relabelling_laws.proofs.Dominated.{passing_dominated, rows_dominated}
+use Rattle.relabelling_laws.proofs.Rows.{columns_are, of_rows}
 use Rattle.stats_file.specs.declared.types.Datum.{Datum}
 use Rattle.stats_file.specs.declared.types.Pair.{Pair}
 use Rattle.table_stats.specs.Columns.{column_values, first_row, numbered, paired, value_of_row}
@@ -39,9 +39,9 @@ use Rattle.table_stats.specs.Keys.{TellsValues}
 use Rattle.table_stats.proofs.ColumnRows.{height, number_at, number_below, number_has, numbers_are, same_number, value_at}
 use Rattle.table_stats.proofs.EqualValues.{alike_le, alike_on_right, equal_back, equal_chain, equal_itself, is_equal}
 use Rattle.table_stats.proofs.FirstRows.{equal_firsts, first_has, first_there, same_first}
-use Rattle.filed_stats.specs.Data.{value_of}
-use Rattle.filed_stats.specs.Standing.{cut_at as cut_at_place, is_value, leaf_of_value}
-use Rattle.filed_stats.proofs.Stands.{numbered_pairs}
+use Rattle.stats_file_of_query.specs.Data.{value_of}
+use Rattle.stats_file_of_query.specs.Standing.{leaf_cut as cut_at_place, is_value, leaf_of_value}
+use Rattle.stats_file_of_query.proofs.Stands.{numbered_pairs}
 use Rattle.appended_stats.specs.Appended.{alone, values_in}
 use Rattle.appended_stats.specs.Grown.{is_frequent, list_of_any, list_with, other_values}
 use Rattle.appended_stats.proofs.NewLists.{falls}

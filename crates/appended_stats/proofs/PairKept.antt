@@ -21,16 +21,16 @@ use Rattle.schema_types.specs.declared.types.Table.{Table}
 use Rattle.stats_file.specs.declared.types.Datum.{Datum}
 use Rattle.stats_file.specs.declared.types.Datum.TheVariants as datum
 use Rattle.stats_file.specs.declared.types.Pair.{Pair}
-use Rattle.stats_file.specs.Rules.{Agree, AreFrequent, CountTheSame, IsList, IsOfKind, IsPair, IsTree, IsTreeOf}
-use Rattle.filed_stats.specs.Data.{value_of}
-use Rattle.filed_stats.specs.Standing.{is_value, leaf_of_value}
-use Rattle.filed_stats.proofs.Agreeing.{whole_same}
-use Rattle.filed_stats.proofs.Lists.{where_listed, whole_listed}
+use Rattle.stats_file.specs.Rules.{Agree, AreFrequent, CountTheSame, IsList, IsOfKind, IsPair, IsHistogram, IsHistogramOf}
+use Rattle.stats_file_of_query.specs.Data.{value_of}
+use Rattle.stats_file_of_query.specs.Standing.{is_value, leaf_of_value}
+use Rattle.stats_file_of_query.proofs.Agreeing.{whole_same}
+use Rattle.stats_file_of_query.proofs.Lists.{where_listed, whole_listed}
 use Rattle.appended_stats.specs.Grown.{grown_pair, is_frequent, list_of_any, list_with, lists_of_nodes, other_values, rank_sums, with_new_rows}
 use Rattle.appended_stats.proofs.NewLists.{added_listed, all_added_listed, any_listed, node_counts, nodes_listed, nodes_many, sum-list_of_any, sums_many, sums_of_sums}
 
 -- a pair of a table that had rows has all its nodes
-pub nodes_all : (kd : Kind) (n : ℕ) (cuts : List Datum) (nodes : List (List ℕ)) → 0 < n → IsTreeOf kd n cuts nodes → length nodes ≡ 63
+pub nodes_all : (kd : Kind) (n : ℕ) (cuts : List Datum) (nodes : List (List ℕ)) → 0 < n → IsHistogramOf kd n cuts nodes → length nodes ≡ 63
 nodes_all kd zero cuts nodes some is = absurd (omega (arith, some))
 nodes_all kd (suc n) cuts nodes some is = is.all
 
@@ -61,7 +61,7 @@ module _ (of_row : ℕ → Value) (k : ℕ) (rows : List (ℕ × ℕ)) where
         (λ i d low. added_listed n new (get_or frequent i d).1 (list_with of_row k rows (get_or frequent i d).0) (are.lists i d low) (with_listed (get_or frequent i d).0));
   }
 
-  some_tree : (kd : Kind) (n : ℕ) (cuts : List Datum) (nodes : List (List ℕ)) (leaf : ℕ → ℕ) → IsTree kd n cuts nodes → IsTree kd (n + new) cuts (rank_sums nodes (lists_of_nodes leaf k rows))
+  some_tree : (kd : Kind) (n : ℕ) (cuts : List Datum) (nodes : List (List ℕ)) (leaf : ℕ → ℕ) → IsHistogram kd n cuts nodes → IsHistogram kd (n + new) cuts (rank_sums nodes (lists_of_nodes leaf k rows))
   some_tree kd n cuts nodes leaf is = record {
     leaves = is.leaves;
     values = is.values;
@@ -72,13 +72,13 @@ module _ (of_row : ℕ → Value) (k : ℕ) (rows : List (ℕ × ℕ)) where
         (recursion_from_All (IsList new) (lists_of_nodes leaf k rows) (nodes_listed k rows leaf)));
   }
 
-  tree_kept : (kd : Kind) (n : ℕ) (cuts : List Datum) (nodes : List (List ℕ)) (leaf : ℕ → ℕ) → 0 < n → IsTreeOf kd n cuts nodes
-      → IsTreeOf kd (n + new) cuts (rank_sums nodes (lists_of_nodes leaf k rows))
+  tree_kept : (kd : Kind) (n : ℕ) (cuts : List Datum) (nodes : List (List ℕ)) (leaf : ℕ → ℕ) → 0 < n → IsHistogramOf kd n cuts nodes
+      → IsHistogramOf kd (n + new) cuts (rank_sums nodes (lists_of_nodes leaf k rows))
   tree_kept kd zero cuts nodes leaf some is = absurd (omega (arith, some))
   tree_kept kd (suc n) cuts nodes leaf some is =
       let e : suc (n + new) ≡ suc n + new = omega arith in
-      subst (λ m. IsTreeOf kd m cuts (rank_sums nodes (lists_of_nodes leaf k rows))) e
-      (subst (λ m. IsTree kd m cuts (rank_sums nodes (lists_of_nodes leaf k rows))) (sym e) (some_tree kd (suc n) cuts nodes leaf is))
+      subst (λ m. IsHistogramOf kd m cuts (rank_sums nodes (lists_of_nodes leaf k rows))) e
+      (subst (λ m. IsHistogram kd m cuts (rank_sums nodes (lists_of_nodes leaf k rows))) (sym e) (some_tree kd (suc n) cuts nodes leaf is))
 
   pub grown_kept : (table : Table) (n : ℕ) (pair : Pair) → 0 < n → IsPair table n pair → IsPair table (n + new) (grown_pair of_row k rows pair)
   grown_kept table n pair some is = record {

@@ -17,14 +17,14 @@ use Rattle.column_stats.specs.Pairs.{cells_of_column, kind_of_column}
 use Rattle.degree_sequences.specs.ByRank.{rank_sum}
 use Rattle.degree_sequences.specs.Compression.{compressed}
 use Rattle.degree_sequences.specs.Degrees.{degree_list}
-use Rattle.renamed_lists.proofs.Rows.{columns_are}
+use Rattle.relabelling_laws.proofs.Rows.{columns_are}
 use Rattle.sql_meaning.specs.Databases.{AreCells}
 use Rattle.stats_file.specs.declared.types.Datum.{Datum}
 use Rattle.stats_file.specs.declared.types.Pair.{Pair}
 use Rattle.stats_file.specs.Rules.{IsList}
-use Rattle.filed_stats.specs.Standing.{leaf_of_value}
-use Rattle.filed_stats.proofs.Made.{are_its, its_cells, its_height, its_kind}
-use Rattle.filed_stats.proofs.SameValues.{same_parts}
+use Rattle.stats_file_of_query.specs.Standing.{leaf_of_value}
+use Rattle.stats_file_of_query.proofs.Made.{are_its, its_cells, its_height, its_kind}
+use Rattle.stats_file_of_query.proofs.SameValues.{same_parts}
 use Rattle.appended_stats.specs.Cells.{grown_by_cells}
 use Rattle.appended_stats.specs.Conditions.{MayGrow}
 use Rattle.appended_stats.specs.Grown.{grown_pair, list_of_any, lists_of_nodes, other_values, rank_sums, with_new_rows}

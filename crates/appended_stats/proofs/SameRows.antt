@@ -17,19 +17,19 @@ use Rattle.degree_sequences.specs.RunningSums.{cut_at}
 use Rattle.degree_sequences.proofs.Counting.{All-filter}
 use Rattle.level_bounds.specs.Keys.{HaveDifferentCharacters}
 use Rattle.level_bounds.proofs.CellKeys.{equal_cells}
-use Rattle.renamed_lists.specs.Renaming.{IsOneToOne}
-use Rattle.renamed_lists.proofs.Columns.{its_own, keeps}
-use Rattle.renamed_lists.proofs.Mapped.{All-different, degree-mapped, different-mapped, filter-mapped, map-mapped}
-use Rattle.renamed_lists.proofs.Rows.{columns_are, whole_is}
-use Rattle.renamed_lists.proofs.RowsMapped.{All-zip, OfRow, degrees-mapped, zip-renamed}
+use Rattle.relabelling_laws.specs.Relabelling.{IsOneToOne}
+use Rattle.relabelling_laws.proofs.Columns.{its_own, keeps}
+use Rattle.relabelling_laws.proofs.Mapped.{All-different, degree-mapped, different-mapped, filter-mapped, map-mapped}
+use Rattle.relabelling_laws.proofs.Rows.{columns_are, whole_is}
+use Rattle.relabelling_laws.proofs.RowsMapped.{All-zip, OfRow, degrees-mapped, zip-renamed}
 use Rattle.stats_file.specs.declared.types.Datum.{Datum}
 use Rattle.stats_file.specs.declared.types.Pair.{Pair}
 use Rattle.table_stats.specs.Columns.{numbered, paired, value_of_row}
 use Rattle.table_stats.proofs.CellColumns.{cell_values, number_of, numbers_of_cells, one_to_one}
 use Rattle.table_stats.proofs.EqualValues.{equal_itself, is_equal}
 use Rattle.table_stats.proofs.FirstRows.{first_has, first_there}
-use Rattle.filed_stats.specs.Standing.{is_value, leaf_of_value}
-use Rattle.filed_stats.proofs.SameValues.{same_parts}
+use Rattle.stats_file_of_query.specs.Standing.{is_value, leaf_of_value}
+use Rattle.stats_file_of_query.proofs.SameValues.{same_parts}
 use Rattle.appended_stats.specs.Grown.{grown_pair, is_frequent, list_of_any, lists_of_nodes, lists_of_size, other_values, rank_sums, with_new_rows}
 
 abbrev with_list : Datum × List ℕ → List ℕ → Datum × List ℕ

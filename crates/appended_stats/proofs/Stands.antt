@@ -29,17 +29,17 @@ use Rattle.stats_file.specs.declared.types.Datum.{Datum}
 use Rattle.stats_file.specs.declared.types.Pair.{Pair}
 use Rattle.stats_file.specs.declared.types.StatsFile.{StatsFile}
 use Rattle.stats_file.specs.declared.types.TableStats.{TableStats}
-use Rattle.stats_file.specs.Rules.{IsPair, IsSection, IsTree, IsTreeOf, KeepsRules}
+use Rattle.stats_file.specs.Rules.{IsPair, IsSection, IsHistogram, IsHistogramOf, KeepsRules}
 use Rattle.table_stats.specs.Columns.{first_row, numbered, paired, value_of_row}
 use Rattle.table_stats.specs.Keys.{TellsValues}
 use Rattle.table_stats.proofs.ColumnRows.{height}
 use Rattle.table_stats.proofs.EqualValues.{equal_back, equal_chain, is_equal}
 use Rattle.table_stats.proofs.FewerRows.{PassesBoth, all_in_range, fewer_dominated}
-use Rattle.filed_stats.specs.Needs.{table_of}
-use Rattle.filed_stats.specs.Data.{value_of}
-use Rattle.filed_stats.specs.Pairs.{pair_in_table}
-use Rattle.filed_stats.specs.Standing.{PairStandsFor, SectionStandsFor, StandsFor, is_in_node, is_value, leaf_of_value, list_of_node, list_of_value, section_of}
-use Rattle.filed_stats.proofs.Stands.{pair_stands, seconds}
+use Rattle.stats_file_of_query.specs.Needs.{table_of}
+use Rattle.stats_file_of_query.specs.Data.{value_of}
+use Rattle.stats_file_of_query.specs.Pairs.{pair_in_table}
+use Rattle.stats_file_of_query.specs.Standing.{PairStandsFor, SectionStandsFor, StandsFor, is_in_node, is_value, leaf_of_value, list_of_node, list_of_value, section_of}
+use Rattle.stats_file_of_query.proofs.Stands.{pair_stands, seconds}
 use Rattle.appended_stats.specs.Appended.{alone, file_after, pair_after, section_after, values_in}
 use Rattle.appended_stats.specs.Conditions.{HasNewRows}
 use Rattle.appended_stats.specs.Grown.{grown_pair, is_frequent, list_of_any, list_with, lists_of_nodes, lists_of_size, other_values, rank_sums, with_new_rows}

@@ -13,14 +13,14 @@ use Rattle.stats_file.specs.declared.types.Datum.{Datum}
 use Rattle.stats_file.specs.declared.types.Pair.{Pair}
 use Rattle.stats_file.specs.declared.types.StatsFile.{StatsFile}
 use Rattle.stats_file.specs.declared.types.TableStats.{TableStats}
-use Rattle.stats_file.specs.Rules.{IsPair, IsSection, IsTreeOf, KeepsRules}
+use Rattle.stats_file.specs.Rules.{IsPair, IsSection, IsHistogramOf, KeepsRules}
 use Rattle.table_stats.specs.Columns.{paired, value_of_row}
 use Rattle.table_stats.specs.Keys.{TellsValues}
-use Rattle.filed_stats.specs.Needs.{table_of}
-use Rattle.filed_stats.specs.Pairs.{pair_in_table}
-use Rattle.filed_stats.specs.Standing.{PairStandsFor, SectionStandsFor, StandsFor, section_of}
-use Rattle.filed_stats.proofs.Finding.{found_in}
-use Rattle.filed_stats.proofs.Stands.{pair_stands}
+use Rattle.stats_file_of_query.specs.Needs.{table_of}
+use Rattle.stats_file_of_query.specs.Pairs.{pair_in_table}
+use Rattle.stats_file_of_query.specs.Standing.{PairStandsFor, SectionStandsFor, StandsFor, section_of}
+use Rattle.stats_file_of_query.proofs.Finding.{found_in}
+use Rattle.stats_file_of_query.proofs.Stands.{pair_stands}
 use Rattle.appended_stats.specs.Appended.{alone, file_after, pair_after, section_after, values_in}
 use Rattle.appended_stats.specs.Conditions.{HasNewRows}
 use Rattle.appended_stats.specs.Grown.{grown_pair}

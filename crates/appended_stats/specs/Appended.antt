@@ -7,7 +7,7 @@ use Rattle.stats_file.specs.declared.types.Pair.{Pair}
 use Rattle.stats_file.specs.declared.types.StatsFile.{StatsFile}
 use Rattle.stats_file.specs.declared.types.TableStats.{TableStats}
 use Rattle.table_stats.specs.Columns.{column_values, paired, value_of_row}
-use Rattle.filed_stats.specs.Pairs.{pair_in_table}
+use Rattle.stats_file_of_query.specs.Pairs.{pair_in_table}
 use Rattle.appended_stats.specs.Grown.{grown_pair}
 
 -- the new rows as the table of every entry

@@ -5,7 +5,7 @@ use Rattle.csv_tables.specs.declared.types.Cells.{Cells}
 use Rattle.column_stats.specs.Pairs.{kind_of_column, rows_of_pair}
 use Rattle.stats_file.specs.declared.types.Pair.{Pair}
 use Rattle.stats_file.specs.declared.types.TableStats.{TableStats}
-use Rattle.filed_stats.specs.Pairs.{pair_in_cells}
+use Rattle.stats_file_of_query.specs.Pairs.{pair_in_cells}
 use Rattle.appended_stats.specs.Grown.{grown_pair}
 
 abbrev pub grown_by_cells : List (List ℕ) → Cells → ℕ → Pair → Pair

@@ -2,8 +2,8 @@
 use Rattle.std.specs.Prelude.{ℕ, List, [], ◌∷◌}
 use Rattle.csv_tables.specs.Rows.{Row}
 use Rattle.stats_file.specs.declared.types.Pair.{Pair}
-use Rattle.filed_stats.specs.Examples.{rows_of}
-use Rattle.filed_stats.specs.Pairs.{pair_in_table}
+use Rattle.stats_file_of_query.specs.Examples.{rows_of}
+use Rattle.stats_file_of_query.specs.Pairs.{pair_in_table}
 use Rattle.appended_stats.specs.Appended.{pair_after}
 
 -- new rows of one column

@@ -13,7 +13,7 @@ use Rattle.degree_sequences.specs.Degrees.{degree, degree_list, different}
 use Rattle.degree_sequences.specs.RunningSums.{cut_at}
 use Rattle.stats_file.specs.declared.types.Datum.{Datum}
 use Rattle.stats_file.specs.declared.types.Pair.{Pair}
-use Rattle.filed_stats.specs.Standing.{is_value, leaf_of_value}
+use Rattle.stats_file_of_query.specs.Standing.{is_value, leaf_of_value}
 
 -- ---- the lists of the new rows
 

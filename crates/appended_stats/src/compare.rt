@@ -3,8 +3,8 @@ ghost use Rattle.std.specs.Prelude.{◌≡◌, ◌<◌, ◌≤◌, All, length};
 ghost use Rattle.csv_tables.specs.Cells.{IsCell, value_of_cell};
 ghost use Rattle.csv_tables.specs.Values.{value_cmp};
 ghost use Rattle.cond_stats.specs.Columns.{value_le};
-ghost use Rattle.filed_stats.specs.Data.{value_of};
-ghost use Rattle.filed_stats.specs.Standing.{is_value, leaf_of_value};
+ghost use Rattle.stats_file_of_query.specs.Data.{value_of};
+ghost use Rattle.stats_file_of_query.specs.Standing.{is_value, leaf_of_value};
 ghost use Rattle.appended_stats.specs.Grown.{is_frequent};
 
 use csv_tables::{Pool, compare_texts, value_of};

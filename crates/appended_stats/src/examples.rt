@@ -2,7 +2,7 @@
 ghost use Rattle.std.specs.Prelude.{◌≡◌, ◌∷◌, [], length, pos};
 ghost use Rattle.csv_tables.specs.Values.{Int};
 ghost use Rattle.stats_file.specs.declared.types.Datum.TheVariants as datum;
-ghost use Rattle.filed_stats.specs.Standing.{list_of_node, list_of_value};
+ghost use Rattle.stats_file_of_query.specs.Standing.{list_of_node, list_of_value};
 ghost use Rattle.appended_stats.specs.Appended.{pair_after};
 ghost use Rattle.appended_stats.specs.Examples.{new_rows, of_eight, of_four, of_itself, of_six};
 

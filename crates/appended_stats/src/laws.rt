@@ -10,7 +10,7 @@ ghost use Rattle.stats_file.specs.Rules.{IsSection, KeepsRules};
 ghost use Rattle.cond_stats.specs.Frequency.{remaining};
 ghost use Rattle.cond_stats.specs.Lists.{rest};
 ghost use Rattle.cond_stats.specs.Rows.{filter_values};
-ghost use Rattle.filed_stats.specs.Standing.{SectionStandsFor, StandsFor};
+ghost use Rattle.stats_file_of_query.specs.Standing.{SectionStandsFor, StandsFor};
 ghost use Rattle.appended_stats.specs.Appended.{file_after, section_after};
 ghost use Rattle.appended_stats.specs.Conditions.{HasNewRows};
 ghost use Rattle.appended_stats.specs.Grown.{list_of_any};

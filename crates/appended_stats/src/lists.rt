@@ -4,7 +4,7 @@ ghost use Rattle.std.specs.List.{sum, zip};
 ghost use Rattle.csv_tables.specs.Cells.{IsCell, value_of_cell};
 ghost use Rattle.cond_stats.specs.Rows.{keys_where};
 ghost use Rattle.degree_sequences.specs.ByRank.{rank_sum};
-ghost use Rattle.filed_stats.specs.Standing.{is_value};
+ghost use Rattle.stats_file_of_query.specs.Standing.{is_value};
 ghost use Rattle.appended_stats.specs.Grown.{list_with, with_new_rows};
 
 use crate::compare::is_value;

@@ -5,7 +5,7 @@ ghost use Rattle.csv_tables.specs.Cells.{IsCell, value_of_cell};
 ghost use Rattle.cond_stats.specs.Leaves.{IsNodeSize, in_node};
 ghost use Rattle.cond_stats.specs.Lists.{list_where};
 ghost use Rattle.cond_stats.specs.Rows.{keys_where};
-ghost use Rattle.filed_stats.specs.Standing.{leaf_of_value};
+ghost use Rattle.stats_file_of_query.specs.Standing.{leaf_of_value};
 ghost use Rattle.appended_stats.specs.Grown.{lists_of_nodes, lists_of_size, rank_sums};
 
 use crate::compare::leaf_of;

@@ -2,7 +2,7 @@
 ghost use Rattle.std.specs.Prelude.{◌≡◌, ◌^◌, IfOk, length};
 ghost use Rattle.limits.specs.Profile.{most_rows};
 ghost use Rattle.sql_meaning.specs.Databases.{AreCells};
-ghost use Rattle.filed_stats.specs.Pairs.{pair_in_cells};
+ghost use Rattle.stats_file_of_query.specs.Pairs.{pair_in_cells};
 ghost use Rattle.appended_stats.specs.Cells.{grown_by_cells, pair_by_cells};
 ghost use Rattle.appended_stats.specs.Conditions.{MayGrow};
 
@@ -12,9 +12,9 @@ use crate::rest::list_of_others;
 use base_io::NoMemory;
 use cond_stats::whole_list;
 use csv_tables::{Cells, Pool};
-use filed_stats::pair_of_columns;
 use limits::Accuracy;
 use stats_file::Pair;
+use stats_file_of_query::pair_of_columns;
 use std::alloc::Global;
 
 // A pair of a table that had rows.

@@ -3,7 +3,7 @@ use Rattle.std.proofs.Common.{◌≡◌, ℕ, ◌+◌, ◌≤◌, List, ◌++◌
 use Rattle.std.proofs.lemmas.Grind.{common_steps}
 use Rattle.std.proofs.lemmas.List.{take-take, take-append-le}
 use Rattle.std.proofs.Math.Seq.{take-add, take-append-add}
-use Rattle.base_io.specs.Files.{Files, told, ReadsAt, Told, Nothing, Absent, Present, Gives, IsFront}
+use Rattle.base_io.specs.Files.{Files, told, ReadsAt, FileAnswer, Nothing, Absent, Present, MayHaveRead, IsFront}
 
 -- the first n bytes of a block that was read in behind the items, in a buffer cut to those
 pub block_kept : (items grown into after rest : List ℕ) (at n len : ℕ) → at ≡ length items → take at grown ≡ items → n ≤ length into → at + n ≤ len
@@ -23,7 +23,7 @@ front_of all items into n le first more =
     ∙ sym (take-add (length items) n all) ∙ ap (λ k. take k all) (sym long)
 
 -- the front of a file, and what a read there gave, are a longer front
-pub front_more : (file : Told) (items into : List ℕ) (n : ℕ) → n ≤ length into → IsFront file items → Gives file (length items) n into → IsFront file (items ++ take n into)
+pub front_more : (file : FileAnswer) (items into : List ℕ) (n : ℕ) → n ≤ length into → IsFront file items → MayHaveRead file (length items) n into → IsFront file (items ++ take n into)
 front_more Nothing items into n le front gives = tt
 front_more Absent items into n le front gives = absurd gives
 front_more (Present all) items into n le front gives = front_of all items into n le front gives.same
@@ -32,5 +32,5 @@ front_more (Present all) items into n le front gives = front_of all items into n
 pub front_more_since : (before now : Option Files) (name items into : List ℕ) (place n : ℕ) → now ≡ before → place ≡ length items
     → ReadsAt (told now name) place (Ok n) into → IsFront (told before name) items → IsFront (told before name) (items ++ take n into)
 front_more_since before now name items into place n same at reads front =
-    let gives : Gives (told now name) (length items) n into = rw (← at) reads.1 in
+    let gives : MayHaveRead (told now name) (length items) n into = rw (← at) reads.1 in
     front_more (told before name) items into n reads.0 front (rw (← same) gives)

@@ -16,16 +16,16 @@ file_of [] name = None
 file_of (file ∷ rest) name = if bytes_eq file.0 name then Some file.1 else file_of rest name
 
 -- what a store tells about a name: nothing, that there is no file of this name, or the file's bytes
-pub data Told : Type 0 where
-  Nothing : Told
-  Absent : Told
-  Present : List ℕ → Told
+pub data FileAnswer : Type 0 where
+  Nothing : FileAnswer
+  Absent : FileAnswer
+  Present : List ℕ → FileAnswer
 
-abbrev pub told_file : Option (List ℕ) → Told
+abbrev pub told_file : Option (List ℕ) → FileAnswer
 told_file None = Absent
 told_file (Some bytes) = Present bytes
 
-abbrev pub told : Option Files → List ℕ → Told
+abbrev pub told : Option Files → List ℕ → FileAnswer
 told None name = Nothing
 told (Some files) name = told_file (file_of files name)
 
@@ -36,37 +36,37 @@ pub record Fills (bytes : List ℕ) (place count : ℕ) (into : List ℕ) : Type
   pub end : count ≡ 0 → length bytes ≤ place
 
 -- a read may have answered Ok with this many bytes; for an absent file it never answers Ok, not even with 0 bytes
-abbrev pub Gives : Told → ℕ → ℕ → List ℕ → Type 0
-Gives Nothing place count into = ⊤
-Gives Absent place count into = ⊥
-Gives (Present bytes) place count into = Fills bytes place count into
+abbrev pub MayHaveRead : FileAnswer → ℕ → ℕ → List ℕ → Type 0
+MayHaveRead Nothing place count into = ⊤
+MayHaveRead Absent place count into = ⊥
+MayHaveRead (Present bytes) place count into = Fills bytes place count into
 
 -- the store tells its files, and the name is not among them
-abbrev pub IsAbsent : Told → Type 0
+abbrev pub IsAbsent : FileAnswer → Type 0
 IsAbsent Nothing = ⊥
 IsAbsent Absent = ⊤
 IsAbsent (Present bytes) = ⊥
 
 -- what a read at a place answers, and what it leaves in the buffer
-abbrev pub ReadsAt : Told → ℕ → Result ℕ StoreError → List ℕ → Type 0
-ReadsAt file place (Ok count) into = (count ≤ length into) × Gives file place count into
+abbrev pub ReadsAt : FileAnswer → ℕ → Result ℕ StoreError → List ℕ → Type 0
+ReadsAt file place (Ok count) into = (count ≤ length into) × MayHaveRead file place count into
 ReadsAt file place (Err store.Missing) into = IsAbsent file
 ReadsAt file place (Err store.Failed) into = ⊤
 
 -- these may be all bytes of the file
-abbrev pub IsWhole : Told → List ℕ → Type 0
+abbrev pub IsWhole : FileAnswer → List ℕ → Type 0
 IsWhole Nothing bytes = ⊤
 IsWhole Absent bytes = ⊥
 IsWhole (Present all) bytes = bytes ≡ all
 
 -- the file may have more than `limit` bytes
-abbrev pub IsLonger : Told → ℕ → Type 0
+abbrev pub IsLonger : FileAnswer → ℕ → Type 0
 IsLonger Nothing limit = ⊤
 IsLonger Absent limit = ⊥
 IsLonger (Present all) limit = limit < length all
 
 -- what reading a whole file answers; any file may end with a fault or with want of memory
-abbrev pub ReadsFile : Told → ℕ → Result (List ℕ) ReadError → Type 0
+abbrev pub ReadsFile : FileAnswer → ℕ → Result (List ℕ) ReadError → Type 0
 ReadsFile file limit (Ok bytes) = (length bytes ≤ limit) × IsWhole file bytes
 ReadsFile file limit (Err read.Missing) = IsAbsent file
 ReadsFile file limit (Err read.Fault) = ⊤
@@ -74,7 +74,7 @@ ReadsFile file limit (Err (read.TooLong most)) = (most ≡ limit) × IsLonger fi
 ReadsFile file limit (Err read.NoMemory) = ⊤
 
 -- these are the first bytes of the file
-abbrev pub IsFront : Told → List ℕ → Type 0
+abbrev pub IsFront : FileAnswer → List ℕ → Type 0
 IsFront Nothing bytes = ⊤
 IsFront Absent bytes = bytes ≡ []
 IsFront (Present all) bytes = bytes ≡ take (length bytes) all

@@ -26,11 +26,11 @@ use Rattle.sql_meaning.specs.Levels.{all_hold, completed_hold, passes_own, row_i
 use Rattle.sql_meaning.specs.Tables.{row_counts, tables_of}
 use Rattle.sql_meaning.proofs.LoopFacts.{rows_are}
 use Rattle.sql_meaning.proofs.NamedFacts.{can_ask}
-use Rattle.join_steps.specs.declared.keys.Key.{Key}
+use Rattle.join_steps.specs.declared.join_keys.JoinKey.{JoinKey}
 use Rattle.join_steps.specs.Lists.{list_sizes, scan_of, scans_of, IsOfScan, IsOrderOf}
 use Rattle.join_steps.specs.Sides.{is_between}
 use Rattle.join_steps.proofs.KeyFacts.{key_holds, sides_between, IsKeyOf}
-use Rattle.hash_join.specs.Levels.{joined, list_level_sizes}
+use Rattle.hash_join.specs.Levels.{listed_level, list_level_sizes}
 use Rattle.hash_join.proofs.AllLevels.{next_joined, placed_joined}
 use Rattle.join_steps.proofs.ListedRows.{scan_below, below}
 use Rattle.join_steps.proofs.WholeScans.{weaker}
@@ -256,9 +256,9 @@ module _ (left right times : ℕ) (values : Option Op) (lk lv rv : List ℕ) (ar
   of_scans : All (IsOfScan conjuncts (row_counts (tables_of db)) (scan_of q db)) order
   of_scans k d low = All-contains_itself (scan_of q db (get_or order k d))
 
-  pub first_level : length (joined q db (scan_of q db) order 1) ≤ left
+  pub first_level : length (listed_level q db (scan_of q db) order 1) ≤ left
   first_level =
-      let above : List (List ℕ) = joined q db (scan_of q db) order 0 in
+      let above : List (List ℕ) = listed_level q db (scan_of q db) order 0 in
       let next = next_joined q db (scan_of q db) order is_order 0 (omega arith) (of_scans 0 0 (omega arith)) in
       let some_above : length above ≤ 1 = fewer (λ (choice : List ℕ). all_hold conjuncts [] (row_in [] choice)) ([] ∷ []) in
       let few_all = few_each (completed_hold conjuncts [] 0) (scan_of q db 0) (length (scan_of q db 0)) (λ choice. Unit {0})
@@ -271,7 +271,7 @@ module _ (left right times : ℕ) (values : Option Op) (lk lv rv : List ℕ) (ar
       let row_of : ℕ → ℕ = row_in (0 ∷ 1 ∷ []) (x ∷ row ∷ []) in
       let a : ColumnRef = col 0 0 in
       let b : ColumnRef = col 1 0 in
-      let key : Key = record { conjunct = 0; left = a; right = b } in
+      let key : JoinKey = record { conjunct = 0; left = a; right = b } in
       let is_key : IsKeyOf (0 ∷ []) (1 ∷ []) 0 (compared op.Eq 0) key = record { conjunct = refl; on_left = refl; on_right = refl; shape = inl refl } in
       let between : is_between (0 ∷ []) (1 ∷ []) (compared op.Eq 0) ≡ true = (sides_between (0 ∷ []) (1 ∷ []) a b refl refl refl refl).0 in
       let first : (not (is_between (0 ∷ []) (1 ∷ []) (compared op.Eq 0)) || cond_holds (tables_of db) row_of (compared op.Eq 0)) ≡ true = (and_parts _ _ hit).0 in
@@ -291,9 +291,9 @@ module _ (left right times : ℕ) (values : Option Op) (lk lv rv : List ℕ) (ar
       (subst (λ (n : ℕ). length (filter (λ row. eqb (get_or (repeated right times) row 0) (get_or lk x 0)) (filter (passes_own conjuncts 1) (range_with_len 0 n))) ≤ times) (sym (rows_are db 1))
       (few_keys right times (get_or lk x 0) (passes_own conjuncts 1) some))
 
-  pub second_level : length (joined q db (scan_of q db) order 2) ≤ times * left
+  pub second_level : length (listed_level q db (scan_of q db) order 2) ≤ times * left
   second_level =
-      let above : List (List ℕ) = joined q db (scan_of q db) order 1 in
+      let above : List (List ℕ) = listed_level q db (scan_of q db) order 1 in
       let next = next_joined q db (scan_of q db) order is_order 1 (omega arith) (of_scans 1 0 (omega arith)) in
       let few_all = few_each (completed_hold conjuncts (0 ∷ []) 1) (scan_of q db 1) times (IsChoiceOf (row_counts (tables_of db)) (0 ∷ [])) below_choice above
       (recursion_from_All (IsChoiceOf (row_counts (tables_of db)) (0 ∷ [])) above (placed_joined q db (scan_of q db) order is_order 1 (omega arith) of_scans)) in

@@ -4,7 +4,7 @@ use Rattle.std.specs.List.{Contains}
 use Rattle.std.proofs.lemmas.Bool.{cases_Bool}
 use Rattle.std.proofs.lemmas.List.Elements.{Contains-append_left, Contains-append_right, Contains-append_cases}
 use Rattle.entry_sets.proofs.Listing.{in_rest, in_front, in_none, one_in}
-use Rattle.berge_tree.specs.Trees.{Classes, no_class, and_class, Members, one_member, and_member, JoinTree}
+use Rattle.berge_tree.specs.Trees.{Classes, no_class, and_class, Members, one_member, and_member, BergeTree}
 use Rattle.berge_tree.specs.Trees.{entries_below, entries_within, entries}
 use Rattle.berge_tree.specs.declared.edges.Place.{Place}
 use Rattle.berge_tree.specs.declared.edges.Edge.{Edge}
@@ -173,7 +173,7 @@ module _ (es : List Edge) where
           ]
         ]
 
-  pub closed_tree : (t : JoinTree) → AreItsColumns es t.root None (class_columns t.below) → FollowsBelow es t.root t.below → (q q' : Place) → Contains (entries t) q.entry → class_of es q ≡ class_of es q'
+  pub closed_tree : (t : BergeTree) → AreItsColumns es t.root None (class_columns t.below) → FollowsBelow es t.root t.below → (q q' : Place) → Contains (entries t) q.entry → class_of es q ≡ class_of es q'
       → Contains (entries t) q'.entry
   closed_tree t columns f q q' k e = elim (one_in t.root (entries_below t.below) q.entry k) [
     | inl m ↦ elim (closed_below t.root t.below f q.entry m q q' refl e) [

@@ -7,7 +7,7 @@ use Rattle.std.proofs.lemmas.List.Elements.{Contains-append_left, Contains-appen
 use Rattle.std.proofs.lemmas.List.Kept.{AllPairs-from_increasing}
 use Rattle.std.specs.Cmp.{both_ways}
 use Rattle.entry_sets.proofs.Listing.{rising, in_rest, in_front, in_none, each, one_in}
-use Rattle.berge_tree.specs.Trees.{JoinTree}
+use Rattle.berge_tree.specs.Trees.{BergeTree}
 use Rattle.berge_tree.specs.Trees.{entries, entries_below, entries_of_all}
 use Rattle.berge_tree.specs.declared.edges.Place.{Place}
 use Rattle.berge_tree.specs.declared.edges.Edge.{Edge}
@@ -82,7 +82,7 @@ module _ (es : List Edge) (closes : ClosesNoCycle es) (columns : List Column) (a
     | inr ne ↦ within_place set es inside v (named es v u (sym e) ne)
   ]
 
-  record IsForest (done xs : List ℕ) (ts : List JoinTree) : Type 0 where
+  record IsForest (done xs : List ℕ) (ts : List BergeTree) : Type 0 where
     trees : AllByRecursion (IsTreeOf es) ts
     ascending : IsStrictlyIncreasing (roots ts)
     rooted : AllByRecursion (Contains xs) (roots ts)
@@ -94,7 +94,7 @@ module _ (es : List Edge) (closes : ClosesNoCycle es) (columns : List Column) (a
   abbrev Splits : List ℕ → List ℕ → Type 0
   Splits done xs = (s : ℕ) → Contains set s → Contains done s ⊎ Contains xs s
 
-  skip : (done : List ℕ) (x : ℕ) (xs : List ℕ) (ts : List JoinTree) → IsForest done xs ts → IsForest done (x ∷ xs) ts
+  skip : (done : List ℕ) (x : ℕ) (xs : List ℕ) (ts : List BergeTree) → IsForest done xs ts → IsForest done (x ∷ xs) ts
   skip done x xs ts h = record {
     trees = h.trees;
     ascending = h.ascending;
@@ -105,7 +105,7 @@ module _ (es : List Edge) (closes : ClosesNoCycle es) (columns : List Column) (a
     within = h.within;
   }
 
-  plant : (done : List ℕ) (x : ℕ) (xs : List ℕ) (ts : List JoinTree) → AllPairs (λ a b. a < b) (x ∷ xs) → IsClosed es done → Splits done (x ∷ xs) → Contains set x → is_among done x ≡ false
+  plant : (done : List ℕ) (x : ℕ) (xs : List ℕ) (ts : List BergeTree) → AllPairs (λ a b. a < b) (x ∷ xs) → IsClosed es done → Splits done (x ∷ xs) → Contains set x → is_among done x ≡ false
       → IsForest (entries (tree_at n columns x) ++ done) xs ts → IsForest done (x ∷ xs) (tree_at n columns x ∷ ts)
   plant done x xs ts pairs closed splits x_in new h = record {
     trees = (record { columns = f.0; follows = f.1; least = all_in (λ e. x ≤ e) E least }, h.trees);
@@ -125,7 +125,7 @@ module _ (es : List Edge) (closes : ClosesNoCycle es) (columns : List Column) (a
     within = all_append (Contains set) E (entries_of_all ts) (all_in (Contains set) E in_set) h.within;
   }
     where
-      t : JoinTree
+      t : BergeTree
       t = tree_at n columns x
 
       E : List ℕ

@@ -4,7 +4,7 @@ use Rattle.std.specs.List.{AllByRecursion}
 use Rattle.std.proofs.lemmas.Bool.{cases_Bool}
 use Rattle.berge_tree.specs.declared.edges.Place.{Place}
 use Rattle.berge_tree.specs.declared.edges.Edge.{Edge}
-use Rattle.berge_tree.specs.Equalities.{place, same_place, merged, classes_from, class_of, AreJoined}
+use Rattle.berge_tree.specs.Equalities.{place, same_place, merged, classes_from, class_of, AreInOneClass}
 use Rattle.berge_tree.proofs.NoCycle.{same_place-true, merged-yes, merged-no}
 use Rattle.berge_tree.proofs.Steps.{same_place-is}
 
@@ -24,7 +24,7 @@ named key h same (e ∷ es) all p = named key (merged h e.left e.right) more es 
       | inr n ↦ ap (at_place key) (merged-no same_place h e.left e.right q n) ∙ same q
     ]
 
-pub joined : (es : List Edge) (p q : Place) → class_of es p ≡ class_of es q → AreJoined es p q
+pub joined : (es : List Edge) (p q : Place) → class_of es p ≡ class_of es q → AreInOneClass es p q
 joined es p q e key all = sym (named key (λ r. r) (λ r. refl) es all p) ∙ ap (at_place key) e ∙ named key (λ r. r) (λ r. refl) es all q
 
 merged_keeps : (h : Place → Place) (l r x y : Place) → h x ≡ h y → merged h l r x ≡ merged h l r y
@@ -44,7 +44,7 @@ joins h l r = left ∙ sym (merged-yes same_place h l r r (same_place-is (h r) (
     left = elim (cases_Bool (same_place (h l) (h r))) [ inl t ↦ merged-yes same_place h l r l t | inr n ↦ merged-no same_place h l r l n ]
 
 -- columns that are equal wherever all equalities hold have one class
-pub class_of-joined : (es : List Edge) (p q : Place) → AreJoined es p q → class_of es p ≡ class_of es q
+pub class_of-joined : (es : List Edge) (p q : Place) → AreInOneClass es p q → class_of es p ≡ class_of es q
 class_of-joined es p q joined =
     by_parts (class_of es p) (class_of es q)
     (joined (λ entry column. (class_of es (place entry column)).entry) (along (λ u. u.entry) es (λ u. u)))

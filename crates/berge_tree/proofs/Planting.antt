@@ -9,7 +9,7 @@ use Rattle.berge_tree.specs.declared.columns.Column.{Column}
 use Rattle.berge_tree.specs.declared.tree.Tree.{Tree}
 use Rattle.berge_tree.specs.Boxed.{tree_of}
 use Rattle.berge_tree.specs.Equalities.{AreWithin, ClosesNoCycle}
-use Rattle.berge_tree.specs.Trees.{JoinTree, entries}
+use Rattle.berge_tree.specs.Trees.{BergeTree, entries}
 use Rattle.berge_tree.specs.Rooted.{AreAllTreesOf}
 use Rattle.entry_sets.specs.Sets.{entries_from, entries_of_set}
 use Rattle.entry_sets.proofs.Listing.{from_next, from_skip, set_from, set_increases, set_low}
@@ -20,7 +20,7 @@ use Rattle.berge_tree.proofs.Forest.{all_trees}
 
 -- ---- what stands in the trees
 
-abbrev stands_among : List JoinTree → ℕ → Bool
+abbrev stands_among : List BergeTree → ℕ → Bool
 stands_among [] x = false
 stands_among (t ∷ ts) x = is_among (entries t) x || stands_among ts x
 
@@ -34,14 +34,14 @@ or_swap true false c = refl
 or_swap false true c = refl
 or_swap false false c = refl
 
-stands_push : (ts : List JoinTree) (t : JoinTree) (x : ℕ) → stands_among (ts ++ t ∷ []) x ≡ (is_among (entries t) x || stands_among ts x)
+stands_push : (ts : List BergeTree) (t : BergeTree) (x : ℕ) → stands_among (ts ++ t ∷ []) x ≡ (is_among (entries t) x || stands_among ts x)
 stands_push [] t x = refl
 stands_push (u ∷ ts) t x = ap (λ b. is_among (entries u) x || b) (stands_push ts t x) ∙ or_swap (is_among (entries u) x) (is_among (entries t) x) (stands_among ts x)
 
 -- ---- planting
 
 -- the trees so far, with those still to come, are the whole
-pub record Planting (columns : List Column) (trees : List Tree) (rest : List ℕ) (whole : List JoinTree) : Type 0 where
+pub record Planting (columns : List Column) (trees : List Tree) (rest : List ℕ) (whole : List BergeTree) : Type 0 where
   pub done : List ℕ
   pub same : (e : ℕ) → is_among done e ≡ stands_in trees e
   pub all : map tree_of trees ++ forest 16 columns done rest ≡ whole
@@ -53,12 +53,12 @@ planting_none columns subset trees none = record {
   all = ap (λ (ts : List Tree). map tree_of ts ++ forest 16 columns [] (entries_from subset 0 16)) none ∙ ap (forest 16 columns []) (sym (set_from subset));
 }
 
-pub planting_skip : (columns : List Column) (trees : List Tree) (subset first count left : ℕ) (whole : List JoinTree) → left ≡ suc count → eqb (bit_at subset first) 1 ≡ false
+pub planting_skip : (columns : List Column) (trees : List Tree) (subset first count left : ℕ) (whole : List BergeTree) → left ≡ suc count → eqb (bit_at subset first) 1 ≡ false
     → Planting columns trees (entries_from subset first left) whole → Planting columns trees (entries_from subset (first + 1) count) whole
 planting_skip columns trees subset first count left whole is bit so_far =
     subst (λ xs. Planting columns trees xs whole) (ap (entries_from subset first) is ∙ from_skip subset first count bit) so_far
 
-planted : (columns : List Column) (trees more : List Tree) (x : ℕ) (xs : List ℕ) (whole : List JoinTree) → map tree_of more ≡ map tree_of trees ++ added columns trees x → Planting columns trees (x ∷ xs) whole → Planting columns more xs whole
+planted : (columns : List Column) (trees more : List Tree) (x : ℕ) (xs : List ℕ) (whole : List BergeTree) → map tree_of more ≡ map tree_of trees ++ added columns trees x → Planting columns trees (x ∷ xs) whole → Planting columns more xs whole
 planted columns trees more x xs whole is so_far = elim (cases_Bool (stands_in trees x)) [
   | inl old ↦
       let same_trees : map tree_of more ≡ map tree_of trees = subst (λ b. map tree_of more ≡ map tree_of trees ++ cond b [] (tree_at 16 columns x ∷ [])) old is ∙ append-nil (map tree_of trees) in
@@ -69,7 +69,7 @@ planted columns trees more x xs whole is so_far = elim (cases_Bool (stands_in tr
         all = ap (λ ts. ts ++ forest 16 columns so_far.done xs) same_trees ∙ ap (λ ts. map tree_of trees ++ ts) (sym skipped) ∙ so_far.all;
       }
   | inr new ↦
-      let t : JoinTree = tree_at 16 columns x in
+      let t : BergeTree = tree_at 16 columns x in
       let longer : map tree_of more ≡ map tree_of trees ++ t ∷ [] = subst (λ b. map tree_of more ≡ map tree_of trees ++ cond b [] (t ∷ [])) new is in
       let made : forest 16 columns so_far.done (x ∷ xs) ≡ t ∷ forest 16 columns (entries t ++ so_far.done) xs = rw (so_far.same x ∙ new) refl in
       record {
@@ -82,7 +82,7 @@ planted columns trees more x xs whole is so_far = elim (cases_Bool (stands_in tr
       }
 ]
 
-pub planting_more : (columns : List Column) (trees more : List Tree) (subset first count left : ℕ) (whole : List JoinTree) → left ≡ suc count → eqb (bit_at subset first) 1 ≡ true → map tree_of more ≡ map tree_of trees ++ added columns trees first
+pub planting_more : (columns : List Column) (trees more : List Tree) (subset first count left : ℕ) (whole : List BergeTree) → left ≡ suc count → eqb (bit_at subset first) 1 ≡ true → map tree_of more ≡ map tree_of trees ++ added columns trees first
     → Planting columns trees (entries_from subset first left) whole → Planting columns more (entries_from subset (first + 1) count) whole
 planting_more columns trees more subset first count left whole left_is bit is so_far =
     planted columns trees more first (entries_from subset (first + 1) count) whole is

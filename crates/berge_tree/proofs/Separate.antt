@@ -4,7 +4,7 @@ use Rattle.std.specs.Prelude.{⊤}
 use Rattle.std.specs.List.{Contains, AllByRecursion, AllPairs}
 use Rattle.std.proofs.lemmas.List.Kept.{AllPairs-from_increasing}
 use Rattle.entry_sets.proofs.Listing.{in_rest, in_front, in_none, one_in}
-use Rattle.berge_tree.specs.Trees.{Classes, no_class, and_class, Members, one_member, and_member, JoinTree}
+use Rattle.berge_tree.specs.Trees.{Classes, no_class, and_class, Members, one_member, and_member, BergeTree}
 use Rattle.berge_tree.specs.Trees.{entries_below, entries_within, entries}
 use Rattle.berge_tree.specs.declared.edges.Place.{Place}
 use Rattle.berge_tree.specs.declared.edges.Edge.{Edge}
@@ -196,7 +196,7 @@ module _ (es : List Edge) (nc : HasNoCycle (class_of es)) where
         (λ q k. far (class_of es) s b q (sym s_in.0 ∙ (others_r q k).0)
         (λ is. differs entry q.entry (later_above entry (member_entries rest) pairs q.entry (entry_in rest q k)) (ap (λ (u : Place). u.entry) is))) f.2)
 
-  pub once_tree : (t : JoinTree) → AreItsColumns es t.root None (class_columns t.below) → FollowsBelow es t.root t.below → Distinct (entries t)
+  pub once_tree : (t : BergeTree) → AreItsColumns es t.root None (class_columns t.below) → FollowsBelow es t.root t.below → Distinct (entries t)
   once_tree t columns f =
       let off : AreOff None t.below = λ c k. (columns.some c k).1 in (
         alone [] t.root (entries_below t.below) (avoid_below [] t.root None (root_reached (class_of es) t.root) t.below off f),
@@ -204,7 +204,7 @@ module _ (es : List Edge) (nc : HasNoCycle (class_of es)) where
       )
 
   -- where each class has one side, the tree has one
-  pub one_side : (t : JoinTree) → AreItsColumns es t.root None (class_columns t.below) → FollowsBelow es t.root t.below
+  pub one_side : (t : BergeTree) → AreItsColumns es t.root None (class_columns t.below) → FollowsBelow es t.root t.below
       → (side : ℕ → Bool) → ((u v : Place) → class_of es u ≡ class_of es v → side u.entry ≡ side v.entry) → AllByRecursion (λ e. side e ≡ side t.root) (entries t)
   one_side t columns f side const = (
     refl,

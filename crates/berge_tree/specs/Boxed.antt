@@ -5,7 +5,7 @@ use Rattle.berge_tree.specs.declared.tree.Classes.TheVariants as classes
 use Rattle.berge_tree.specs.declared.tree.Members.{Members as MemberBoxes}
 use Rattle.berge_tree.specs.declared.tree.Members.TheVariants as members
 use Rattle.berge_tree.specs.declared.tree.Tree.{Tree}
-use Rattle.berge_tree.specs.Trees.{Classes, no_class, and_class, Members, one_member, and_member, JoinTree}
+use Rattle.berge_tree.specs.Trees.{Classes, no_class, and_class, Members, one_member, and_member, BergeTree}
 
 abbrev mutual
   pub classes_of : ClassBoxes → Classes
@@ -21,5 +21,5 @@ abbrev pub some_members_of : Option MemberBoxes → Option Members
 some_members_of None = None
 some_members_of (Some members) = Some (members_of members)
 
-abbrev pub tree_of : Tree → JoinTree
+abbrev pub tree_of : Tree → BergeTree
 tree_of t = record { root = t.root; below = classes_of t.below }

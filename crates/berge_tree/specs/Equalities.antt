@@ -50,8 +50,8 @@ abbrev pub class_of : List Edge → Place → Place
 class_of es = classes_from (λ p. p) es
 
 -- what is equal along all equalities is equal at the two columns
-abbrev pub AreJoined : List Edge → Place → Place → Type 0
-AreJoined es p q =
+abbrev pub AreInOneClass : List Edge → Place → Place → Type 0
+AreInOneClass es p q =
     (key : ℕ → ℕ → ℕ) → AllByRecursion (λ e. key e.left.entry e.left.column ≡ key e.right.entry e.right.column) es
     → key p.entry p.column ≡ key q.entry q.column
 

@@ -5,7 +5,7 @@ use Rattle.std.specs.List.Sorted.{IsStrictlyIncreasing}
 use Rattle.berge_tree.specs.declared.edges.Place.{Place}
 use Rattle.berge_tree.specs.declared.edges.Edge.{Edge}
 use Rattle.berge_tree.specs.Equalities.{place, places_of, class_of}
-use Rattle.berge_tree.specs.Trees.{Classes, no_class, and_class, Members, one_member, and_member, JoinTree, entries, entries_of_all}
+use Rattle.berge_tree.specs.Trees.{Classes, no_class, and_class, Members, one_member, and_member, BergeTree, entries, entries_of_all}
 
 -- the entry's columns in the classes below it
 abbrev pub class_columns : Classes → List ℕ
@@ -46,17 +46,17 @@ abbrev mutual
       AreItsColumns es entry (Some column) (class_columns below) × FollowsBelow es entry below × FollowsWithin es rest
 
 -- a component's tree, which stands at the component's least entry
-pub record IsTreeOf (es : List Edge) (t : JoinTree) : Type 0 where
+pub record IsTreeOf (es : List Edge) (t : BergeTree) : Type 0 where
   pub columns : AreItsColumns es t.root None (class_columns t.below)
   pub follows : FollowsBelow es t.root t.below
   pub least : AllByRecursion (λ e. t.root ≤ e) (entries t)
 
-abbrev pub roots : List JoinTree → List ℕ
+abbrev pub roots : List BergeTree → List ℕ
 roots [] = []
 roots (t ∷ ts) = t.root ∷ roots ts
 
 -- one tree for each component of the set, in the order of their roots, and each entry of the set once
-pub record AreAllTreesOf (es : List Edge) (set : List ℕ) (ts : List JoinTree) : Type 0 where
+pub record AreAllTreesOf (es : List Edge) (set : List ℕ) (ts : List BergeTree) : Type 0 where
   pub trees : AllByRecursion (IsTreeOf es) ts
   pub ascending : IsStrictlyIncreasing (roots ts)
   pub once : AllPairs (λ e f. e ≢ f) (entries_of_all ts)

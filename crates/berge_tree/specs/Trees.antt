@@ -13,7 +13,7 @@ mutual
     and_member : (entry column : ℕ) → Classes → Members → Members
 
 -- an entry and the classes below it
-pub record JoinTree : Type 0 where
+pub record BergeTree : Type 0 where
   pub root : ℕ
   pub below : Classes
 
@@ -28,9 +28,9 @@ abbrev mutual
   entries_within (one_member entry column below) = entry ∷ entries_below below
   entries_within (and_member entry column below rest) = entry ∷ (entries_below below ++ entries_within rest)
 
-abbrev pub entries : JoinTree → List ℕ
+abbrev pub entries : BergeTree → List ℕ
 entries t = t.root ∷ entries_below t.below
 
-abbrev pub entries_of_all : List JoinTree → List ℕ
+abbrev pub entries_of_all : List BergeTree → List ℕ
 entries_of_all [] = []
 entries_of_all (t ∷ ts) = entries t ++ entries_of_all ts

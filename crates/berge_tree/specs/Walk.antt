@@ -5,7 +5,7 @@ use Rattle.berge_tree.specs.declared.edges.Place.{Place}
 use Rattle.berge_tree.specs.declared.edges.Edge.{Edge}
 use Rattle.berge_tree.specs.declared.columns.Column.{Column}
 use Rattle.berge_tree.specs.Equalities.{same_place, places_of, class_of}
-use Rattle.berge_tree.specs.Trees.{Classes, no_class, and_class, Members, one_member, and_member, JoinTree, entries}
+use Rattle.berge_tree.specs.Trees.{Classes, no_class, and_class, Members, one_member, and_member, BergeTree, entries}
 use Rattle.berge_tree.specs.declared.tree.Tree.{Tree}
 use Rattle.berge_tree.specs.Boxed.{tree_of}
 
@@ -116,7 +116,7 @@ IsNext test columns from (Some i) =
 
 -- ---- a tree for each component
 
-abbrev pub tree_at : ℕ → List Column → ℕ → JoinTree
+abbrev pub tree_at : ℕ → List Column → ℕ → BergeTree
 tree_at depth columns entry = record { root = entry; below = walked depth columns entry None }
 
 abbrev pub is_among : List ℕ → ℕ → Bool
@@ -124,7 +124,7 @@ is_among [] x = false
 is_among (y ∷ ys) x = if y == x then true else is_among ys x
 
 -- a tree for each entry that no tree before has
-abbrev pub forest : ℕ → List Column → List ℕ → List ℕ → List JoinTree
+abbrev pub forest : ℕ → List Column → List ℕ → List ℕ → List BergeTree
 forest depth columns done [] = []
 forest depth columns done (x ∷ xs) =
     if is_among done x then forest depth columns done xs
@@ -136,5 +136,5 @@ stands_in [] x = false
 stands_in (t ∷ ts) x = is_among (entries (tree_of t)) x || stands_in ts x
 
 -- one more tree, for an entry that no tree has
-abbrev pub added : List Column → List Tree → ℕ → List JoinTree
+abbrev pub added : List Column → List Tree → ℕ → List BergeTree
 added columns trees x = if stands_in trees x then [] else tree_at 16 columns x ∷ []

@@ -1,18 +1,18 @@
 //! What the definitions say, as laws. Each call does nothing.
 ghost use Rattle.std.specs.Prelude.{[], ◌∷◌, ◌≡◌, ◌≢◌, ◌↔◌, ℕ, Bool, true, List};
 ghost use Rattle.std.specs.List.{AllByRecursion, AllPairs, Contains};
-ghost use Rattle.berge_tree.specs.Equalities.{AreApart, AreJoined, AreWithin, ClosesNoCycle, HasNoCycle, class_of, place};
+ghost use Rattle.berge_tree.specs.Equalities.{AreApart, AreInOneClass, AreWithin, ClosesNoCycle, HasNoCycle, class_of, place};
 ghost use Rattle.berge_tree.specs.Examples.{four_entries, four_entries_tree, tree_of_one};
 ghost use Rattle.berge_tree.specs.Rooted.{AreAllTreesOf, IsTreeOf};
 ghost use Rattle.entry_sets.specs.Sets.{entries_of_set};
 ghost use Rattle.berge_tree.specs.Testing.{has_entries, joins_parts};
-ghost use Rattle.berge_tree.specs.Trees.{JoinTree, entries};
+ghost use Rattle.berge_tree.specs.Trees.{BergeTree, entries};
 ghost use Rattle.berge_tree.specs.declared.edges.Edge.{Edge};
 ghost use Rattle.berge_tree.specs.declared.edges.Place.{Place};
 
 /// Columns have one class exactly where they are equal whenever all equalities hold.
 pub fn classes_are_joined_columns()
-    ensures { (es : List Edge) (p q : Place) → (class_of es p ≡ class_of es q) ↔ AreJoined es p q }
+    ensures { (es : List Edge) (p q : Place) → (class_of es p ≡ class_of es q) ↔ AreInOneClass es p q }
 {}
 
 /// Where equalities close no cycle between entries, no class has two columns of one entry, and entries and classes make no cycle.
@@ -40,13 +40,13 @@ pub fn bits_tell_what_a_set_has()
 
 /// A tree of equalities is a component: it has all that they connect with one of its entries and nothing else, and each entry once.
 pub fn a_tree_is_a_component()
-    ensures whole { (es : List Edge) (t : JoinTree) → IsTreeOf es t
+    ensures whole { (es : List Edge) (t : BergeTree) → IsTreeOf es t
         → (p q : Place) → Contains (entries t) p.entry → class_of es p ≡ class_of es q
         → Contains (entries t) q.entry }
-    ensures one_part { (es : List Edge) (t : JoinTree) → ClosesNoCycle es → IsTreeOf es t
+    ensures one_part { (es : List Edge) (t : BergeTree) → ClosesNoCycle es → IsTreeOf es t
         → (side : ℕ → Bool) → ((p q : Place) → class_of es p ≡ class_of es q → side p.entry ≡ side q.entry)
         → AllByRecursion (λ e. side e ≡ side t.root) (entries t) }
-    ensures once { (es : List Edge) (t : JoinTree) → ClosesNoCycle es → IsTreeOf es t
+    ensures once { (es : List Edge) (t : BergeTree) → ClosesNoCycle es → IsTreeOf es t
         → AllPairs (λ e f. e ≢ f) (entries t) }
 {}
 

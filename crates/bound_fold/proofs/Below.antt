@@ -11,7 +11,7 @@ use Rattle.degree_sequences.specs.Saturation.{saturated}
 use Rattle.degree_sequences.proofs.SaturationLaws.{saturated-rank_product}
 use Rattle.piece_math.specs.declared.weights.Child.{Child}
 use Rattle.piece_math.specs.Children.{lists_of}
-use Rattle.berge_tree.specs.Trees.{Classes, no_class, and_class, Members, and_member, JoinTree}
+use Rattle.berge_tree.specs.Trees.{Classes, no_class, and_class, Members, and_member, BergeTree}
 use Rattle.tree_bounds.specs.Columns.{EachColumnBelow}
 use Rattle.tree_bounds.specs.Saturating.{saturated_class}
 use Rattle.tree_bounds.specs.TreeBounds.{EntryBounds, child_lists, class_list, bound_of_tree}
@@ -111,7 +111,7 @@ module _ (b : EntryBounds) (entry column : ℕ) where
       ∙ saturated-rank_product first (class_list b rest)
 
 -- the root weighs its rows
-pub root_done : (b : EntryBounds) (t : JoinTree) (rows n : ℕ) (children : List Child) → map lists_of children ≡ map saturated_class (child_lists b t.root t.below) → rows ≡ b.rows t.root
+pub root_done : (b : EntryBounds) (t : BergeTree) (rows n : ℕ) (children : List Child) → map lists_of children ≡ map saturated_class (child_lists b t.root t.below) → rows ≡ b.rows t.root
     → n ≡ saturated (root_total (map lists_of children) rows) → n ≡ saturated (bound_of_tree b t)
 root_done b t rows n children same is_rows is_n =
     is_n

@@ -4,10 +4,10 @@ use Rattle.std.specs.Prelude.{Option, Some, None, IsSome, unwrap_or}
 use Rattle.std.specs.List.{AllByRecursion}
 use Rattle.degree_sequences.specs.Falling.{IsFalling}
 use Rattle.degree_sequences.specs.Saturation.{saturated}
-use Rattle.berge_tree.specs.Trees.{Classes, no_class, and_class, Members, one_member, and_member, JoinTree, entries}
+use Rattle.berge_tree.specs.Trees.{Classes, no_class, and_class, Members, one_member, and_member, BergeTree, entries}
 use Rattle.tree_bounds.specs.Columns.{EachColumnBelow, EachColumnWithin}
-use Rattle.tree_bounds.specs.Tables.{KeyedTables, Agrees, AreDifferent, TreeDominates}
-use Rattle.tree_bounds.specs.TreeBounds.{HasList, HasLists, bound_of_tree}
+use Rattle.tree_bounds.specs.Tables.{KeyedTables, Agrees, ChoicesAreDifferent, TreeDominates}
+use Rattle.tree_bounds.specs.TreeBounds.{HasList, TreeHasLists, bound_of_tree}
 use Rattle.tree_bounds.proofs.Injected.{choices_within}
 use Rattle.tree_bounds.proofs.Saturated.{within_saturated}
 use Rattle.bound_fold.specs.declared.lists.EntryLists.{EntryLists}
@@ -33,14 +33,14 @@ falls_there lists entry column (Some list) e h = (lists.sums entry column list e
 pub has_list : (lists : EntryLists) (entry column : ℕ) → IsSome (list_of lists entry column) → HasList (bounds_of lists) entry column
 has_list lists entry column h = record { falls = falls_there lists entry column (list_of lists entry column) refl h; total = listed_total lists entry column h }
 
-has_lists : (lists : EntryLists) (t : JoinTree) → IsListed lists t → HasLists (bounds_of lists) t
+has_lists : (lists : EntryLists) (t : BergeTree) → IsListed lists t → TreeHasLists (bounds_of lists) t
 has_lists lists t listed =
     carried_below (λ entry column. IsSome (list_of lists entry column)) (HasList (bounds_of lists)) (has_list lists) t.root t.below listed.columns
 
 -- ---- never under
 
-pub choices_bounded : (lists : EntryLists) (t : JoinTree) (n : ℕ) → IsListed lists t → n ≡ saturated (bound_of_tree (bounds_of lists) t)
-    → (tables : KeyedTables) → TreeDominates (bounds_of lists) tables t → (choices : List (ℕ → ℕ)) → AllByRecursion (Agrees tables t) choices → AreDifferent (entries t) choices
+pub choices_bounded : (lists : EntryLists) (t : BergeTree) (n : ℕ) → IsListed lists t → n ≡ saturated (bound_of_tree (bounds_of lists) t)
+    → (tables : KeyedTables) → TreeDominates (bounds_of lists) tables t → (choices : List (ℕ → ℕ)) → AllByRecursion (Agrees tables t) choices → ChoicesAreDifferent (entries t) choices
     → (length choices ≤ n) ⊎ (n ≡ 2 ^ 128 - 1)
 choices_bounded lists t n listed is tables dominates choices agree differ =
     subst (λ m. (length choices ≤ m) ⊎ (m ≡ 2 ^ 128 - 1)) (sym is)

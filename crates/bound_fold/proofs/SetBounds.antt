@@ -9,10 +9,10 @@ use Rattle.berge_tree.specs.declared.tree.Tree.{Tree}
 use Rattle.berge_tree.specs.Boxed.{tree_of}
 use Rattle.berge_tree.specs.Rooted.{AreAllTreesOf}
 use Rattle.entry_sets.specs.Sets.{entries_of_set}
-use Rattle.berge_tree.specs.Trees.{JoinTree}
+use Rattle.berge_tree.specs.Trees.{BergeTree}
 use Rattle.join_graph.specs.Kept.{equalities_within, kept_of, turn_count}
 use Rattle.tree_bounds.specs.SetBounds.{bound_of_set, bound_of_turn, least_to}
-use Rattle.tree_bounds.specs.Tables.{KeyedTables, AreDifferent, Satisfies, SetDominates}
+use Rattle.tree_bounds.specs.Tables.{KeyedTables, ChoicesAreDifferent, Satisfies, SetDominates}
 use Rattle.tree_bounds.specs.TreeBounds.{EntryBounds, bound_of_tree, bound_of_trees}
 use Rattle.tree_bounds.proofs.Saturated.{saturated-min, saturated-trees_more, within_saturated}
 use Rattle.tree_bounds.proofs.Turns.{trees_are, within_set}
@@ -39,7 +39,7 @@ module _ (b : EntryBounds) where
   pub one_more_tree : (trees : List Tree) (i : ℕ) (tree : Tree) (product n : ℕ) → i < length trees → tree ≡ get_or trees i tree → product ≡ saturated (bound_of_trees b (map tree_of (take i trees)))
       → n ≡ saturated (bound_of_tree b (tree_of tree)) → min (product * n) (2 ^ 128 - 1) ≡ saturated (bound_of_trees b (map tree_of (take (i + 1) trees)))
   one_more_tree trees i tree product n h is before folded =
-      let ts : List JoinTree = map tree_of (take i trees) in
+      let ts : List BergeTree = map tree_of (take i trees) in
       ap saturated (ap (λ m. m * n) before ∙ ap (λ m. saturated (bound_of_trees b ts) * m) folded)
       ∙ saturated-trees_more b ts (tree_of tree)
       ∙ sym (ap (λ us. saturated (bound_of_trees b us)) (ap (λ k. map tree_of (take k trees)) (add-one i) ∙ take_one_more trees i tree h ∙ ap (λ (t : Tree). ts ++ tree_of t ∷ []) (sym is)))
@@ -49,7 +49,7 @@ module _ (b : EntryBounds) where
 
 -- ---- one turn
 
-module _ (es : List Edge) (subset turn : ℕ) (kept : List Edge) (is_kept : kept ≡ kept_of subset turn es) (ts : List JoinTree) (r : AreAllTreesOf kept (entries_of_set subset) ts) where
+module _ (es : List Edge) (subset turn : ℕ) (kept : List Edge) (is_kept : kept ≡ kept_of subset turn es) (ts : List BergeTree) (r : AreAllTreesOf kept (entries_of_set subset) ts) where
   are_all : AreAllTreesOf (kept_of subset turn es) (entries_of_set subset) ts
   are_all = subst (λ es. AreAllTreesOf es (entries_of_set subset) ts) is_kept r
 
@@ -85,7 +85,7 @@ module _ (b : EntryBounds) (es : List Edge) (subset : ℕ) where
 
 pub set_never_under : (lists : EntryLists) (es : List Edge) (subset n : ℕ) → SetIsListed lists es subset → n ≡ saturated (bound_of_set (bounds_of lists) es subset)
     → (tables : KeyedTables) → SetDominates (bounds_of lists) tables es subset → (choices : List (ℕ → ℕ))
-    → AllByRecursion (Satisfies tables (entries_of_set subset) (equalities_within subset es)) choices → AreDifferent (entries_of_set subset) choices
+    → AllByRecursion (Satisfies tables (entries_of_set subset) (equalities_within subset es)) choices → ChoicesAreDifferent (entries_of_set subset) choices
     → (length choices ≤ n) ⊎ (n ≡ 2 ^ 128 - 1)
 set_never_under lists es subset n h is tables dominates choices satisfy differ =
     let within : length choices ≤ bound_of_set (bounds_of lists) es subset =

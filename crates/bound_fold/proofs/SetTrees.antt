@@ -6,7 +6,7 @@ use Rattle.berge_tree.specs.declared.edges.Edge.{Edge}
 use Rattle.berge_tree.specs.Equalities.{places_of}
 use Rattle.berge_tree.specs.Rooted.{AreAllTreesOf, IsTreeOf}
 use Rattle.entry_sets.specs.Sets.{entries_of_set}
-use Rattle.berge_tree.specs.Trees.{JoinTree, entries, entries_of_all}
+use Rattle.berge_tree.specs.Trees.{BergeTree, entries, entries_of_all}
 use Rattle.berge_tree.proofs.Separate.{all_map}
 use Rattle.join_graph.specs.Kept.{equalities_within, kept_of}
 use Rattle.tree_bounds.specs.TreeBounds.{HasList}
@@ -35,7 +35,7 @@ module _ (lists : EntryLists) (es : List Edge) (subset turn : ℕ) (h : SetIsLis
   abbrev IsThere : ℕ → ℕ → Type 0
   IsThere entry column = IsSome (list_of lists entry column)
 
-  each_listed : (ts : List JoinTree) → AllByRecursion (IsTreeOf (kept_of subset turn es)) ts → AllByRecursion HasRows (entries_of_all ts) → AllByRecursion (IsListed lists) ts
+  each_listed : (ts : List BergeTree) → AllByRecursion (IsTreeOf (kept_of subset turn es)) ts → AllByRecursion HasRows (entries_of_all ts) → AllByRecursion (IsListed lists) ts
   each_listed [] trees rows = tt
   each_listed (t ∷ ts) trees rows = (
     record {
@@ -45,7 +45,7 @@ module _ (lists : EntryLists) (es : List Edge) (subset turn : ℕ) (h : SetIsLis
     each_listed ts trees.1 (all_right HasRows (entries t) (entries_of_all ts) rows),
   )
 
-  pub turn_listed : (ts : List JoinTree) → AreAllTreesOf (kept_of subset turn es) (entries_of_set subset) ts → AllByRecursion (IsListed lists) ts
+  pub turn_listed : (ts : List BergeTree) → AreAllTreesOf (kept_of subset turn es) (entries_of_set subset) ts → AllByRecursion (IsListed lists) ts
   turn_listed ts all = each_listed ts all.trees (in_trees es subset turn ts all HasRows h.rows)
 
 -- ---- the lists of a set are lists of its entries

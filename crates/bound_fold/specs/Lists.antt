@@ -1,7 +1,7 @@
 -- What an `EntryLists` holds, as bounds of entries, and what a tree needs of it.
 use Rattle.std.specs.Prelude.{ℕ, List, [], Option, unwrap_or, IsSome}
 use Rattle.std.specs.List.{AllByRecursion}
-use Rattle.berge_tree.specs.Trees.{JoinTree, entries}
+use Rattle.berge_tree.specs.Trees.{BergeTree, entries}
 use Rattle.tree_bounds.specs.Columns.{EachColumn}
 use Rattle.tree_bounds.specs.TreeBounds.{EntryBounds}
 use Rattle.bound_fold.specs.declared.lists.EntryLists.{EntryLists}
@@ -24,6 +24,6 @@ bounds_of lists = record {
 }
 
 -- every entry of a tree has its row bound, and every column of it its list
-pub record IsListed (lists : EntryLists) (t : JoinTree) : Type 0 where
+pub record IsListed (lists : EntryLists) (t : BergeTree) : Type 0 where
   pub rows : AllByRecursion (λ entry. IsSome (rows_of lists entry)) (entries t)
   pub columns : EachColumn (λ entry column. IsSome (list_of lists entry column)) t

@@ -8,7 +8,7 @@ ghost use Rattle.berge_tree.specs.Boxed.{classes_of, members_of, tree_of};
 ghost use Rattle.berge_tree.specs.Trees.{entries};
 ghost use Rattle.tree_bounds.specs.Columns.{EachColumnBelow, EachColumnWithin};
 ghost use Rattle.tree_bounds.specs.Saturating.{saturated_class};
-ghost use Rattle.tree_bounds.specs.Tables.{KeyedTables, Agrees, AreDifferent, TreeDominates};
+ghost use Rattle.tree_bounds.specs.Tables.{KeyedTables, Agrees, ChoicesAreDifferent, TreeDominates};
 ghost use Rattle.tree_bounds.specs.TreeBounds.{bound_of_tree, child_lists, class_list};
 ghost use Rattle.bound_fold.specs.Lists.{bounds_of, list_of, IsListed};
 
@@ -104,7 +104,7 @@ pub fn fold(alloc: Global, tree: &Tree, lists: &EntryLists) -> Result<u128, NoMe
     ensures exact { IfOk result (λ n. n ≡ saturated (bound_of_tree (bounds_of lists.now) (tree_of tree.now))) }
     ensures never_under { IfOk result (λ n. (tables : KeyedTables) → TreeDominates (bounds_of lists.now) tables (tree_of tree.now)
         → (choices : List (ℕ → ℕ)) → AllByRecursion (Agrees tables (tree_of tree.now)) choices
-        → AreDifferent (entries (tree_of tree.now)) choices → (length choices ≤ n) ⊎ (n ≡ 2 ^ 128 - 1)) }
+        → ChoicesAreDifferent (entries (tree_of tree.now)) choices → (length choices ≤ n) ⊎ (n ≡ 2 ^ 128 - 1)) }
 {
     let mut children = Vec::new(alloc);
     add_children(&mut children, alloc, &tree.below, lists, tree.root)?;

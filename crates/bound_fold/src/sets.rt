@@ -6,7 +6,7 @@ ghost use Rattle.entry_sets.specs.Sets.{entries_of_set};
 ghost use Rattle.berge_tree.specs.Boxed.{tree_of};
 ghost use Rattle.join_graph.specs.Kept.{equalities_within};
 ghost use Rattle.tree_bounds.specs.SetBounds.{bound_of_set, bound_of_turn};
-ghost use Rattle.tree_bounds.specs.Tables.{KeyedTables, AreDifferent, Satisfies, SetDominates};
+ghost use Rattle.tree_bounds.specs.Tables.{KeyedTables, ChoicesAreDifferent, Satisfies, SetDominates};
 ghost use Rattle.tree_bounds.specs.TreeBounds.{bound_of_trees};
 ghost use Rattle.bound_fold.specs.Lists.{bounds_of, IsListed};
 ghost use Rattle.bound_fold.specs.Sets.{SetIsListed};
@@ -63,7 +63,7 @@ pub fn set_bound(
     ensures never_under { IfOk result (λ n. (tables : KeyedTables) → SetDominates (bounds_of lists.now) tables parts.now.equalities subset
         → (choices : List (ℕ → ℕ))
         → AllByRecursion (Satisfies tables (entries_of_set subset) (equalities_within subset parts.now.equalities)) choices
-        → AreDifferent (entries_of_set subset) choices
+        → ChoicesAreDifferent (entries_of_set subset) choices
         → (length choices ≤ n) ⊎ (n ≡ 2 ^ 128 - 1)) }
 {
     let mut least = turn_bound(alloc, parts, subset, 0, lists)?;

@@ -6,7 +6,7 @@ use Rattle.sql_meaning.specs.Examples.{triangle, triangle_tables}
 use Rattle.sql_meaning.specs.Tables.{tables_of}
 use Rattle.join_steps.specs.Lists.{scan_of, scans_of}
 use Rattle.tree_plans.specs.declared.bushy.BushyPlan.{BushyPlan}
-use Rattle.tree_plans.specs.TreePlans.{joined_nodes, IsTreePlan, IsWithin}
+use Rattle.tree_plans.specs.TreePlans.{joined_nodes, IsTreePlan, BoundsAreWithin}
 use Rattle.tree_rows.specs.Rooms.{bound_at}
 use Rattle.hash_join.specs.Examples.{equal, one_is_two, pair, six_and_five, twice_three, Comparison}
 use Rattle.hash_join.proofs.Worked.{level_is, scan_is}
@@ -48,7 +48,7 @@ pair_tree = record {
   once = two_named;
 }
 
-pair_small : IsWithin 4000000 pair_plan
+pair_small : BoundsAreWithin 4000000 pair_plan
 pair_small = record { scans = (omega arith, (omega arith, tt)); joins = (omega arith, tt) }
 
 pair_scan : (entry : ℕ) → entry < 2 → length (scan_of pair six_and_five entry) ≤ get_or pair_plan.scans entry 0
@@ -103,7 +103,7 @@ triangle_scans (suc zero) low = scan_is sides triangle_tables 1
 triangle_scans (suc (suc zero)) low = scan_is sides triangle_tables 2
 triangle_scans (suc (suc (suc entry))) low = absurd (omega arith)
 
-triangle_small : IsWithin 4000000 triangle_plan
+triangle_small : BoundsAreWithin 4000000 triangle_plan
 triangle_small = record { scans = (omega arith, (omega arith, (omega arith, tt))); joins = (omega arith, (omega arith, tt)) }
 
 triangle_scan : (entry : ℕ) → entry < 3 → length (scan_of triangle triangle_tables entry) ≤ get_or triangle_plan.scans entry 0
@@ -144,7 +144,7 @@ alone_tree = record {
   once = λ node low. absurd (omega arith);
 }
 
-alone_small : IsWithin 4000000 alone
+alone_small : BoundsAreWithin 4000000 alone
 alone_small = record { scans = (omega arith, tt); joins = tt }
 
 alone_scan : (entry : ℕ) → entry < 1 → length (scan_of (never (0 ∷ [])) three entry) ≤ get_or alone.scans entry 0
@@ -167,7 +167,7 @@ twice_tree = record {
   once = two_named;
 }
 
-twice_small : IsWithin 4000000 twice
+twice_small : BoundsAreWithin 4000000 twice
 twice_small = record { scans = (omega arith, (omega arith, tt)); joins = (omega arith, tt) }
 
 twice_scans : (entry : ℕ) → entry < 2 → scan_of (never (0 ∷ 0 ∷ [])) twice_three entry ≡ 0 ∷ 1 ∷ 2 ∷ []

@@ -8,18 +8,18 @@ use Rattle.std.proofs.lemmas.Nat.Bits.{bit_at-lt, bit_at-pow_other, bit_at_above
 use Rattle.entry_sets.proofs.Bits.{bit_without_other, bit_without_same, power_within, twice}
 use Rattle.order_search.proofs.Tested.{both_true}
 use Rattle.bushy_plan.specs.BestTree.{all_of}
-use Rattle.bushy_plan.specs.JoinTrees.{IsFirstEntry, IsSplit, IsTreeOver, JoinTree, leaf, node, entries_of}
+use Rattle.bushy_plan.specs.PlanTrees.{IsFirstEntry, IsSplit, IsTreeOver, PlanTree, leaf, node, leaf_set}
 use Rattle.bushy_plan.proofs.LeftDeep.{tree_first}
 use Rattle.bushy_plan.proofs.Splitting.{no_split_of_one, same_power, split_sum, tree_set}
 
 -- ---- all trees
 
-abbrev pub each_with : ℕ → (JoinTree → Bool) → JoinTree → Bool
+abbrev pub each_with : ℕ → (PlanTree → Bool) → PlanTree → Bool
 each_with last test (leaf entry) = test (node (leaf entry) (leaf last))
 each_with last test (node left right) =
     cond (test (node (node left right) (leaf last))) (cond (each_with last (λ t. test (node t right)) left) (each_with last (λ t. test (node left t)) right) false) false
 
-abbrev pub each_tree : ℕ → (JoinTree → Bool) → Bool
+abbrev pub each_tree : ℕ → (PlanTree → Bool) → Bool
 each_tree zero test = true
 each_tree (suc zero) test = test (leaf 0)
 each_tree (suc (suc n)) test = each_tree (suc n) (λ t. each_with (suc n) test t)
@@ -96,16 +96,16 @@ split_without_left set left right last fits split has more = record {
     in_set = omega (arith, split.apart last, bit_at-lt set last)
 
 -- the left side isn't the last entry alone
-left_has_more : (set last : ℕ) (left right : JoinTree) → set < 2 ^ suc last → IsTreeOver set (node left right) → bit_at (entries_of left) last ≡ 1 → 0 < entries_of left - 2 ^ last
-left_has_more set last left right fits is_tree has = elim (cases_lt (2 ^ last) (entries_of left)) [
+left_has_more : (set last : ℕ) (left right : PlanTree) → set < 2 ^ suc last → IsTreeOver set (node left right) → bit_at (leaf_set left) last ≡ 1 → 0 < leaf_set left - 2 ^ last
+left_has_more set last left right fits is_tree has = elim (cases_lt (2 ^ last) (leaf_set left)) [
   | inl more ↦ omega arith
-  | inr within ↦ (let alone : entries_of left ≡ 2 ^ last = omega (arith, power_within last (entries_of left) has) in
+  | inr within ↦ (let alone : leaf_set left ≡ 2 ^ last = omega (arith, power_within last (leaf_set left) has) in
       let of_set : (first : ℕ) × IsFirstEntry set first = tree_first set (node left right) is_tree in
-      let of_right : (first : ℕ) × IsFirstEntry (entries_of right) first = tree_first (entries_of right) right is_tree.2 in
+      let of_right : (first : ℕ) × IsFirstEntry (leaf_set right) first = tree_first (leaf_set right) right is_tree.2 in
       let is_last : of_set.0 ≡ last = only_bit of_set.0 alone (is_tree.0.first_left of_set.0 of_set.1) in
       let in_set : bit_at set of_right.0 ≡ 1 = omega (arith, is_tree.0.apart of_right.0, of_right.1.is_in, bit_at-lt set of_right.0) in
       elim (cases_order of_right.0 last) [
-        | inl same ↦ absurd (omega (arith, is_tree.0.apart last, has, ap (bit_at (entries_of right)) same, of_right.1.is_in, bit_at-lt set last))
+        | inl same ↦ absurd (omega (arith, is_tree.0.apart last, has, ap (bit_at (leaf_set right)) same, of_right.1.is_in, bit_at-lt set last))
         | inr apart ↦ elim apart [
           | inl below ↦ absurd (omega (arith, of_set.1.none_before of_right.0 (omega (arith, is_last)), in_set))
           | inr above ↦ absurd (omega (arith, bit_at_above set (suc last) of_right.0 fits (omega arith), in_set))
@@ -113,7 +113,7 @@ left_has_more set last left right fits is_tree has = elim (cases_lt (2 ^ last) (
       ])
 ]
   where
-    only_bit : (first : ℕ) → entries_of left ≡ 2 ^ last → bit_at (entries_of left) first ≡ 1 → first ≡ last
+    only_bit : (first : ℕ) → leaf_set left ≡ 2 ^ last → bit_at (leaf_set left) first ≡ 1 → first ≡ last
     only_bit first alone is = elim (cases_eq first last) [
       | inl same ↦ same
       | inr apart ↦ absurd (omega (arith, bit_at-pow_other last first apart, ap (λ k. bit_at k first) alone, is))
@@ -122,28 +122,28 @@ left_has_more set last left right fits is_tree has = elim (cases_lt (2 ^ last) (
 -- ---- the last entry is taken out of a tree
 
 -- the second tree is the first one with the last entry beside one of its nodes
-abbrev pub IsWith : ℕ → JoinTree → JoinTree → Type 0
+abbrev pub IsWith : ℕ → PlanTree → PlanTree → Type 0
 IsWith last (leaf entry) tree = tree ≡ node (leaf entry) (leaf last)
 IsWith last (node left right) tree =
     (tree ≡ node (node left right) (leaf last))
-    ⊎ (((left' : JoinTree) × IsWith last left left' × (tree ≡ node left' right)) ⊎ ((right' : JoinTree) × IsWith last right right' × (tree ≡ node left right')))
+    ⊎ (((left' : PlanTree) × IsWith last left left' × (tree ≡ node left' right)) ⊎ ((right' : PlanTree) × IsWith last right right' × (tree ≡ node left right')))
 
-pub record Without (set last : ℕ) (tree : JoinTree) : Type 0 where
-  pub rest : JoinTree
+pub record Without (set last : ℕ) (tree : PlanTree) : Type 0 where
+  pub rest : PlanTree
   pub is_tree : IsTreeOver (set - 2 ^ last) rest
   pub is_with : IsWith last rest tree
 
-with_root : (last : ℕ) (rest right : JoinTree) → right ≡ leaf last → IsWith last rest (node rest right)
+with_root : (last : ℕ) (rest right : PlanTree) → right ≡ leaf last → IsWith last rest (node rest right)
 with_root last (leaf entry) right same = ap (λ t. node (leaf entry) t) same
 with_root last (node l r) right same = inl (ap (λ t. node (node l r) t) same)
 
-tested_with : (last : ℕ) (test : JoinTree → Bool) (rest tree : JoinTree) → IsWith last rest tree → each_with last test rest ≡ true → test tree ≡ true
-tested_with last test (leaf entry) tree is_with h = subst (λ (t : JoinTree). test t ≡ true) (sym is_with) h
+tested_with : (last : ℕ) (test : PlanTree → Bool) (rest tree : PlanTree) → IsWith last rest tree → each_with last test rest ≡ true → test tree ≡ true
+tested_with last test (leaf entry) tree is_with h = subst (λ (t : PlanTree). test t ≡ true) (sym is_with) h
 tested_with last test (node left right) tree is_with h = elim is_with [
-  | inl root ↦ subst (λ (t : JoinTree). test t ≡ true) (sym root) parts.0
+  | inl root ↦ subst (λ (t : PlanTree). test t ≡ true) (sym root) parts.0
   | inr inner ↦ elim inner [
-    | inl l ↦ subst (λ (t : JoinTree). test t ≡ true) (sym l.2) (tested_with last (λ t. test (node t right)) left l.0 l.1 sides.0)
-    | inr r ↦ subst (λ (t : JoinTree). test t ≡ true) (sym r.2) (tested_with last (λ t. test (node left t)) right r.0 r.1 sides.1)
+    | inl l ↦ subst (λ (t : PlanTree). test t ≡ true) (sym l.2) (tested_with last (λ t. test (node t right)) left l.0 l.1 sides.0)
+    | inr r ↦ subst (λ (t : PlanTree). test t ≡ true) (sym r.2) (tested_with last (λ t. test (node left t)) right r.0 r.1 sides.1)
   ]
 ]
   where
@@ -153,22 +153,22 @@ tested_with last test (node left right) tree is_with h = elim is_with [
     sides : (each_with last (λ t. test (node t right)) left ≡ true) × (each_with last (λ t. test (node left t)) right ≡ true)
     sides = both_true (each_with last (λ t. test (node t right)) left) (each_with last (λ t. test (node left t)) right) parts.1
 
-pub only_last : (last : ℕ) (tree : JoinTree) → IsTreeOver (2 ^ last) tree → tree ≡ leaf last
+pub only_last : (last : ℕ) (tree : PlanTree) → IsTreeOver (2 ^ last) tree → tree ≡ leaf last
 only_last last (leaf entry) is_tree = ap leaf (sym (same_power last entry is_tree))
-only_last last (node left right) is_tree = absurd (no_split_of_one last (entries_of left) (entries_of right) is_tree.0)
+only_last last (node left right) is_tree = absurd (no_split_of_one last (leaf_set left) (leaf_set right) is_tree.0)
 
-without : (set last : ℕ) (tree : JoinTree) → set < 2 ^ suc last → bit_at set last ≡ 1 → 0 < set - 2 ^ last → IsTreeOver set tree → Without set last tree
+without : (set last : ℕ) (tree : PlanTree) → set < 2 ^ suc last → bit_at set last ≡ 1 → 0 < set - 2 ^ last → IsTreeOver set tree → Without set last tree
 without set last (leaf entry) fits has more is_tree = elim (cases_eq last entry) [
   | inl same ↦ absurd (omega (arith, is_tree, ap (λ k. 2 ^ k) same))
   | inr apart ↦ absurd (omega (arith, bit_at-pow_other entry last apart, ap (λ k. bit_at k last) is_tree, has))
 ]
-without set last (node left right) fits has more is_tree = elim (cases_eq (bit_at (entries_of right) last) 1) [
-  | inr out ↦ (let in_left : bit_at (entries_of left) last ≡ 1 = omega (arith, is_tree.0.apart last, bit_at-lt (entries_of right) last, bit_at-lt (entries_of left) last) in
-      let some : 0 < entries_of left - 2 ^ last = left_has_more set last left right fits is_tree in_left in
-      in_the_left in_left some (without (entries_of left) last left (omega (arith, whole)) in_left some is_tree.1))
-  | inl in_right ↦ elim (cases_lt (2 ^ last) (entries_of right)) [
-    | inl some ↦ in_the_right in_right (omega arith) (without (entries_of right) last right (omega (arith, whole)) in_right (omega arith) is_tree.2)
-    | inr within ↦ (let alone : entries_of right ≡ 2 ^ last = omega (arith, power_within last (entries_of right) in_right) in
+without set last (node left right) fits has more is_tree = elim (cases_eq (bit_at (leaf_set right) last) 1) [
+  | inr out ↦ (let in_left : bit_at (leaf_set left) last ≡ 1 = omega (arith, is_tree.0.apart last, bit_at-lt (leaf_set right) last, bit_at-lt (leaf_set left) last) in
+      let some : 0 < leaf_set left - 2 ^ last = left_has_more set last left right fits is_tree in_left in
+      in_the_left in_left some (without (leaf_set left) last left (omega (arith, whole)) in_left some is_tree.1))
+  | inl in_right ↦ elim (cases_lt (2 ^ last) (leaf_set right)) [
+    | inl some ↦ in_the_right in_right (omega arith) (without (leaf_set right) last right (omega (arith, whole)) in_right (omega arith) is_tree.2)
+    | inr within ↦ (let alone : leaf_set right ≡ 2 ^ last = omega (arith, power_within last (leaf_set right) in_right) in
         record {
           rest = left;
           is_tree = subst (λ (k : ℕ). IsTreeOver k left) (omega (arith, whole, alone)) is_tree.1;
@@ -177,29 +177,29 @@ without set last (node left right) fits has more is_tree = elim (cases_eq (bit_a
   ]
 ]
   where
-    whole : entries_of left + entries_of right ≡ set
-    whole = split_sum set (entries_of left) (entries_of right) is_tree.0
+    whole : leaf_set left + leaf_set right ≡ set
+    whole = split_sum set (leaf_set left) (leaf_set right) is_tree.0
 
-    in_the_left : bit_at (entries_of left) last ≡ 1 → 0 < entries_of left - 2 ^ last → Without (entries_of left) last left → Without set last (node left right)
+    in_the_left : bit_at (leaf_set left) last ≡ 1 → 0 < leaf_set left - 2 ^ last → Without (leaf_set left) last left → Without set last (node left right)
     in_the_left in_left some rest =
-        let rest_set : entries_of rest.rest ≡ entries_of left - 2 ^ last = tree_set (entries_of left - 2 ^ last) rest.rest rest.is_tree in
+        let rest_set : leaf_set rest.rest ≡ leaf_set left - 2 ^ last = tree_set (leaf_set left - 2 ^ last) rest.rest rest.is_tree in
         record {
           rest = node rest.rest right;
           is_tree = (
-            subst (λ (k : ℕ). IsSplit (set - 2 ^ last) k (entries_of right)) (sym rest_set) (split_without_left set (entries_of left) (entries_of right) last fits is_tree.0 in_left some),
+            subst (λ (k : ℕ). IsSplit (set - 2 ^ last) k (leaf_set right)) (sym rest_set) (split_without_left set (leaf_set left) (leaf_set right) last fits is_tree.0 in_left some),
             subst (λ (k : ℕ). IsTreeOver k rest.rest) (sym rest_set) rest.is_tree,
             is_tree.2,
           );
           is_with = inr (inl (left, rest.is_with, refl));
         }
 
-    in_the_right : bit_at (entries_of right) last ≡ 1 → 0 < entries_of right - 2 ^ last → Without (entries_of right) last right → Without set last (node left right)
+    in_the_right : bit_at (leaf_set right) last ≡ 1 → 0 < leaf_set right - 2 ^ last → Without (leaf_set right) last right → Without set last (node left right)
     in_the_right in_right some rest =
-        let rest_set : entries_of rest.rest ≡ entries_of right - 2 ^ last = tree_set (entries_of right - 2 ^ last) rest.rest rest.is_tree in
+        let rest_set : leaf_set rest.rest ≡ leaf_set right - 2 ^ last = tree_set (leaf_set right - 2 ^ last) rest.rest rest.is_tree in
         record {
           rest = node left rest.rest;
           is_tree = (
-            subst (λ (k : ℕ). IsSplit (set - 2 ^ last) (entries_of left) k) (sym rest_set) (split_without_right set (entries_of left) (entries_of right) last fits is_tree.0 in_right some),
+            subst (λ (k : ℕ). IsSplit (set - 2 ^ last) (leaf_set left) k) (sym rest_set) (split_without_right set (leaf_set left) (leaf_set right) last fits is_tree.0 in_right some),
             is_tree.1,
             subst (λ (k : ℕ). IsTreeOver k rest.rest) (sym rest_set) rest.is_tree,
           );
@@ -207,16 +207,16 @@ without set last (node left right) fits has more is_tree = elim (cases_eq (bit_a
         }
 
 -- of all entries but the last
-pub without_last : (n : ℕ) (tree : JoinTree) → IsTreeOver (all_of (suc (suc n))) tree → (rest : JoinTree) × IsTreeOver (all_of (suc n)) rest × IsWith (suc n) rest tree
+pub without_last : (n : ℕ) (tree : PlanTree) → IsTreeOver (all_of (suc (suc n))) tree → (rest : PlanTree) × IsTreeOver (all_of (suc n)) rest × IsWith (suc n) rest tree
 without_last n tree is_tree =
     let rest : Without (all_of (suc (suc n))) (suc n) tree =
     without (all_of (suc (suc n))) (suc n) tree (omega (arith, pow_pos (suc (suc n)))) (bit_at_ones (suc (suc n)) (suc n) (omega arith)) (omega (arith, twice (suc n), twice n, pow_pos n)) is_tree in
     let others : 2 ^ suc (suc n) - 1 - 2 ^ suc n ≡ 2 ^ suc n - 1 = omega (arith, twice (suc n)) in
     (rest.rest, subst (λ (k : ℕ). IsTreeOver k rest.rest) others rest.is_tree, rest.is_with)
 
-pub at_tree : (n : ℕ) (test : JoinTree → Bool) (tree : JoinTree) → 0 < n → each_tree n test ≡ true → IsTreeOver (all_of n) tree → test tree ≡ true
+pub at_tree : (n : ℕ) (test : PlanTree → Bool) (tree : PlanTree) → 0 < n → each_tree n test ≡ true → IsTreeOver (all_of n) tree → test tree ≡ true
 at_tree zero test tree some h is_tree = absurd (omega arith)
-at_tree (suc zero) test tree some h is_tree = subst (λ (t : JoinTree). test t ≡ true) (sym (only_last 0 tree is_tree)) h
+at_tree (suc zero) test tree some h is_tree = subst (λ (t : PlanTree). test t ≡ true) (sym (only_last 0 tree is_tree)) h
 at_tree (suc (suc n)) test tree some h is_tree =
-    let rest : (rest : JoinTree) × IsTreeOver (all_of (suc n)) rest × IsWith (suc n) rest tree = without_last n tree is_tree in
+    let rest : (rest : PlanTree) × IsTreeOver (all_of (suc n)) rest × IsWith (suc n) rest tree = without_last n tree is_tree in
     tested_with (suc n) test rest.0 tree rest.2 (at_tree (suc n) (λ t. each_with (suc n) test t) rest.0 (omega arith) h rest.1)

@@ -6,20 +6,20 @@ use Rattle.std.proofs.lemmas.Nat.Bits.{bit_at_ones}
 use Rattle.entry_sets.proofs.Bits.{twice}
 use Rattle.bushy_plan.specs.declared.weight.Weight.TheVariants as weight
 use Rattle.bushy_plan.specs.BestTree.{all_of, cost, inner_greatest, inner_sum, total}
-use Rattle.bushy_plan.specs.JoinTrees.{IsFirstEntry, IsTreeOver, JoinTree, leaf, node, entries_of, inner_count}
+use Rattle.bushy_plan.specs.PlanTrees.{IsFirstEntry, IsTreeOver, PlanTree, leaf, node, leaf_set, inner_count}
 use Rattle.bushy_plan.specs.Splits.{weight_of}
 use Rattle.bushy_plan.proofs.Lightest.{joined-beyond, joined-within}
 use Rattle.bushy_plan.proofs.Splitting.{no_leaf}
 
-pub weighs_greatest : (bounds : List ℕ) (tree : JoinTree) → weight_of weight.Greatest bounds tree ≡ inner_greatest bounds tree
+pub weighs_greatest : (bounds : List ℕ) (tree : PlanTree) → weight_of weight.Greatest bounds tree ≡ inner_greatest bounds tree
 weighs_greatest bounds (leaf entry) = refl
 weighs_greatest bounds (node left right) = rw (weighs_greatest bounds left, weighs_greatest bounds right) refl
 
-pub weighs_sum : (most : ℕ) (bounds : List ℕ) (tree : JoinTree) → inner_greatest bounds tree ≤ most
+pub weighs_sum : (most : ℕ) (bounds : List ℕ) (tree : PlanTree) → inner_greatest bounds tree ≤ most
     → weight_of (weight.SumWithin most) bounds tree ≡ min (inner_sum bounds tree) (2 ^ 128 - 1)
 weighs_sum most bounds (leaf entry) low = refl
 weighs_sum most bounds (node left right) low =
-    let bound : ℕ = get_or bounds (entries_of left + entries_of right) 0 in
+    let bound : ℕ = get_or bounds (leaf_set left + leaf_set right) 0 in
     omega (
       arith,
       joined-within most bound (weight_of (weight.SumWithin most) bounds left) (weight_of (weight.SumWithin most) bounds right) (omega arith),
@@ -27,10 +27,10 @@ weighs_sum most bounds (node left right) low =
       weighs_sum most bounds right (omega arith),
     )
 
-pub weighs_most : (most : ℕ) (bounds : List ℕ) (tree : JoinTree) → most < inner_greatest bounds tree → weight_of (weight.SumWithin most) bounds tree ≡ 2 ^ 128 - 1
+pub weighs_most : (most : ℕ) (bounds : List ℕ) (tree : PlanTree) → most < inner_greatest bounds tree → weight_of (weight.SumWithin most) bounds tree ≡ 2 ^ 128 - 1
 weighs_most most bounds (leaf entry) high = absurd (omega arith)
 weighs_most most bounds (node left right) high =
-    let bound : ℕ = get_or bounds (entries_of left + entries_of right) 0 in
+    let bound : ℕ = get_or bounds (leaf_set left + leaf_set right) 0 in
     elim (cases_lt most bound) [
       | inl beyond ↦ joined-beyond most bound (weight_of (weight.SumWithin most) bounds left) (weight_of (weight.SumWithin most) bounds right) beyond
       | inr within ↦ elim (cases_lt most (inner_greatest bounds left)) [
@@ -48,11 +48,11 @@ weighs_most most bounds (node left right) high =
     ]
 
 -- the greatest budget at most at each inner node
-pub sum_small : (bounds : List ℕ) (tree : JoinTree) → inner_greatest bounds tree ≤ 2 ^ 59 → inner_sum bounds tree ≤ inner_count tree * 2 ^ 59
+pub sum_small : (bounds : List ℕ) (tree : PlanTree) → inner_greatest bounds tree ≤ 2 ^ 59 → inner_sum bounds tree ≤ inner_count tree * 2 ^ 59
 sum_small bounds (leaf entry) low = omega arith
 sum_small bounds (node left right) low = omega (arith, sum_small bounds left (omega arith), sum_small bounds right (omega arith))
 
-pub greatest_at_most_cost : (bounds : List ℕ) (tree : JoinTree) → inner_greatest bounds tree ≤ cost bounds tree
+pub greatest_at_most_cost : (bounds : List ℕ) (tree : PlanTree) → inner_greatest bounds tree ≤ cost bounds tree
 greatest_at_most_cost bounds (leaf entry) = omega arith
 greatest_at_most_cost bounds (node left right) = omega arith
 
@@ -69,10 +69,10 @@ more_than_first (suc (suc n)) h = omega (arith, twice (suc n), twice n, pow_pos 
 pub no_leaf_of_all : (n entry : ℕ) → 1 < n → IsTreeOver (all_of n) (leaf entry) → ⊥
 no_leaf_of_all n entry more is_tree = no_leaf (all_of n) 0 entry (first_of_all n (omega arith)) (more_than_first n more) is_tree
 
-pub cost_inside : (bounds : List ℕ) (n : ℕ) (tree : JoinTree) → 1 < n → IsTreeOver (all_of n) tree → cost bounds tree ≡ inner_greatest bounds tree
+pub cost_inside : (bounds : List ℕ) (n : ℕ) (tree : PlanTree) → 1 < n → IsTreeOver (all_of n) tree → cost bounds tree ≡ inner_greatest bounds tree
 cost_inside bounds n (leaf entry) more is_tree = absurd (no_leaf_of_all n entry more is_tree)
 cost_inside bounds n (node left right) more is_tree = refl
 
-pub total_inside : (bounds : List ℕ) (n : ℕ) (tree : JoinTree) → 1 < n → IsTreeOver (all_of n) tree → total bounds tree ≡ inner_sum bounds tree
+pub total_inside : (bounds : List ℕ) (n : ℕ) (tree : PlanTree) → 1 < n → IsTreeOver (all_of n) tree → total bounds tree ≡ inner_sum bounds tree
 total_inside bounds n (leaf entry) more is_tree = absurd (no_leaf_of_all n entry more is_tree)
 total_inside bounds n (node left right) more is_tree = refl

@@ -7,8 +7,8 @@ use Rattle.entry_sets.proofs.Bits.{twice}
 use Rattle.tree_plans.specs.declared.bushy.Join.{Join}
 use Rattle.bushy_plan.specs.declared.weight.Weight.{Weight}
 use Rattle.bushy_plan.specs.declared.weight.Weight.TheVariants as weight
-use Rattle.bushy_plan.specs.BestTree.{AreOfBest, IsBefore, IsBest, IsLeastCost, all_of, cost, inner_greatest, inner_sum, total}
-use Rattle.bushy_plan.specs.JoinTrees.{IsFirstEntry, IsSplit, IsTreeOver, JoinTree, leaf, node, entries_of, inner_count, joins_from, root_number}
+use Rattle.bushy_plan.specs.BestTree.{AreOfBest, IsTreeBefore, IsBest, IsLeastCost, all_of, cost, inner_greatest, inner_sum, total}
+use Rattle.bushy_plan.specs.PlanTrees.{IsFirstEntry, IsSplit, IsTreeOver, PlanTree, leaf, node, leaf_set, inner_count, joins_from, root_number}
 use Rattle.bushy_plan.specs.Splits.{IsBehindFirst, IsFirstLightest, IsLeastWeight, IsReadOff, IsTable, weight_of}
 use Rattle.bushy_plan.proofs.Costs.{cost_inside, greatest_at_most_cost, sum_small, total_inside, weighs_greatest, weighs_most, weighs_sum}
 use Rattle.bushy_plan.proofs.Lightest.{right_in_table}
@@ -28,7 +28,7 @@ read_node w bounds next set right_set old middle all new left_root right_root nu
     omega (arith, left_count, ap length left.joins, length-append {A = Join} old (joins_from bounds (next + length old) left.tree)) in
     let all_count : next + length all ≡ next + length old + inner_count left.tree + inner_count right.tree =
     omega (arith, middle_count, ap length right.joins, length-append {A = Join} middle (joins_from bounds (next + length middle) right.tree), length-joins_from bounds (next + length middle) right.tree) in
-    let whole : set ≡ entries_of left.tree + entries_of right.tree = sym (tree_set set (node left.tree right.tree) is_first.is_tree) in
+    let whole : set ≡ leaf_set left.tree + leaf_set right.tree = sym (tree_set set (node left.tree right.tree) is_first.is_tree) in
     let right_joins : all ≡ middle ++ joins_from bounds (next + length old + inner_count left.tree) right.tree =
     right.joins ∙ ap (λ k. middle ++ joins_from bounds k right.tree) middle_count in
     let right_number : right_root ≡ root_number (next + length old + inner_count left.tree) right.tree = right.number ∙ ap (λ k. root_number k right.tree) middle_count in
@@ -46,13 +46,13 @@ read_node w bounds next set right_set old middle all new left_root right_root nu
 -- ---- room for the numbers
 
 pub room_left : (w : Weight) (bounds table : List ℕ) (set end right_set count : ℕ) → set < end → IsTable w bounds table end → IsSplit set (set - right_set) right_set
-    → ((tree : JoinTree) → IsTreeOver set tree → count + inner_count tree < 12) → (tree : JoinTree) → IsTreeOver (set - right_set) tree → count + inner_count tree < 12
+    → ((tree : PlanTree) → IsTreeOver set tree → count + inner_count tree < 12) → (tree : PlanTree) → IsTreeOver (set - right_set) tree → count + inner_count tree < 12
 room_left w bounds table set end right_set count h is_table split room tree is_tree =
     let other : IsLeastWeight w bounds right_set (get_or table right_set 0) = right_in_table w bounds table set end right_set (omega arith) is_table split in
     omega (arith, room (node tree other.tree) (node_over set right_set tree other.tree split is_tree other.is_tree))
 
-pub room_right : (set right_set count : ℕ) (left : JoinTree) → IsTreeOver (set - right_set) left → IsSplit set (set - right_set) right_set
-    → ((tree : JoinTree) → IsTreeOver set tree → count + inner_count tree < 12) → (tree : JoinTree) → IsTreeOver right_set tree → count + inner_count left + inner_count tree + 1 < 12
+pub room_right : (set right_set count : ℕ) (left : PlanTree) → IsTreeOver (set - right_set) left → IsSplit set (set - right_set) right_set
+    → ((tree : PlanTree) → IsTreeOver set tree → count + inner_count tree < 12) → (tree : PlanTree) → IsTreeOver right_set tree → count + inner_count left + inner_count tree + 1 < 12
 room_right set right_set count left left_tree split room tree is_tree =
     omega (arith, room (node left tree) (node_over set right_set left tree split left_tree is_tree))
 
@@ -62,13 +62,13 @@ count_after w bounds next set old new root read =
     omega (arith, ap length read.joins, length-append {A = Join} old (joins_from bounds (next + length old) read.tree), length-joins_from bounds (next + length old) read.tree)
 
 pub room_behind : (w : Weight) (bounds : List ℕ) (next set right_set : ℕ) (old middle : List Join) (left_root : ℕ) → IsReadOff w bounds next (set - right_set) old middle left_root
-    → IsSplit set (set - right_set) right_set → ((tree : JoinTree) → IsTreeOver set tree → length old + inner_count tree < 12)
-    → (tree : JoinTree) → IsTreeOver right_set tree → length middle + inner_count tree < 12
+    → IsSplit set (set - right_set) right_set → ((tree : PlanTree) → IsTreeOver set tree → length old + inner_count tree < 12)
+    → (tree : PlanTree) → IsTreeOver right_set tree → length middle + inner_count tree < 12
 room_behind w bounds next set right_set old middle left_root left split room tree is_tree =
     omega (arith, count_after w bounds next (set - right_set) old middle left_root left, room_right set right_set (length old) left.tree left.is_first.is_tree split room tree is_tree)
 
 pub few_numbers : (w : Weight) (bounds : List ℕ) (next set right_set : ℕ) (old middle all : List Join) (left_root right_root : ℕ) → IsReadOff w bounds next (set - right_set) old middle left_root
-    → IsReadOff w bounds next right_set middle all right_root → IsSplit set (set - right_set) right_set → ((tree : JoinTree) → IsTreeOver set tree → length old + inner_count tree < 12) → length all < 12
+    → IsReadOff w bounds next right_set middle all right_root → IsSplit set (set - right_set) right_set → ((tree : PlanTree) → IsTreeOver set tree → length old + inner_count tree < 12) → length all < 12
 few_numbers w bounds next set right_set old middle all left_root right_root left right split room =
     omega (
       arith,
@@ -110,7 +110,7 @@ least_cost_from bounds table n least more size is_table is =
     }
 
 -- a tree within the least cost weighs its sum, which isn't the heaviest
-weighs_small : (bounds : List ℕ) (n least : ℕ) (tree : JoinTree) → n ≤ 12 → least ≤ 2 ^ 59 → IsTreeOver (all_of n) tree → inner_greatest bounds tree ≤ least
+weighs_small : (bounds : List ℕ) (n least : ℕ) (tree : PlanTree) → n ≤ 12 → least ≤ 2 ^ 59 → IsTreeOver (all_of n) tree → inner_greatest bounds tree ≤ least
     → (weight_of (weight.SumWithin least) bounds tree ≡ inner_sum bounds tree) × (inner_sum bounds tree < 2 ^ 63)
 weighs_small bounds n least tree few small is_tree low =
     let sum_is_small : inner_sum bounds tree < 2 ^ 63 = omega (arith, sum_small bounds tree (omega arith), count_of_all n tree is_tree) in
@@ -132,7 +132,7 @@ sum_is_light bounds table n least some few small found size is_table =
     omega (arith, lightest.none_lighter found.tree (subst (λ (k : ℕ). IsTreeOver k found.tree) (sym last) found.is_tree), weighs.0, weighs.1)
 
 -- a first lightest tree over all entries is the best
-best_of_one : (bounds : List ℕ) (tree : JoinTree) → IsTreeOver 1 tree → IsBest bounds 1 tree
+best_of_one : (bounds : List ℕ) (tree : PlanTree) → IsTreeOver 1 tree → IsBest bounds 1 tree
 best_of_one bounds tree is_tree = record {
   is_tree = is_tree;
   none_cheaper = λ other other_tree. omega (arith, cost_is tree is_tree, cost_is other other_tree);
@@ -140,19 +140,19 @@ best_of_one bounds tree is_tree = record {
   none_earlier = λ other other_tree same equal before. not_before other other_tree before;
 }
   where
-    cost_is : (t : JoinTree) → IsTreeOver 1 t → cost bounds t ≡ get_or bounds 1 0
+    cost_is : (t : PlanTree) → IsTreeOver 1 t → cost bounds t ≡ get_or bounds 1 0
     cost_is (leaf entry) over = ap (λ k. get_or bounds k 0) (sym over)
-    cost_is (node left right) over = absurd (no_split_of_one 0 (entries_of left) (entries_of right) over.0)
+    cost_is (node left right) over = absurd (no_split_of_one 0 (leaf_set left) (leaf_set right) over.0)
 
-    total_is : (t : JoinTree) → IsTreeOver 1 t → total bounds t ≡ get_or bounds 1 0
+    total_is : (t : PlanTree) → IsTreeOver 1 t → total bounds t ≡ get_or bounds 1 0
     total_is (leaf entry) over = ap (λ k. get_or bounds k 0) (sym over)
-    total_is (node left right) over = absurd (no_split_of_one 0 (entries_of left) (entries_of right) over.0)
+    total_is (node left right) over = absurd (no_split_of_one 0 (leaf_set left) (leaf_set right) over.0)
 
-    not_before : (other : JoinTree) → IsTreeOver 1 other → ¬ IsBefore other tree
+    not_before : (other : PlanTree) → IsTreeOver 1 other → ¬ IsTreeBefore other tree
     not_before (leaf entry) over before = before
-    not_before (node left right) over before = absurd (no_split_of_one 0 (entries_of left) (entries_of right) over.0)
+    not_before (node left right) over before = absurd (no_split_of_one 0 (leaf_set left) (leaf_set right) over.0)
 
-best_of_more : (bounds : List ℕ) (n least : ℕ) (tree : JoinTree) → 1 < n → n ≤ 12 → least ≤ 2 ^ 59 → IsLeastCost bounds n least
+best_of_more : (bounds : List ℕ) (n least : ℕ) (tree : PlanTree) → 1 < n → n ≤ 12 → least ≤ 2 ^ 59 → IsLeastCost bounds n least
     → IsFirstLightest (weight.SumWithin least) bounds (all_of n) tree → IsBest bounds n tree × (cost bounds tree ≡ least)
 best_of_more bounds n least tree more few small found first = (best, costs)
   where
@@ -170,7 +170,7 @@ best_of_more bounds n least tree more few small found first = (best, costs)
     own : weight_of (weight.SumWithin least) bounds tree ≡ total bounds tree
     own = omega (arith, (weighs_small bounds n least tree few small first.is_tree within).0, total_inside bounds n tree more first.is_tree)
 
-    theirs : (other : JoinTree) → IsTreeOver (all_of n) other → cost bounds other ≡ cost bounds tree → weight_of (weight.SumWithin least) bounds other ≡ total bounds other
+    theirs : (other : PlanTree) → IsTreeOver (all_of n) other → cost bounds other ≡ cost bounds tree → weight_of (weight.SumWithin least) bounds other ≡ total bounds other
     theirs other is_tree same =
         omega (arith, (weighs_small bounds n least other few small is_tree (omega (arith, costs, same, cost_inside bounds n other more is_tree))).0, total_inside bounds n other more is_tree)
 
@@ -182,7 +182,7 @@ best_of_more bounds n least tree more few small found first = (best, costs)
       none_earlier = λ other is_tree same equal. first.none_earlier other is_tree (theirs other is_tree same ∙ equal ∙ sym own);
     }
 
-best_of_first : (bounds : List ℕ) (n least : ℕ) (tree : JoinTree) → 0 < n → n ≤ 12 → least ≤ 2 ^ 59 → IsLeastCost bounds n least
+best_of_first : (bounds : List ℕ) (n least : ℕ) (tree : PlanTree) → 0 < n → n ≤ 12 → least ≤ 2 ^ 59 → IsLeastCost bounds n least
     → IsFirstLightest (weight.SumWithin least) bounds (all_of n) tree → IsBest bounds n tree × (cost bounds tree ≡ least)
 best_of_first bounds zero least tree some few small found first = absurd (omega arith)
 best_of_first bounds (suc zero) least tree some few small found first =
@@ -213,6 +213,6 @@ least_cost_alone bounds = record {
   none_cheaper = λ other is_tree. at other is_tree;
 }
   where
-    at : (other : JoinTree) → IsTreeOver 1 other → get_or bounds 1 0 ≤ cost bounds other
+    at : (other : PlanTree) → IsTreeOver 1 other → get_or bounds 1 0 ≤ cost bounds other
     at (leaf entry) is_tree = omega (arith, ap (λ k. get_or bounds k 0) is_tree)
-    at (node left right) is_tree = absurd (no_split_of_one 0 (entries_of left) (entries_of right) is_tree.0)
+    at (node left right) is_tree = absurd (no_split_of_one 0 (leaf_set left) (leaf_set right) is_tree.0)

@@ -12,17 +12,17 @@ use Rattle.order_search.proofs.Prefixes.{cost_is, levels_after}
 use Rattle.order_search.proofs.WholeWays.{way_from_order}
 use Rattle.plans.specs.LeftDeep.{IsOrder}
 use Rattle.bushy_plan.specs.BestTree.{all_of, cost, inner_greatest}
-use Rattle.bushy_plan.specs.JoinTrees.{IsFirstEntry, IsSplit, IsTreeOver, JoinTree, leaf, node, entries_of}
+use Rattle.bushy_plan.specs.PlanTrees.{IsFirstEntry, IsSplit, IsTreeOver, PlanTree, leaf, node, leaf_set}
 use Rattle.bushy_plan.proofs.Splitting.{first_of_power, one_first, some_entries, tree_set}
 
 -- the bits of a set and another entry
 pub bit_with : (set x entry : ℕ) → bit_at set x ≡ 0 → bit_at (set + 2 ^ x) entry ≡ bit_at set entry + bit_at (2 ^ x) entry
 bit_with set x entry out =
     let none : bit_and set (2 ^ x) ≡ 0 = omega (arith, and_pow set x, ap (λ k. k * 2 ^ x) out) in
-    let joined : bit_at (bit_or set (2 ^ x)) entry ≡ bit_at (set + 2 ^ x) entry = ap (λ k. bit_at k entry) (or_disjoint set (2 ^ x) none) in
+    let combined : bit_at (bit_or set (2 ^ x)) entry ≡ bit_at (set + 2 ^ x) entry = ap (λ k. bit_at k entry) (or_disjoint set (2 ^ x) none) in
     elim (cases_eq entry x) [
-      | inl same ↦ omega (arith, joined, bit_at_or set (2 ^ x) entry, ap (bit_at set) same, out)
-      | inr apart ↦ omega (arith, joined, bit_at_or set (2 ^ x) entry, bit_at-pow_other x entry apart)
+      | inl same ↦ omega (arith, combined, bit_at_or set (2 ^ x) entry, ap (bit_at set) same, out)
+      | inr apart ↦ omega (arith, combined, bit_at_or set (2 ^ x) entry, bit_at-pow_other x entry apart)
     ]
 
 -- the first entry of two sets together is the first of the one whose first comes first
@@ -32,16 +32,16 @@ first_of_both set left right a b apart first_a first_b h = record {
   none_before = λ entry below. omega (arith, apart entry, first_a.none_before entry below, first_b.none_before entry (omega arith));
 }
 
-pub tree_first : (set : ℕ) (tree : JoinTree) → IsTreeOver set tree → (first : ℕ) × IsFirstEntry set first
+pub tree_first : (set : ℕ) (tree : PlanTree) → IsTreeOver set tree → (first : ℕ) × IsFirstEntry set first
 tree_first set (leaf entry) is_tree = (entry, subst (λ (k : ℕ). IsFirstEntry k entry) (sym is_tree) (first_of_power entry))
 tree_first set (node left right) is_tree =
-    let a : (first : ℕ) × IsFirstEntry (entries_of left) first = tree_first (entries_of left) left is_tree.1 in
-    let b : (first : ℕ) × IsFirstEntry (entries_of right) first = tree_first (entries_of right) right is_tree.2 in
+    let a : (first : ℕ) × IsFirstEntry (leaf_set left) first = tree_first (leaf_set left) left is_tree.1 in
+    let b : (first : ℕ) × IsFirstEntry (leaf_set right) first = tree_first (leaf_set right) right is_tree.2 in
     elim (cases_order a.0 b.0) [
-      | inl same ↦ absurd (omega (arith, is_tree.0.apart a.0, a.1.is_in, b.1.is_in, ap (bit_at (entries_of right)) same, bit_at-lt set a.0))
+      | inl same ↦ absurd (omega (arith, is_tree.0.apart a.0, a.1.is_in, b.1.is_in, ap (bit_at (leaf_set right)) same, bit_at-lt set a.0))
       | inr apart ↦ elim apart [
-        | inl below ↦ (a.0, first_of_both set (entries_of left) (entries_of right) a.0 b.0 is_tree.0.apart a.1 b.1 below)
-        | inr above ↦ (b.0, first_of_both set (entries_of right) (entries_of left) b.0 a.0 (λ entry. omega (arith, is_tree.0.apart entry)) b.1 a.1 above)
+        | inl below ↦ (a.0, first_of_both set (leaf_set left) (leaf_set right) a.0 b.0 is_tree.0.apart a.1 b.1 below)
+        | inr above ↦ (b.0, first_of_both set (leaf_set right) (leaf_set left) b.0 a.0 (λ entry. omega (arith, is_tree.0.apart entry)) b.1 a.1 above)
       ]
     ]
 
@@ -55,13 +55,13 @@ split_with_first set left right a b apart some_left some_right first_a first_b h
 }
 
 -- a tree and one more entry, as a tree in which the first entry is on the left
-record Grown (bounds : List ℕ) (set : ℕ) (tree : JoinTree) : Type 0 where
-  grown : JoinTree
+record Grown (bounds : List ℕ) (set : ℕ) (tree : PlanTree) : Type 0 where
+  grown : PlanTree
   is_tree : IsTreeOver set grown
   greatest_of : inner_greatest bounds grown ≡ max (get_or bounds set 0) (inner_greatest bounds tree)
   cost_of : cost bounds grown ≡ inner_greatest bounds grown
 
-grow : (bounds : List ℕ) (placed x : ℕ) (tree : JoinTree) → IsTreeOver placed tree → bit_at placed x ≡ 0 → Grown bounds (placed + 2 ^ x) tree
+grow : (bounds : List ℕ) (placed x : ℕ) (tree : PlanTree) → IsTreeOver placed tree → bit_at placed x ≡ 0 → Grown bounds (placed + 2 ^ x) tree
 grow bounds placed x tree is_tree out = elim (cases_order first.0 x) [
   | inl same ↦ absurd (omega (arith, first.1.is_in, ap (bit_at placed) same, out))
   | inr apart ↦ elim apart [
@@ -93,24 +93,24 @@ grow bounds placed x tree is_tree out = elim (cases_order first.0 x) [
     first : (first : ℕ) × IsFirstEntry placed first
     first = tree_first placed tree is_tree
 
-    set_is : entries_of tree ≡ placed
+    set_is : leaf_set tree ≡ placed
     set_is = tree_set placed tree is_tree
 
     some : 0 < placed
     some = omega (arith, some_entries tree, set_is)
 
-    itself : IsTreeOver (entries_of tree) tree
+    itself : IsTreeOver (leaf_set tree) tree
     itself = subst (λ (k : ℕ). IsTreeOver k tree) (sym set_is) is_tree
 
-    turned : 2 ^ x + entries_of tree ≡ placed + 2 ^ x
+    turned : 2 ^ x + leaf_set tree ≡ placed + 2 ^ x
     turned = omega (arith, set_is)
 
 record Cheap (bounds : List ℕ) (set most : ℕ) : Type 0 where
-  tree : JoinTree
+  tree : PlanTree
   is_tree : IsTreeOver set tree
   cheap : cost bounds tree ≤ most
 
-along : (bounds : List ℕ) (all placed left most : ℕ) (entries : List ℕ) (tree : JoinTree) → IsTreeOver placed tree → cost bounds tree ≤ most → inner_greatest bounds tree ≤ most
+along : (bounds : List ℕ) (all placed left most : ℕ) (entries : List ℕ) (tree : PlanTree) → IsTreeOver placed tree → cost bounds tree ≤ most → inner_greatest bounds tree ≤ most
     → placed + left ≡ all → ((entry : ℕ) → bit_at placed entry + bit_at left entry ≤ 1) → IsWay left entries → greatest (levels_after bounds placed entries) ≤ most → Cheap bounds all most
 along bounds all placed left most [] tree is_tree cheap low whole apart way levels = record {
   tree = tree;
@@ -148,7 +148,7 @@ of_way bounds all most (x ∷ entries) some way levels =
     ]
 
 -- no order costs less than the best tree
-pub no_dearer : (bounds : List ℕ) (n least : ℕ) → 0 < all_of n → ((other : JoinTree) → IsTreeOver (all_of n) other → least ≤ cost bounds other)
+pub no_dearer : (bounds : List ℕ) (n least : ℕ) → 0 < all_of n → ((other : PlanTree) → IsTreeOver (all_of n) other → least ≤ cost bounds other)
     → (order : List ℕ) → IsOrder n order → least ≤ left_deep_cost bounds order
 no_dearer bounds n least some none_cheaper order is_order =
     let cheap : Cheap bounds (all_of n) (left_deep_cost bounds order) =

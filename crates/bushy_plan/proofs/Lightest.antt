@@ -4,18 +4,18 @@ use Rattle.std.specs.Prelude.{◌⊎◌, bit_and}
 use Rattle.std.proofs.lemmas.Bool.{cases_lt, cases_order, le-leb, lt-leb}
 use Rattle.bushy_plan.specs.declared.weight.Weight.{Weight}
 use Rattle.bushy_plan.specs.declared.weight.Weight.TheVariants as weight
-use Rattle.bushy_plan.specs.JoinTrees.{IsFirstEntry, IsSplit, IsTreeOver, JoinTree, leaf, node, entries_of}
-use Rattle.bushy_plan.specs.Splits.{IsLeastWeight, IsTable, joined, weight_of, weight_through}
+use Rattle.bushy_plan.specs.PlanTrees.{IsFirstEntry, IsSplit, IsTreeOver, PlanTree, leaf, node, leaf_set}
+use Rattle.bushy_plan.specs.Splits.{IsLeastWeight, IsTable, combined, weight_of, weight_through}
 use Rattle.bushy_plan.proofs.Parts.{IsPart, itself, common_part, none_between, part_le}
 use Rattle.bushy_plan.proofs.Splitting.{no_leaf, only_leaf, part_of_split, some_entries, split_of_part, split_right_le, tree_set}
 
-pub joined-within : (most bound left right : ℕ) → bound ≤ most → joined (weight.SumWithin most) bound left right ≡ min (bound + left + right) (2 ^ 128 - 1)
+pub joined-within : (most bound left right : ℕ) → bound ≤ most → combined (weight.SumWithin most) bound left right ≡ min (bound + left + right) (2 ^ 128 - 1)
 joined-within most bound left right h = rw (le-leb bound most h) refl
 
-pub joined-beyond : (most bound left right : ℕ) → most < bound → joined (weight.SumWithin most) bound left right ≡ 2 ^ 128 - 1
+pub joined-beyond : (most bound left right : ℕ) → most < bound → combined (weight.SumWithin most) bound left right ≡ 2 ^ 128 - 1
 joined-beyond most bound left right h = rw (lt-leb bound most h) refl
 
-pub joined-mono : (w : Weight) (bound a b c d : ℕ) → a ≤ c → b ≤ d → joined w bound a b ≤ joined w bound c d
+pub joined-mono : (w : Weight) (bound a b c d : ℕ) → a ≤ c → b ≤ d → combined w bound a b ≤ combined w bound c d
 joined-mono weight.Greatest bound a b c d h k = omega arith
 joined-mono (weight.SumWithin most) bound a b c d h k = elim (cases_lt most bound) [
   | inl beyond ↦ omega (arith, joined-beyond most bound a b beyond, joined-beyond most bound c d beyond)
@@ -66,43 +66,43 @@ least_of_one w bounds set first is_first none = record {
 
 -- a lightest tree with this right set, by the table
 pub record Through (w : Weight) (bounds table : List ℕ) (set right : ℕ) : Type 0 where
-  pub tree : JoinTree
+  pub tree : PlanTree
   pub is_tree : IsTreeOver set tree
   pub weighs : weight_of w bounds tree ≡ weight_through w bounds table set right
 
 pub tree_through : (w : Weight) (bounds table : List ℕ) (set right : ℕ) → IsSplit set (set - right) right
     → IsLeastWeight w bounds (set - right) (get_or table (set - right) 0) → IsLeastWeight w bounds right (get_or table right 0) → Through w bounds table set right
 tree_through w bounds table set right split left_side right_side =
-    let left_set : entries_of left_side.tree ≡ set - right = tree_set (set - right) left_side.tree left_side.is_tree in
-    let right_set : entries_of right_side.tree ≡ right = tree_set right right_side.tree right_side.is_tree in
-    let whole : entries_of left_side.tree + entries_of right_side.tree ≡ set = omega (arith, left_set, right_set, split_right_le set (set - right) right split) in
+    let left_set : leaf_set left_side.tree ≡ set - right = tree_set (set - right) left_side.tree left_side.is_tree in
+    let right_set : leaf_set right_side.tree ≡ right = tree_set right right_side.tree right_side.is_tree in
+    let whole : leaf_set left_side.tree + leaf_set right_side.tree ≡ set = omega (arith, left_set, right_set, split_right_le set (set - right) right split) in
     record {
       tree = node left_side.tree right_side.tree;
       is_tree = (
-        subst (λ (k : ℕ). IsSplit set k (entries_of right_side.tree)) (sym left_set) (subst (λ (k : ℕ). IsSplit set (set - right) k) (sym right_set) split),
+        subst (λ (k : ℕ). IsSplit set k (leaf_set right_side.tree)) (sym left_set) (subst (λ (k : ℕ). IsSplit set (set - right) k) (sym right_set) split),
         subst (λ (k : ℕ). IsTreeOver k left_side.tree) (sym left_set) left_side.is_tree,
         subst (λ (k : ℕ). IsTreeOver k right_side.tree) (sym right_set) right_side.is_tree,
       );
-      weighs = ap (λ k. joined w (get_or bounds k 0) (weight_of w bounds left_side.tree) (weight_of w bounds right_side.tree)) whole
-          ∙ ap (λ k. joined w (get_or bounds set 0) k (weight_of w bounds right_side.tree)) left_side.weighs
-          ∙ ap (λ k. joined w (get_or bounds set 0) (get_or table (set - right) 0) k) right_side.weighs;
+      weighs = ap (λ k. combined w (get_or bounds k 0) (weight_of w bounds left_side.tree) (weight_of w bounds right_side.tree)) whole
+          ∙ ap (λ k. combined w (get_or bounds set 0) k (weight_of w bounds right_side.tree)) left_side.weighs
+          ∙ ap (λ k. combined w (get_or bounds set 0) (get_or table (set - right) 0) k) right_side.weighs;
     }
 
 -- no tree with these sides is lighter than through the table
-pub through_is_least : (w : Weight) (bounds table : List ℕ) (set end : ℕ) (left right : JoinTree) → set ≤ end → IsTable w bounds table end → IsTreeOver set (node left right)
-    → weight_through w bounds table set (entries_of right) ≤ weight_of w bounds (node left right)
+pub through_is_least : (w : Weight) (bounds table : List ℕ) (set end : ℕ) (left right : PlanTree) → set ≤ end → IsTable w bounds table end → IsTreeOver set (node left right)
+    → weight_through w bounds table set (leaf_set right) ≤ weight_of w bounds (node left right)
 through_is_least w bounds table set end left right h is_table is_tree =
-    let whole : entries_of left + entries_of right ≡ set = tree_set set (node left right) is_tree in
-    let left_set : set - entries_of right ≡ entries_of left = omega arith in
-    let left_least : get_or table (entries_of left) 0 ≤ weight_of w bounds left =
-    (is_table (entries_of left) (some_entries left) (omega (arith, some_entries right))).none_lighter left is_tree.1 in
-    let right_least : get_or table (entries_of right) 0 ≤ weight_of w bounds right =
-    (is_table (entries_of right) (some_entries right) (omega (arith, some_entries left))).none_lighter right is_tree.2 in
+    let whole : leaf_set left + leaf_set right ≡ set = tree_set set (node left right) is_tree in
+    let left_set : set - leaf_set right ≡ leaf_set left = omega arith in
+    let left_least : get_or table (leaf_set left) 0 ≤ weight_of w bounds left =
+    (is_table (leaf_set left) (some_entries left) (omega (arith, some_entries right))).none_lighter left is_tree.1 in
+    let right_least : get_or table (leaf_set right) 0 ≤ weight_of w bounds right =
+    (is_table (leaf_set right) (some_entries right) (omega (arith, some_entries left))).none_lighter right is_tree.2 in
     omega (
       arith,
-      joined-mono w (get_or bounds set 0) (get_or table (set - entries_of right) 0) (get_or table (entries_of right) 0) (weight_of w bounds left) (weight_of w bounds right)
+      joined-mono w (get_or bounds set 0) (get_or table (set - leaf_set right) 0) (get_or table (leaf_set right) 0) (weight_of w bounds left) (weight_of w bounds right)
           (omega (arith, left_least, ap (λ k. get_or table k 0) left_set)) right_least,
-      ap (λ k. joined w (get_or bounds k 0) (weight_of w bounds left) (weight_of w bounds right)) whole,
+      ap (λ k. combined w (get_or bounds k 0) (weight_of w bounds left) (weight_of w bounds right)) whole,
     )
 
 -- both sides of a split stand in the table
@@ -125,12 +125,12 @@ least_of_tried w bounds table set first least is_first more is_table tried = eli
   | inr one ↦ made one.0 one.1 one.2 one.3
 ]
   where
-    none_lighter : (other : JoinTree) → IsTreeOver set other → least ≤ weight_of w bounds other
+    none_lighter : (other : PlanTree) → IsTreeOver set other → least ≤ weight_of w bounds other
     none_lighter (leaf entry) is_tree = absurd (no_leaf set first entry is_first more is_tree)
     none_lighter (node left right) is_tree =
         omega (
           arith,
-          (tried.above (entries_of right) (part_of_split set first (entries_of left) (entries_of right) is_first is_tree.0) (some_entries right)).0,
+          (tried.above (leaf_set right) (part_of_split set first (leaf_set left) (leaf_set right) is_first is_tree.0) (some_entries right)).0,
           through_is_least w bounds table set set left right (omega arith) is_table is_tree,
         )
 

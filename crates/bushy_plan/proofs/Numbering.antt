@@ -13,12 +13,12 @@ use Rattle.order_search.proofs.Bits.{size_below, size-none, size-whole, size-wit
 use Rattle.tree_plans.specs.TreePlans.{AreBehindTheirs, joined_nodes}
 use Rattle.tree_plans.specs.declared.bushy.Join.{Join}
 use Rattle.bushy_plan.specs.BestTree.{all_of, inner_greatest}
-use Rattle.bushy_plan.specs.JoinTrees.{IsSplit, IsTreeOver, JoinTree, leaf, node, entries_of, inner_count, joins_from, root_number}
+use Rattle.bushy_plan.specs.PlanTrees.{IsSplit, IsTreeOver, PlanTree, leaf, node, leaf_set, inner_count, joins_from, root_number}
 use Rattle.bushy_plan.proofs.Splitting.{split_sum}
 
 -- ---- how many
 
-pub length-joins_from : (bounds : List ℕ) (next : ℕ) (tree : JoinTree) → length (joins_from bounds next tree) ≡ inner_count tree
+pub length-joins_from : (bounds : List ℕ) (next : ℕ) (tree : PlanTree) → length (joins_from bounds next tree) ≡ inner_count tree
 length-joins_from bounds next (leaf entry) = refl
 length-joins_from bounds next (node left right) =
     omega (
@@ -26,7 +26,7 @@ length-joins_from bounds next (node left right) =
       length-append {A = Join} (joins_from bounds next left ++ joins_from bounds (next + inner_count left) right) (record {
         left = root_number next left;
         right = root_number (next + inner_count left) right;
-        bound = get_or bounds (entries_of left + entries_of right) 0;
+        bound = get_or bounds (leaf_set left + leaf_set right) 0;
       } ∷ []),
       length-append {A = Join} (joins_from bounds next left) (joins_from bounds (next + inner_count left) right),
       length-joins_from bounds next left,
@@ -42,20 +42,20 @@ size-one n entry below =
     let none : 2 ^ entry - 2 ^ entry ≡ 0 = omega arith in
     omega (arith, size-without n entry (2 ^ entry) below (bit_at-pow_same entry), ap (size_below n) none, size-none n)
 
-pub count_by_size : (n set : ℕ) (tree : JoinTree) → set < 2 ^ n → IsTreeOver set tree → inner_count tree + 1 ≡ size_below n set
+pub count_by_size : (n set : ℕ) (tree : PlanTree) → set < 2 ^ n → IsTreeOver set tree → inner_count tree + 1 ≡ size_below n set
 count_by_size n set (leaf entry) fits is_tree =
     let below : entry < n = entry_below n (2 ^ entry) entry (omega arith) (bit_at-pow_same entry) in
     omega (arith, size-one n entry below, ap (size_below n) is_tree)
 count_by_size n set (node left right) fits is_tree =
-    let whole : entries_of left + entries_of right ≡ set = split_sum set (entries_of left) (entries_of right) is_tree.0 in
+    let whole : leaf_set left + leaf_set right ≡ set = split_sum set (leaf_set left) (leaf_set right) is_tree.0 in
     omega (
       arith,
-      size-split n set (entries_of left) (entries_of right) is_tree.0,
-      count_by_size n (entries_of left) left (omega arith) is_tree.1,
-      count_by_size n (entries_of right) right (omega arith) is_tree.2,
+      size-split n set (leaf_set left) (leaf_set right) is_tree.0,
+      count_by_size n (leaf_set left) left (omega arith) is_tree.1,
+      count_by_size n (leaf_set right) right (omega arith) is_tree.2,
     )
 
-pub count_of_all : (n : ℕ) (tree : JoinTree) → IsTreeOver (all_of n) tree → inner_count tree + 1 ≡ n
+pub count_of_all : (n : ℕ) (tree : PlanTree) → IsTreeOver (all_of n) tree → inner_count tree + 1 ≡ n
 count_of_all n tree is_tree = count_by_size n (all_of n) tree (omega (arith, pow_pos n)) is_tree ∙ size-whole n
 
 -- ---- each behind the two that it joins
@@ -64,24 +64,24 @@ behind-append : (own next : ℕ) (xs ys : List Join) → AreBehindTheirs own xs 
 behind-append own next [] ys p is q = let same : next ≡ own = omega arith in subst (λ (k : ℕ). AreBehindTheirs k ys) same q
 behind-append own next (x ∷ xs) ys p is q = (p.0, p.1, behind-append (own + 1) next xs ys p.2 (omega arith) q)
 
-root_below : (n set next : ℕ) (tree : JoinTree) → set < 2 ^ n → n ≤ next → IsTreeOver set tree → root_number next tree < next + inner_count tree
+root_below : (n set next : ℕ) (tree : PlanTree) → set < 2 ^ n → n ≤ next → IsTreeOver set tree → root_number next tree < next + inner_count tree
 root_below n set next (leaf entry) fits h is_tree =
     let below : entry < n = entry_below n (2 ^ entry) entry (omega arith) (bit_at-pow_same entry) in
     omega arith
 root_below n set next (node left right) fits h is_tree = omega arith
 
-pub behind_theirs : (bounds : List ℕ) (n set next : ℕ) (tree : JoinTree) → set < 2 ^ n → n ≤ next → IsTreeOver set tree → AreBehindTheirs next (joins_from bounds next tree)
+pub behind_theirs : (bounds : List ℕ) (n set next : ℕ) (tree : PlanTree) → set < 2 ^ n → n ≤ next → IsTreeOver set tree → AreBehindTheirs next (joins_from bounds next tree)
 behind_theirs bounds n set next (leaf entry) fits h is_tree = tt
 behind_theirs bounds n set next (node left right) fits h is_tree =
-    let whole : entries_of left + entries_of right ≡ set = split_sum set (entries_of left) (entries_of right) is_tree.0 in
-    let left_root : root_number next left < next + inner_count left = root_below n (entries_of left) next left (omega arith) h is_tree.1 in
+    let whole : leaf_set left + leaf_set right ≡ set = split_sum set (leaf_set left) (leaf_set right) is_tree.0 in
+    let left_root : root_number next left < next + inner_count left = root_below n (leaf_set left) next left (omega arith) h is_tree.1 in
     let right_root : root_number (next + inner_count left) right < next + inner_count left + inner_count right =
-    root_below n (entries_of right) (next + inner_count left) right (omega arith) (omega arith) is_tree.2 in
+    root_below n (leaf_set right) (next + inner_count left) right (omega arith) (omega arith) is_tree.2 in
     behind-append next (next + inner_count left + inner_count right) (joins_from bounds next left ++ joins_from bounds (next + inner_count left) right) _
     (behind-append next (next + inner_count left) (joins_from bounds next left) (joins_from bounds (next + inner_count left) right)
-    (behind_theirs bounds n (entries_of left) next left (omega arith) h is_tree.1)
+    (behind_theirs bounds n (leaf_set left) next left (omega arith) h is_tree.1)
     (omega (arith, length-joins_from bounds next left))
-    (behind_theirs bounds n (entries_of right) (next + inner_count left) right (omega arith) (omega arith) is_tree.2))
+    (behind_theirs bounds n (leaf_set right) (next + inner_count left) right (omega arith) (omega arith) is_tree.2))
     (omega (
       arith,
       length-append {A = Join} (joins_from bounds next left) (joins_from bounds (next + inner_count left) right),
@@ -146,7 +146,7 @@ times-two k a b = omega (arith, sum_by-cons (λ (x : ℕ). cond (eqb x k) 1 0) a
     none : times k [] ≡ 0
     none = refl
 
-times_in_node : (bounds : List ℕ) (next k : ℕ) (left right : JoinTree) → times k (joined_nodes (joins_from bounds next (node left right)))
+times_in_node : (bounds : List ℕ) (next k : ℕ) (left right : PlanTree) → times k (joined_nodes (joins_from bounds next (node left right)))
     ≡ times k (joined_nodes (joins_from bounds next left)) + times k (joined_nodes (joins_from bounds (next + inner_count left) right)) + (one (root_number next left) k + one (root_number (next + inner_count left) right) k)
 times_in_node bounds next k left right =
     ap (times k) (nodes-append (joins_from bounds next left ++ joins_from bounds (next + inner_count left) right) _)
@@ -159,7 +159,7 @@ times_in_node bounds next k left right =
     )
 
 -- the nodes that are named, and the root, are the leaves and the inner nodes
-named_with_root : (bounds : List ℕ) (set next k : ℕ) (tree : JoinTree) → IsTreeOver set tree
+named_with_root : (bounds : List ℕ) (set next k : ℕ) (tree : PlanTree) → IsTreeOver set tree
     → times k (joined_nodes (joins_from bounds next tree)) + one (root_number next tree) k ≡ bit_at set k + inside next (inner_count tree) k
 named_with_root bounds set next k (leaf entry) is_tree = elim (cases_eq k entry) [
   | inl same ↦ omega (arith, one_same entry k (sym same), bit_at-pow_same entry, ap (bit_at (2 ^ entry)) same, ap (λ s. bit_at s k) is_tree, empty, none)
@@ -178,17 +178,17 @@ named_with_root bounds set next k (node left right) is_tree =
     omega (
       arith,
       times_in_node bounds next k left right,
-      named_with_root bounds (entries_of left) next k left is_tree.1,
-      named_with_root bounds (entries_of right) (next + inner_count left) k right is_tree.2,
+      named_with_root bounds (leaf_set left) next k left is_tree.1,
+      named_with_root bounds (leaf_set right) (next + inner_count left) k right is_tree.2,
       is_tree.0.apart k,
       inside_parts next (inner_count left) (inner_count right) k,
     )
 
-root_of_all : (n : ℕ) (tree : JoinTree) → IsTreeOver (all_of n) tree → 0 < inner_count tree → root_number n tree ≡ 2 * n - 2
+root_of_all : (n : ℕ) (tree : PlanTree) → IsTreeOver (all_of n) tree → 0 < inner_count tree → root_number n tree ≡ 2 * n - 2
 root_of_all n (leaf entry) is_tree some = absurd (omega arith)
 root_of_all n (node left right) is_tree some = omega (arith, count_of_all n (node left right) is_tree)
 
-pub named_once : (bounds : List ℕ) (n k : ℕ) (tree : JoinTree) → IsTreeOver (all_of n) tree → k < 2 * n - 2 → times k (joined_nodes (joins_from bounds n tree)) ≡ 1
+pub named_once : (bounds : List ℕ) (n k : ℕ) (tree : PlanTree) → IsTreeOver (all_of n) tree → k < 2 * n - 2 → times k (joined_nodes (joins_from bounds n tree)) ≡ 1
 named_once bounds n k tree is_tree below =
     let count : inner_count tree + 1 ≡ n = count_of_all n tree is_tree in
     let root : root_number n tree ≡ 2 * n - 2 = root_of_all n tree is_tree (omega arith) in
@@ -206,7 +206,7 @@ all-append : (P : Join → Type 0) (xs ys : List Join) → AllByRecursion P xs �
 all-append P [] ys p q = q
 all-append P (x ∷ xs) ys p q = (p.0, all-append P xs ys p.1 q)
 
-pub bounds_small : (bounds : List ℕ) (next most : ℕ) (tree : JoinTree) → inner_greatest bounds tree ≤ most → AllByRecursion (λ join. join.bound ≤ most) (joins_from bounds next tree)
+pub bounds_small : (bounds : List ℕ) (next most : ℕ) (tree : PlanTree) → inner_greatest bounds tree ≤ most → AllByRecursion (λ join. join.bound ≤ most) (joins_from bounds next tree)
 bounds_small bounds next most (leaf entry) low = tt
 bounds_small bounds next most (node left right) low =
     all-append (λ (join : Join). join.bound ≤ most) (joins_from bounds next left ++ joins_from bounds (next + inner_count left) right) _

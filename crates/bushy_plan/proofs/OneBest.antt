@@ -5,28 +5,28 @@ use Rattle.std.proofs.lemmas.Bool.{cases_order}
 use Rattle.order_search.specs.declared.refusal.PlanError.{PlanError}
 use Rattle.order_search.specs.declared.refusal.PlanError.TheVariants as error
 use Rattle.order_search.proofs.OneBest.{none_refused, one_refusal}
-use Rattle.bushy_plan.specs.BestTree.{IsBefore, IsBest, IsLeastCost, cost, total}
+use Rattle.bushy_plan.specs.BestTree.{IsTreeBefore, IsBest, IsLeastCost, cost, total}
 use Rattle.bushy_plan.specs.Causes.{IsCause}
-use Rattle.bushy_plan.specs.JoinTrees.{IsSplit, IsTreeOver, JoinTree, leaf, node, entries_of}
+use Rattle.bushy_plan.specs.PlanTrees.{IsSplit, IsTreeOver, PlanTree, leaf, node, leaf_set}
 use Rattle.bushy_plan.proofs.Splitting.{no_split_of_one, same_power, tree_set}
 
 -- one of two trees over a set comes before the other, or they are the same
-ordered : (set : ℕ) (a b : JoinTree) → IsTreeOver set a → IsTreeOver set b → (a ≡ b) ⊎ (IsBefore a b ⊎ IsBefore b a)
+ordered : (set : ℕ) (a b : PlanTree) → IsTreeOver set a → IsTreeOver set b → (a ≡ b) ⊎ (IsTreeBefore a b ⊎ IsTreeBefore b a)
 ordered set (leaf x) (leaf y) p q = inl (ap leaf (same_power x y (sym p ∙ q)))
-ordered set (leaf x) (node l r) p q = absurd (no_split_of_one x (entries_of l) (entries_of r) (subst (λ (k : ℕ). IsSplit k (entries_of l) (entries_of r)) p q.0))
-ordered set (node l r) (leaf y) p q = absurd (no_split_of_one y (entries_of l) (entries_of r) (subst (λ (k : ℕ). IsSplit k (entries_of l) (entries_of r)) q p.0))
-ordered set (node l r) (node l' r') p q = elim (cases_order (entries_of l) (entries_of l')) [
+ordered set (leaf x) (node l r) p q = absurd (no_split_of_one x (leaf_set l) (leaf_set r) (subst (λ (k : ℕ). IsSplit k (leaf_set l) (leaf_set r)) p q.0))
+ordered set (node l r) (leaf y) p q = absurd (no_split_of_one y (leaf_set l) (leaf_set r) (subst (λ (k : ℕ). IsSplit k (leaf_set l) (leaf_set r)) q p.0))
+ordered set (node l r) (node l' r') p q = elim (cases_order (leaf_set l) (leaf_set l')) [
   | inr apart ↦ elim apart [
     | inl below ↦ inr (inl (inl below))
     | inr above ↦ inr (inr (inl above))
   ]
-  | inl same ↦ (let right_same : entries_of r' ≡ entries_of r = omega (arith, tree_set set (node l r) p, tree_set set (node l' r') q, same) in
-      elim (ordered (entries_of l) l l' p.1 (subst (λ (k : ℕ). IsTreeOver k l') (sym same) q.1)) [
+  | inl same ↦ (let right_same : leaf_set r' ≡ leaf_set r = omega (arith, tree_set set (node l r) p, tree_set set (node l' r') q, same) in
+      elim (ordered (leaf_set l) l l' p.1 (subst (λ (k : ℕ). IsTreeOver k l') (sym same) q.1)) [
         | inr left_apart ↦ elim left_apart [
           | inl before ↦ inr (inl (inr (same, inl before)))
           | inr behind ↦ inr (inr (inr (sym same, inl behind)))
         ]
-        | inl left_same ↦ elim (ordered (entries_of r) r r' p.2 (subst (λ (k : ℕ). IsTreeOver k r') right_same q.2)) [
+        | inl left_same ↦ elim (ordered (leaf_set r) r r' p.2 (subst (λ (k : ℕ). IsTreeOver k r') right_same q.2)) [
           | inr right_apart ↦ elim right_apart [
             | inl before ↦ inr (inl (inr (same, inr (left_same, before))))
             | inr behind ↦ inr (inr (inr (sym same, inr (sym left_same, behind))))
@@ -36,7 +36,7 @@ ordered set (node l r) (node l' r') p q = elim (cases_order (entries_of l) (entr
       ])
 ]
 
-pub one_best : (bounds : List ℕ) (n : ℕ) (a b : JoinTree) → IsBest bounds n a → IsBest bounds n b → a ≡ b
+pub one_best : (bounds : List ℕ) (n : ℕ) (a b : PlanTree) → IsBest bounds n a → IsBest bounds n b → a ≡ b
 one_best bounds n a b p q =
     let costs : cost bounds b ≡ cost bounds a = omega (arith, p.none_cheaper b q.is_tree, q.none_cheaper a p.is_tree) in
     let totals : total bounds b ≡ total bounds a = omega (arith, p.none_smaller b q.is_tree costs, q.none_smaller a p.is_tree (sym costs)) in
@@ -51,7 +51,7 @@ one_best bounds n a b p q =
 one_least : (bounds : List ℕ) (n a b : ℕ) → IsLeastCost bounds n a → IsLeastCost bounds n b → a ≡ b
 one_least bounds n a b p q = omega (arith, p.none_cheaper q.tree q.is_tree, q.none_cheaper p.tree p.is_tree, p.costs, q.costs)
 
-pub accepted : (bounds : List ℕ) (n budget : ℕ) (best : JoinTree) (e : PlanError) → budget ≤ 2 ^ 59 → IsBest bounds n best → cost bounds best ≤ budget → IsCause bounds n budget e → e ≡ error.NoMemory
+pub accepted : (bounds : List ℕ) (n budget : ℕ) (best : PlanTree) (e : PlanError) → budget ≤ 2 ^ 59 → IsBest bounds n best → cost bounds best ≤ budget → IsCause bounds n budget e → e ≡ error.NoMemory
 accepted bounds n budget best e few is_best within cause =
     none_refused (IsLeastCost bounds n) budget (cost bounds best) e few within (λ least is. omega (arith, is.none_cheaper best is_best.is_tree)) cause
 
@@ -59,7 +59,7 @@ pub refused : (bounds : List ℕ) (n budget : ℕ) (e f : PlanError) → IsCause
 refused bounds n budget e f p q = one_refusal (IsLeastCost bounds n) budget e f (one_least bounds n) p q
 
 -- the cost of the best tree is the least
-pub least_of_best : (bounds : List ℕ) (n : ℕ) (best : JoinTree) → IsBest bounds n best → IsLeastCost bounds n (cost bounds best)
+pub least_of_best : (bounds : List ℕ) (n : ℕ) (best : PlanTree) → IsBest bounds n best → IsLeastCost bounds n (cost bounds best)
 least_of_best bounds n best is_best = record {
   tree = best;
   is_tree = is_best.is_tree;

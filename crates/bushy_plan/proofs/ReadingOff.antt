@@ -6,9 +6,9 @@ use Rattle.std.proofs.lemmas.Nat.{pow_pos}
 use Rattle.entry_sets.proofs.Bits.{power_within}
 use Rattle.bushy_plan.specs.declared.weight.Weight.{Weight}
 use Rattle.bushy_plan.specs.declared.weight.Weight.TheVariants as weight
-use Rattle.bushy_plan.specs.BestTree.{IsBefore}
-use Rattle.bushy_plan.specs.JoinTrees.{IsFirstEntry, IsSplit, IsTreeOver, JoinTree, leaf, node, entries_of}
-use Rattle.bushy_plan.specs.Splits.{IsBehindFirst, IsFirstLightest, IsFirstLightestSplit, IsLeastWeight, IsTable, joined, weight_of, weight_through}
+use Rattle.bushy_plan.specs.BestTree.{IsTreeBefore}
+use Rattle.bushy_plan.specs.PlanTrees.{IsFirstEntry, IsSplit, IsTreeOver, PlanTree, leaf, node, leaf_set}
+use Rattle.bushy_plan.specs.Splits.{IsBehindFirst, IsFirstLightest, IsFirstLightestSplit, IsLeastWeight, IsTable, combined, weight_of, weight_through}
 use Rattle.bushy_plan.proofs.Parts.{IsPart, itself, common_part, none_between, part_le}
 use Rattle.bushy_plan.proofs.Splitting.{no_leaf, only_leaf, part_of_split, split_of_part, split_by_right, split_sum, tree_set}
 use Rattle.bushy_plan.proofs.Lightest.{Through, joined-beyond, joined-within, left_in_table, right_in_table, through_is_least, tree_through}
@@ -30,14 +30,14 @@ through_at_least w bounds table set end right h is_table split =
     let some : 0 < set = omega (arith, split.some_left) in
     omega (arith, through.weighs, (is_table set some h).none_lighter through.tree through.is_tree)
 
-through_of_tree : (w : Weight) (bounds table : List ℕ) (set end : ℕ) (left right : JoinTree) → set < end → IsTable w bounds table end → IsTreeOver set (node left right)
-    → weight_of w bounds (node left right) ≡ get_or table set 0 → weight_through w bounds table set (entries_of right) ≡ get_or table set 0
+through_of_tree : (w : Weight) (bounds table : List ℕ) (set end : ℕ) (left right : PlanTree) → set < end → IsTable w bounds table end → IsTreeOver set (node left right)
+    → weight_of w bounds (node left right) ≡ get_or table set 0 → weight_through w bounds table set (leaf_set right) ≡ get_or table set 0
 through_of_tree w bounds table set end left right h is_table is_tree weighs =
     omega (
       arith,
       weighs,
       through_is_least w bounds table set end left right (omega arith) is_table is_tree,
-      through_at_least w bounds table set end (entries_of right) h is_table (split_by_right set (entries_of left) (entries_of right) is_tree.0),
+      through_at_least w bounds table set end (leaf_set right) h is_table (split_by_right set (leaf_set left) (leaf_set right) is_tree.0),
     )
 
 attained : (w : Weight) (bounds table : List ℕ) (set end first : ℕ) → IsFirstEntry set first → 0 < set - 2 ^ first → set < end → IsTable w bounds table end → Attained w bounds table set
@@ -46,11 +46,11 @@ attained w bounds table set end first is_first more h is_table = at least.tree l
     least : IsLeastWeight w bounds set (get_or table set 0)
     least = is_table set (omega arith) h
 
-    at : (tree : JoinTree) → IsTreeOver set tree → weight_of w bounds tree ≡ get_or table set 0 → Attained w bounds table set
+    at : (tree : PlanTree) → IsTreeOver set tree → weight_of w bounds tree ≡ get_or table set 0 → Attained w bounds table set
     at (leaf entry) is_tree weighs = absurd (no_leaf set first entry is_first more is_tree)
     at (node left right) is_tree weighs = record {
-      right = entries_of right;
-      is_split = split_by_right set (entries_of left) (entries_of right) is_tree.0;
+      right = leaf_set right;
+      is_split = split_by_right set (leaf_set left) (leaf_set right) is_tree.0;
       lightest = through_of_tree w bounds table set end left right h is_table is_tree weighs;
     }
 
@@ -121,7 +121,7 @@ first_of_one w bounds set first is_first none = record {
   none_earlier = λ other is_tree same before. not_before other is_tree before;
 }
   where
-    not_before : (other : JoinTree) → IsTreeOver set other → ¬ IsBefore other (leaf first)
+    not_before : (other : PlanTree) → IsTreeOver set other → ¬ IsTreeBefore other (leaf first)
     not_before (leaf entry) is_tree before = before
     not_before (node left right) is_tree before = before
 
@@ -132,7 +132,7 @@ pub record Light (most : ℕ) (bounds table : List ℕ) (set right : ℕ) : Type
   pub left : get_or table (set - right) 0 < 2 ^ 128 - 1
   pub right_side : get_or table right 0 < 2 ^ 128 - 1
 
-light_sums : (most bound left right whole : ℕ) → joined (weight.SumWithin most) bound left right ≡ whole → whole < 2 ^ 128 - 1 → (bound ≤ most) × (bound + left + right ≡ whole)
+light_sums : (most bound left right whole : ℕ) → combined (weight.SumWithin most) bound left right ≡ whole → whole < 2 ^ 128 - 1 → (bound ≤ most) × (bound + left + right ≡ whole)
 light_sums most bound left right whole is below = elim (cases_lt most bound) [
   | inl beyond ↦ absurd (omega (arith, joined-beyond most bound left right beyond))
   | inr within ↦ (within, omega (arith, joined-within most bound left right within))
@@ -146,22 +146,22 @@ light_sides most bounds table set right is below =
     record { bound = sums.0; sums = sums.1; left = omega (arith, sums.1); right_side = omega (arith, sums.1) }
 
 -- a first lightest tree weighs what the table says
-weighs_table : (w : Weight) (bounds table : List ℕ) (set end : ℕ) (tree : JoinTree) → 0 < set → set < end → IsTable w bounds table end → IsFirstLightest w bounds set tree
+weighs_table : (w : Weight) (bounds table : List ℕ) (set end : ℕ) (tree : PlanTree) → 0 < set → set < end → IsTable w bounds table end → IsFirstLightest w bounds set tree
     → weight_of w bounds tree ≡ get_or table set 0
 weighs_table w bounds table set end tree some h is_table is_first =
     let least : IsLeastWeight w bounds set (get_or table set 0) = is_table set some h in
     omega (arith, least.weighs, least.none_lighter tree is_first.is_tree, is_first.none_lighter least.tree least.is_tree)
 
-pub node_over : (set right_set : ℕ) (left right : JoinTree) → IsSplit set (set - right_set) right_set → IsTreeOver (set - right_set) left → IsTreeOver right_set right → IsTreeOver set (node left right)
+pub node_over : (set right_set : ℕ) (left right : PlanTree) → IsSplit set (set - right_set) right_set → IsTreeOver (set - right_set) left → IsTreeOver right_set right → IsTreeOver set (node left right)
 node_over set right_set left right split left_tree right_tree =
-    let left_is : entries_of left ≡ set - right_set = tree_set (set - right_set) left left_tree in
-    let right_is : entries_of right ≡ right_set = tree_set right_set right right_tree in (
-      subst (λ (k : ℕ). IsSplit set k (entries_of right)) (sym left_is) (subst (λ (k : ℕ). IsSplit set (set - right_set) k) (sym right_is) split),
+    let left_is : leaf_set left ≡ set - right_set = tree_set (set - right_set) left left_tree in
+    let right_is : leaf_set right ≡ right_set = tree_set right_set right right_tree in (
+      subst (λ (k : ℕ). IsSplit set k (leaf_set right)) (sym left_is) (subst (λ (k : ℕ). IsSplit set (set - right_set) k) (sym right_is) split),
       subst (λ (k : ℕ). IsTreeOver k left) (sym left_is) left_tree,
       subst (λ (k : ℕ). IsTreeOver k right) (sym right_is) right_tree,
     )
 
-pub first_of_sides : (most : ℕ) (bounds table : List ℕ) (set end right_set : ℕ) (left right : JoinTree) → set < end → IsTable (weight.SumWithin most) bounds table end
+pub first_of_sides : (most : ℕ) (bounds table : List ℕ) (set end right_set : ℕ) (left right : PlanTree) → set < end → IsTable (weight.SumWithin most) bounds table end
     → get_or table set 0 < 2 ^ 128 - 1 → IsFirstLightestSplit (weight.SumWithin most) bounds table set right_set
     → IsFirstLightest (weight.SumWithin most) bounds (set - right_set) left → IsFirstLightest (weight.SumWithin most) bounds right_set right
     → IsFirstLightest (weight.SumWithin most) bounds set (node left right)
@@ -180,10 +180,10 @@ first_of_sides most bounds table set end right_set left right h is_table is_ligh
     is_tree : IsTreeOver set (node left right)
     is_tree = node_over set right_set left right split.is_split first_left.is_tree first_right.is_tree
 
-    left_set : entries_of left ≡ set - right_set
+    left_set : leaf_set left ≡ set - right_set
     left_set = tree_set (set - right_set) left first_left.is_tree
 
-    right_is : entries_of right ≡ right_set
+    right_is : leaf_set right ≡ right_set
     right_is = tree_set right_set right first_right.is_tree
 
     left_weighs : weight_of (weight.SumWithin most) bounds left ≡ get_or table (set - right_set) 0
@@ -194,25 +194,25 @@ first_of_sides most bounds table set end right_set left right h is_table is_ligh
 
     weighs : weight_of (weight.SumWithin most) bounds (node left right) ≡ get_or table set 0
     weighs =
-        ap (λ k. joined (weight.SumWithin most) (get_or bounds k 0) (weight_of (weight.SumWithin most) bounds left) (weight_of (weight.SumWithin most) bounds right)) (tree_set set (node left right) is_tree)
-        ∙ ap (λ k. joined (weight.SumWithin most) (get_or bounds set 0) k (weight_of (weight.SumWithin most) bounds right)) left_weighs
-        ∙ ap (λ k. joined (weight.SumWithin most) (get_or bounds set 0) (get_or table (set - right_set) 0) k) right_weighs
+        ap (λ k. combined (weight.SumWithin most) (get_or bounds k 0) (weight_of (weight.SumWithin most) bounds left) (weight_of (weight.SumWithin most) bounds right)) (tree_set set (node left right) is_tree)
+        ∙ ap (λ k. combined (weight.SumWithin most) (get_or bounds set 0) k (weight_of (weight.SumWithin most) bounds right)) left_weighs
+        ∙ ap (λ k. combined (weight.SumWithin most) (get_or bounds set 0) (get_or table (set - right_set) 0) k) right_weighs
         ∙ split.lightest
 
     sums : Light most bounds table set right_set
     sums = light_sides most bounds table set right_set split.lightest is_light
 
     -- its sides have the same sets, and so are no lighter, and no heavier either
-    sides_weigh : (left' right' : JoinTree) → IsTreeOver set (node left' right') → weight_of (weight.SumWithin most) bounds (node left' right') ≡ get_or table set 0 → entries_of left' ≡ set - right_set
+    sides_weigh : (left' right' : PlanTree) → IsTreeOver set (node left' right') → weight_of (weight.SumWithin most) bounds (node left' right') ≡ get_or table set 0 → leaf_set left' ≡ set - right_set
         → IsTreeOver (set - right_set) left' × IsTreeOver right_set right'
         × (weight_of (weight.SumWithin most) bounds left' ≡ weight_of (weight.SumWithin most) bounds left) × (weight_of (weight.SumWithin most) bounds right' ≡ weight_of (weight.SumWithin most) bounds right)
     sides_weigh left' right' other_tree equal left_same =
-        let whole : entries_of left' + entries_of right' ≡ set = tree_set set (node left' right') other_tree in
-        let right_same : entries_of right' ≡ right_set = omega (arith, split.is_split.some_left, split.is_split.some_right, whole, left_same) in
+        let whole : leaf_set left' + leaf_set right' ≡ set = tree_set set (node left' right') other_tree in
+        let right_same : leaf_set right' ≡ right_set = omega (arith, split.is_split.some_left, split.is_split.some_right, whole, left_same) in
         let left_tree : IsTreeOver (set - right_set) left' = subst (λ (k : ℕ). IsTreeOver k left') left_same other_tree.1 in
         let right_tree : IsTreeOver right_set right' = subst (λ (k : ℕ). IsTreeOver k right') right_same other_tree.2 in
-        let at_set : joined (weight.SumWithin most) (get_or bounds set 0) (weight_of (weight.SumWithin most) bounds left') (weight_of (weight.SumWithin most) bounds right') ≡ get_or table set 0 =
-        ap (λ k. joined (weight.SumWithin most) (get_or bounds k 0) (weight_of (weight.SumWithin most) bounds left') (weight_of (weight.SumWithin most) bounds right')) (sym whole) ∙ equal in
+        let at_set : combined (weight.SumWithin most) (get_or bounds set 0) (weight_of (weight.SumWithin most) bounds left') (weight_of (weight.SumWithin most) bounds right') ≡ get_or table set 0 =
+        ap (λ k. combined (weight.SumWithin most) (get_or bounds k 0) (weight_of (weight.SumWithin most) bounds left') (weight_of (weight.SumWithin most) bounds right')) (sym whole) ∙ equal in
         let other_sums : (get_or bounds set 0 ≤ most) × (get_or bounds set 0 + weight_of (weight.SumWithin most) bounds left' + weight_of (weight.SumWithin most) bounds right' ≡ get_or table set 0) =
         light_sums most (get_or bounds set 0) (weight_of (weight.SumWithin most) bounds left') (weight_of (weight.SumWithin most) bounds right') (get_or table set 0) at_set is_light in
         let left_no_lighter : weight_of (weight.SumWithin most) bounds left ≤ weight_of (weight.SumWithin most) bounds left' = first_left.none_lighter left' left_tree in
@@ -223,11 +223,11 @@ first_of_sides most bounds table set end right_set left right h is_table is_ligh
           omega (arith, other_sums.1, sums.sums, left_weighs, right_weighs, left_no_lighter, right_no_lighter),
         )
 
-    not_before : (other : JoinTree) → IsTreeOver set other → weight_of (weight.SumWithin most) bounds other ≡ get_or table set 0 → ¬ IsBefore other (node left right)
+    not_before : (other : PlanTree) → IsTreeOver set other → weight_of (weight.SumWithin most) bounds other ≡ get_or table set 0 → ¬ IsTreeBefore other (node left right)
     not_before (leaf entry) other_tree equal before = before
     not_before (node left' right') other_tree equal before = elim before [
-      | inl less ↦ split.first (entries_of right') (split_by_right set (entries_of left') (entries_of right') other_tree.0)
-          (omega (arith, split_sum set (entries_of left') (entries_of right') other_tree.0, left_set, less))
+      | inl less ↦ split.first (leaf_set right') (split_by_right set (leaf_set left') (leaf_set right') other_tree.0)
+          (omega (arith, split_sum set (leaf_set left') (leaf_set right') other_tree.0, left_set, less))
           (through_of_tree (weight.SumWithin most) bounds table set end left' right' h is_table other_tree equal)
       | inr here ↦ (let sides : IsTreeOver (set - right_set) left' × IsTreeOver right_set right'
           × (weight_of (weight.SumWithin most) bounds left' ≡ weight_of (weight.SumWithin most) bounds left) × (weight_of (weight.SumWithin most) bounds right' ≡ weight_of (weight.SumWithin most) bounds right) =

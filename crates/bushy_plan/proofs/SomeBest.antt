@@ -9,8 +9,8 @@ use Rattle.std.proofs.lemmas.Nat.Bits.{bit_at-lt, bit_at-pow_other, bit_at_above
 use Rattle.entry_sets.proofs.Bits.{twice}
 use Rattle.order_search.specs.Orders.{IsNotAfter}
 use Rattle.order_search.proofs.NoWorse.{place_either, place_both}
-use Rattle.bushy_plan.specs.BestTree.{IsBefore, IsBest, all_of, cost, total}
-use Rattle.bushy_plan.specs.JoinTrees.{IsFirstEntry, IsSplit, IsTreeOver, JoinTree, leaf, node, entries_of, inner_count}
+use Rattle.bushy_plan.specs.BestTree.{IsTreeBefore, IsBest, all_of, cost, total}
+use Rattle.bushy_plan.specs.PlanTrees.{IsFirstEntry, IsSplit, IsTreeOver, PlanTree, leaf, node, leaf_set, inner_count}
 use Rattle.bushy_plan.proofs.AllTrees.{IsWith, only_last, without_last}
 use Rattle.bushy_plan.proofs.LeftDeep.{bit_with, split_with_first, tree_first}
 use Rattle.bushy_plan.proofs.Numbering.{count_by_size}
@@ -27,9 +27,9 @@ first_below set last first fits is_first = elim (cases_lt first last) [
   | inr above ↦ absurd (omega (arith, bit_at_above set last first fits above, is_first.is_in))
 ]
 
-pub at_root : (set last : ℕ) (tree : JoinTree) → set < 2 ^ last → IsTreeOver set tree → IsTreeOver (set + 2 ^ last) (node tree (leaf last))
+pub at_root : (set last : ℕ) (tree : PlanTree) → set < 2 ^ last → IsTreeOver set tree → IsTreeOver (set + 2 ^ last) (node tree (leaf last))
 at_root set last tree fits is_tree =
-    let set_is : entries_of tree ≡ set = tree_set set tree is_tree in
+    let set_is : leaf_set tree ≡ set = tree_set set tree is_tree in
     let first : (first : ℕ) × IsFirstEntry set first = tree_first set tree is_tree in (
       subst (λ (k : ℕ). IsSplit (set + 2 ^ last) k (2 ^ last)) (sym set_is)
           (split_with_first (set + 2 ^ last) set (2 ^ last) first.0 last (λ entry. sym (bit_with set last entry (no_last set last fits))) (omega (arith, set_is, some_entries tree)) (pow_pos last)
@@ -83,56 +83,56 @@ split_right_with set left right last own fits right_fits is_own split = record {
       | inr more ↦ omega arith
     ]
 
-pub with_over : (set last : ℕ) (rest tree : JoinTree) → set < 2 ^ last → IsTreeOver set rest → IsWith last rest tree → IsTreeOver (set + 2 ^ last) tree
-with_over set last (leaf entry) tree fits is_tree is_with = subst (λ (t : JoinTree). IsTreeOver (set + 2 ^ last) t) (sym is_with) (at_root set last (leaf entry) fits is_tree)
+pub with_over : (set last : ℕ) (rest tree : PlanTree) → set < 2 ^ last → IsTreeOver set rest → IsWith last rest tree → IsTreeOver (set + 2 ^ last) tree
+with_over set last (leaf entry) tree fits is_tree is_with = subst (λ (t : PlanTree). IsTreeOver (set + 2 ^ last) t) (sym is_with) (at_root set last (leaf entry) fits is_tree)
 with_over set last (node left right) tree fits is_tree is_with = elim is_with [
-  | inl root ↦ subst (λ (t : JoinTree). IsTreeOver (set + 2 ^ last) t) (sym root) (at_root set last (node left right) fits is_tree)
+  | inl root ↦ subst (λ (t : PlanTree). IsTreeOver (set + 2 ^ last) t) (sym root) (at_root set last (node left right) fits is_tree)
   | inr inner ↦ elim inner [
-    | inl l ↦ (let grown : IsTreeOver (entries_of left + 2 ^ last) l.0 = with_over (entries_of left) last left l.0 (omega (arith, whole)) is_tree.1 l.1 in
-        let grown_set : entries_of l.0 ≡ entries_of left + 2 ^ last = tree_set (entries_of left + 2 ^ last) l.0 grown in
-        subst (λ (t : JoinTree). IsTreeOver (set + 2 ^ last) t) (sym l.2) (
-          subst (λ (k : ℕ). IsSplit (set + 2 ^ last) k (entries_of right)) (sym grown_set) (split_left_with set (entries_of left) (entries_of right) last first.0 fits (omega (arith, whole)) first.1 is_tree.0),
+    | inl l ↦ (let grown : IsTreeOver (leaf_set left + 2 ^ last) l.0 = with_over (leaf_set left) last left l.0 (omega (arith, whole)) is_tree.1 l.1 in
+        let grown_set : leaf_set l.0 ≡ leaf_set left + 2 ^ last = tree_set (leaf_set left + 2 ^ last) l.0 grown in
+        subst (λ (t : PlanTree). IsTreeOver (set + 2 ^ last) t) (sym l.2) (
+          subst (λ (k : ℕ). IsSplit (set + 2 ^ last) k (leaf_set right)) (sym grown_set) (split_left_with set (leaf_set left) (leaf_set right) last first.0 fits (omega (arith, whole)) first.1 is_tree.0),
           subst (λ (k : ℕ). IsTreeOver k l.0) (sym grown_set) grown,
           is_tree.2,
         ))
-    | inr r ↦ (let grown : IsTreeOver (entries_of right + 2 ^ last) r.0 = with_over (entries_of right) last right r.0 (omega (arith, whole)) is_tree.2 r.1 in
-        let grown_set : entries_of r.0 ≡ entries_of right + 2 ^ last = tree_set (entries_of right + 2 ^ last) r.0 grown in
-        subst (λ (t : JoinTree). IsTreeOver (set + 2 ^ last) t) (sym r.2) (
-          subst (λ (k : ℕ). IsSplit (set + 2 ^ last) (entries_of left) k) (sym grown_set) (split_right_with set (entries_of left) (entries_of right) last first.0 fits (omega (arith, whole)) first.1 is_tree.0),
+    | inr r ↦ (let grown : IsTreeOver (leaf_set right + 2 ^ last) r.0 = with_over (leaf_set right) last right r.0 (omega (arith, whole)) is_tree.2 r.1 in
+        let grown_set : leaf_set r.0 ≡ leaf_set right + 2 ^ last = tree_set (leaf_set right + 2 ^ last) r.0 grown in
+        subst (λ (t : PlanTree). IsTreeOver (set + 2 ^ last) t) (sym r.2) (
+          subst (λ (k : ℕ). IsSplit (set + 2 ^ last) (leaf_set left) k) (sym grown_set) (split_right_with set (leaf_set left) (leaf_set right) last first.0 fits (omega (arith, whole)) first.1 is_tree.0),
           is_tree.1,
           subst (λ (k : ℕ). IsTreeOver k r.0) (sym grown_set) grown,
         ))
   ]
 ]
   where
-    whole : entries_of left + entries_of right ≡ set
-    whole = split_sum set (entries_of left) (entries_of right) is_tree.0
+    whole : leaf_set left + leaf_set right ≡ set
+    whole = split_sum set (leaf_set left) (leaf_set right) is_tree.0
 
     first : (first : ℕ) × IsFirstEntry set first
     first = tree_first set (node left right) is_tree
 
 -- ---- by any order in which two trees can be compared, some tree is least
 
-record IsOrder (R : JoinTree → JoinTree → Type 0) : Type 0 where
-  either : (a b : JoinTree) → R a b ⊎ R b a
-  both : (a b c : JoinTree) → R a b → R b c → R a c
+record IsOrder (R : PlanTree → PlanTree → Type 0) : Type 0 where
+  either : (a b : PlanTree) → R a b ⊎ R b a
+  both : (a b c : PlanTree) → R a b → R b c → R a c
 
-through : (R : JoinTree → JoinTree → Type 0) (f : JoinTree → JoinTree) → IsOrder R → IsOrder (λ a b. R (f a) (f b))
+through : (R : PlanTree → PlanTree → Type 0) (f : PlanTree → PlanTree) → IsOrder R → IsOrder (λ a b. R (f a) (f b))
 through R f order = record { either = λ a b. order.either (f a) (f b); both = λ a b c. order.both (f a) (f b) (f c) }
 
-itself : (R : JoinTree → JoinTree → Type 0) → IsOrder R → (a : JoinTree) → R a a
+itself : (R : PlanTree → PlanTree → Type 0) → IsOrder R → (a : PlanTree) → R a a
 itself R order a = elim (order.either a a) [
   | inl p ↦ p
   | inr q ↦ q
 ]
 
-record LeastWith (R : JoinTree → JoinTree → Type 0) (last : ℕ) (rest : JoinTree) : Type 0 where
-  tree : JoinTree
+record LeastWith (R : PlanTree → PlanTree → Type 0) (last : ℕ) (rest : PlanTree) : Type 0 where
+  tree : PlanTree
   is_with : IsWith last rest tree
-  least : (other : JoinTree) → IsWith last rest other → R tree other
+  least : (other : PlanTree) → IsWith last rest other → R tree other
 
 -- of the root and the least on either side, the least
-least_of_three : (R : JoinTree → JoinTree → Type 0) → IsOrder R → (last : ℕ) (left right : JoinTree) → LeastWith (λ a b. R (node a right) (node b right)) last left
+least_of_three : (R : PlanTree → PlanTree → Type 0) → IsOrder R → (last : ℕ) (left right : PlanTree) → LeastWith (λ a b. R (node a right) (node b right)) last left
     → LeastWith (λ a b. R (node left a) (node left b)) last right → LeastWith R last (node left right)
 least_of_three R order last left right l r = elim (order.either (node l.tree right) (node left r.tree)) [
   | inl left_first ↦ elim (order.either root (node l.tree right)) [
@@ -145,61 +145,61 @@ least_of_three R order last left right l r = elim (order.either (node l.tree rig
   ]
 ]
   where
-    root : JoinTree
+    root : PlanTree
     root = node (node left right) (leaf last)
 
-    made : (tree : JoinTree) → IsWith last (node left right) tree → R tree root → R tree (node l.tree right) → R tree (node left r.tree) → LeastWith R last (node left right)
+    made : (tree : PlanTree) → IsWith last (node left right) tree → R tree root → R tree (node l.tree right) → R tree (node left r.tree) → LeastWith R last (node left right)
     made tree is_with than_root than_left than_right = record {
       tree = tree;
       is_with = is_with;
       least = λ other other_with. elim other_with [
-        | inl at ↦ subst (λ (t : JoinTree). R tree t) (sym at) than_root
+        | inl at ↦ subst (λ (t : PlanTree). R tree t) (sym at) than_root
         | inr inner ↦ elim inner [
-          | inl x ↦ subst (λ (t : JoinTree). R tree t) (sym x.2) (order.both tree (node l.tree right) (node x.0 right) than_left (l.least x.0 x.1))
-          | inr y ↦ subst (λ (t : JoinTree). R tree t) (sym y.2) (order.both tree (node left r.tree) (node left y.0) than_right (r.least y.0 y.1))
+          | inl x ↦ subst (λ (t : PlanTree). R tree t) (sym x.2) (order.both tree (node l.tree right) (node x.0 right) than_left (l.least x.0 x.1))
+          | inr y ↦ subst (λ (t : PlanTree). R tree t) (sym y.2) (order.both tree (node left r.tree) (node left y.0) than_right (r.least y.0 y.1))
         ]
       ];
     }
 
-least_with : (R : JoinTree → JoinTree → Type 0) → IsOrder R → (last : ℕ) (rest : JoinTree) → LeastWith R last rest
+least_with : (R : PlanTree → PlanTree → Type 0) → IsOrder R → (last : ℕ) (rest : PlanTree) → LeastWith R last rest
 least_with R order last (leaf entry) = record {
   tree = node (leaf entry) (leaf last);
   is_with = refl;
-  least = λ other is_with. subst (λ (t : JoinTree). R (node (leaf entry) (leaf last)) t) (sym is_with) (itself R order (node (leaf entry) (leaf last)));
+  least = λ other is_with. subst (λ (t : PlanTree). R (node (leaf entry) (leaf last)) t) (sym is_with) (itself R order (node (leaf entry) (leaf last)));
 }
 least_with R order last (node left right) =
     least_of_three R order last left right
     (least_with (λ a b. R (node a right) (node b right)) (through R (λ t. node t right) order) last left)
     (least_with (λ a b. R (node left a) (node left b)) (through R (λ t. node left t) order) last right)
 
-record Least (R : JoinTree → JoinTree → Type 0) (n : ℕ) : Type 0 where
-  tree : JoinTree
+record Least (R : PlanTree → PlanTree → Type 0) (n : ℕ) : Type 0 where
+  tree : PlanTree
   is_tree : IsTreeOver (all_of n) tree
-  least : (other : JoinTree) → IsTreeOver (all_of n) other → R tree other
+  least : (other : PlanTree) → IsTreeOver (all_of n) other → R tree other
 
 -- the tree with the last entry at its best place
-grown : (R : JoinTree → JoinTree → Type 0) → IsOrder R → ℕ → JoinTree → JoinTree
+grown : (R : PlanTree → PlanTree → Type 0) → IsOrder R → ℕ → PlanTree → PlanTree
 grown R order last t = (least_with R order last t).tree
 
-least_next : (R : JoinTree → JoinTree → Type 0) (order : IsOrder R) (n : ℕ) → Least (λ a b. R (grown R order (suc n) a) (grown R order (suc n) b)) (suc n) → Least R (suc (suc n))
+least_next : (R : PlanTree → PlanTree → Type 0) (order : IsOrder R) (n : ℕ) → Least (λ a b. R (grown R order (suc n) a) (grown R order (suc n) b)) (suc n) → Least R (suc (suc n))
 unfolding grown
 least_next R order n best = record {
   tree = grown R order (suc n) best.tree;
   is_tree = subst (λ (k : ℕ). IsTreeOver k (grown R order (suc n) best.tree)) whole
       (with_over (all_of (suc n)) (suc n) best.tree (grown R order (suc n) best.tree) (omega (arith, pow_pos (suc n))) best.is_tree (least_with R order (suc n) best.tree).is_with);
-  least = λ other is_tree. (let rest : (rest : JoinTree) × IsTreeOver (all_of (suc n)) rest × IsWith (suc n) rest other = without_last n other is_tree in
+  least = λ other is_tree. (let rest : (rest : PlanTree) × IsTreeOver (all_of (suc n)) rest × IsWith (suc n) rest other = without_last n other is_tree in
       order.both (grown R order (suc n) best.tree) (grown R order (suc n) rest.0) other (best.least rest.0 rest.1) ((least_with R order (suc n) rest.0).least other rest.2));
 }
   where
     whole : 2 ^ suc n - 1 + 2 ^ suc n ≡ 2 ^ suc (suc n) - 1
     whole = omega (arith, twice (suc n), pow_pos (suc n))
 
-least_of_all : (R : JoinTree → JoinTree → Type 0) → IsOrder R → (n : ℕ) → 0 < n → Least R n
+least_of_all : (R : PlanTree → PlanTree → Type 0) → IsOrder R → (n : ℕ) → 0 < n → Least R n
 least_of_all R order zero some = absurd (omega arith)
 least_of_all R order (suc zero) some = record {
   tree = leaf 0;
   is_tree = refl;
-  least = λ other is_tree. subst (λ (t : JoinTree). R (leaf 0) t) (sym (only_last 0 other is_tree)) (itself R order (leaf 0));
+  least = λ other is_tree. subst (λ (t : PlanTree). R (leaf 0) t) (sym (only_last 0 other is_tree)) (itself R order (leaf 0));
 }
 least_of_all R order (suc (suc n)) some =
     least_next R order n
@@ -207,14 +207,14 @@ least_of_all R order (suc (suc n)) some =
 
 -- ---- the order by cost, then by sum, then by the left sets as they are read from the root on
 
-abbrev left_sets : JoinTree → List ℕ
+abbrev left_sets : PlanTree → List ℕ
 left_sets (leaf entry) = []
-left_sets (node left right) = entries_of left ∷ (left_sets left ++ left_sets right)
+left_sets (node left right) = leaf_set left ∷ (left_sets left ++ left_sets right)
 
-abbrev First : (JoinTree → ℕ) → (JoinTree → JoinTree → Type 0) → JoinTree → JoinTree → Type 0
+abbrev First : (PlanTree → ℕ) → (PlanTree → PlanTree → Type 0) → PlanTree → PlanTree → Type 0
 First f Then a b = (f a < f b) ⊎ ((f a ≡ f b) × Then a b)
 
-first_order : (f : JoinTree → ℕ) (Then : JoinTree → JoinTree → Type 0) → IsOrder Then → IsOrder (First f Then)
+first_order : (f : PlanTree → ℕ) (Then : PlanTree → PlanTree → Type 0) → IsOrder Then → IsOrder (First f Then)
 first_order f Then order = record {
   either = λ a b. elim (cases_order (f a) (f b)) [
     | inl same ↦ elim (order.either a b) [
@@ -238,7 +238,7 @@ first_order f Then order = record {
   ];
 }
 
-abbrev IsPlaced : JoinTree → JoinTree → Type 0
+abbrev IsPlaced : PlanTree → PlanTree → Type 0
 IsPlaced a b = IsNotAfter (left_sets a) (left_sets b)
 
 placed_order : IsOrder IsPlaced
@@ -248,7 +248,7 @@ placed_order = record {
 }
 
 -- a tree that comes before another over the same set has the lesser list
-length-left_sets : (tree : JoinTree) → length (left_sets tree) ≡ inner_count tree
+length-left_sets : (tree : PlanTree) → length (left_sets tree) ≡ inner_count tree
 length-left_sets (leaf entry) = refl
 length-left_sets (node left right) = omega (arith, length-append {A = ℕ} (left_sets left) (left_sets right), length-left_sets left, length-left_sets right)
 
@@ -268,7 +268,7 @@ not_after_behind (x ∷ a) c d h = elim h [
   | inr here ↦ not_after_behind a c d here.1
 ]
 
-before_placed : (n set : ℕ) (a b : JoinTree) → set < 2 ^ n → IsTreeOver set a → IsTreeOver set b → IsBefore a b → IsPlaced b a → ⊥
+before_placed : (n set : ℕ) (a b : PlanTree) → set < 2 ^ n → IsTreeOver set a → IsTreeOver set b → IsTreeBefore a b → IsPlaced b a → ⊥
 before_placed n set (leaf x) b fits p q before h = before
 before_placed n set (node l r) (leaf y) fits p q before h = before
 before_placed n set (node l r) (node l' r') fits p q before h = elim before [
@@ -279,27 +279,27 @@ before_placed n set (node l r) (node l' r') fits p q before h = elim before [
   | inr here ↦ elim h [
     | inl above ↦ omega (arith, here.0, above)
     | inr same ↦ elim here.1 [
-      | inl left_before ↦ (let left_tree : IsTreeOver (entries_of l) l' = subst (λ (k : ℕ). IsTreeOver k l') (sym here.0) q.1 in
-          before_placed n (entries_of l) l l' (omega (arith, split_sum set (entries_of l) (entries_of r) p.0)) p.1 left_tree left_before
+      | inl left_before ↦ (let left_tree : IsTreeOver (leaf_set l) l' = subst (λ (k : ℕ). IsTreeOver k l') (sym here.0) q.1 in
+          before_placed n (leaf_set l) l l' (omega (arith, split_sum set (leaf_set l) (leaf_set r) p.0)) p.1 left_tree left_before
           (not_after_front (left_sets l) (left_sets l') (left_sets r) (left_sets r')
           (omega (
             arith,
             length-left_sets l,
             length-left_sets l',
-            count_by_size n (entries_of l) l (omega (arith, split_sum set (entries_of l) (entries_of r) p.0)) p.1,
-            count_by_size n (entries_of l) l' (omega (arith, split_sum set (entries_of l) (entries_of r) p.0)) left_tree,
+            count_by_size n (leaf_set l) l (omega (arith, split_sum set (leaf_set l) (leaf_set r) p.0)) p.1,
+            count_by_size n (leaf_set l) l' (omega (arith, split_sum set (leaf_set l) (leaf_set r) p.0)) left_tree,
           )) same.1))
-      | inr right_here ↦ (let right_same : entries_of r' ≡ entries_of r =
-          omega (arith, split_sum set (entries_of l) (entries_of r) p.0, split_sum set (entries_of l') (entries_of r') q.0, here.0) in
-          let right_tree : IsTreeOver (entries_of r) r' = subst (λ (k : ℕ). IsTreeOver k r') right_same q.2 in
-          before_placed n (entries_of r) r r' (omega (arith, split_sum set (entries_of l) (entries_of r) p.0)) p.2 right_tree right_here.1
+      | inr right_here ↦ (let right_same : leaf_set r' ≡ leaf_set r =
+          omega (arith, split_sum set (leaf_set l) (leaf_set r) p.0, split_sum set (leaf_set l') (leaf_set r') q.0, here.0) in
+          let right_tree : IsTreeOver (leaf_set r) r' = subst (λ (k : ℕ). IsTreeOver k r') right_same q.2 in
+          before_placed n (leaf_set r) r r' (omega (arith, split_sum set (leaf_set l) (leaf_set r) p.0)) p.2 right_tree right_here.1
           (not_after_behind (left_sets l) (left_sets r) (left_sets r')
-          (subst (λ (t : JoinTree). IsNotAfter (left_sets t ++ left_sets r') (left_sets l ++ left_sets r)) (sym right_here.0) same.1)))
+          (subst (λ (t : PlanTree). IsNotAfter (left_sets t ++ left_sets r') (left_sets l ++ left_sets r)) (sym right_here.0) same.1)))
     ]
   ]
 ]
 
-pub some_best : (bounds : List ℕ) (n : ℕ) → 0 < n → (best : JoinTree) × IsBest bounds n best
+pub some_best : (bounds : List ℕ) (n : ℕ) → 0 < n → (best : PlanTree) × IsBest bounds n best
 some_best bounds n some = (
   found.tree,
   record {
@@ -322,7 +322,7 @@ some_best bounds n some = (
     found : Least (First (cost bounds) (First (total bounds) IsPlaced)) n
     found = least_of_all (First (cost bounds) (First (total bounds) IsPlaced)) (first_order (cost bounds) (First (total bounds) IsPlaced) (first_order (total bounds) IsPlaced placed_order)) n some
 
-    then_total : (other : JoinTree) → IsTreeOver (all_of n) other → cost bounds other ≡ cost bounds found.tree → First (total bounds) IsPlaced found.tree other
+    then_total : (other : PlanTree) → IsTreeOver (all_of n) other → cost bounds other ≡ cost bounds found.tree → First (total bounds) IsPlaced found.tree other
     then_total other over same = elim (found.least other over) [
       | inl below ↦ absurd (omega (arith, below, same))
       | inr here ↦ here.1

@@ -2,33 +2,33 @@
 use Rattle.std.proofs.Common.{◌≡◌, ℕ, ◌<◌, Bool, true, false, eqb, cond, List, refl, subst, eq-eqb, arith, inl, inr}
 use Rattle.std.specs.Prelude.{◌⊎◌}
 use Rattle.order_search.proofs.Tested.{both_true, first_test, first_told}
-use Rattle.bushy_plan.specs.BestTree.{IsBefore, IsBest, all_of, cost, total}
-use Rattle.bushy_plan.specs.JoinTrees.{IsTreeOver, JoinTree, leaf, node, entries_of}
+use Rattle.bushy_plan.specs.BestTree.{IsTreeBefore, IsBest, all_of, cost, total}
+use Rattle.bushy_plan.specs.PlanTrees.{IsTreeOver, PlanTree, leaf, node, leaf_set}
 use Rattle.bushy_plan.proofs.AllTrees.{at_tree, each_tree}
 
 -- ---- no worse
 
-abbrev pub same_tree : JoinTree → JoinTree → Bool
+abbrev pub same_tree : PlanTree → PlanTree → Bool
 same_tree (leaf a) (leaf b) = eqb a b
 same_tree (leaf a) (node left right) = false
 same_tree (node left right) (leaf b) = false
 same_tree (node left right) (node left' right') = cond (same_tree left left') (same_tree right right') false
 
-same_itself : (tree : JoinTree) → same_tree tree tree ≡ true
+same_itself : (tree : PlanTree) → same_tree tree tree ≡ true
 same_itself (leaf entry) = eq-eqb entry entry refl
 same_itself (node left right) = rw (same_itself left) (same_itself right)
 
 -- false where the one tree comes before the other
-abbrev pub not_before : JoinTree → JoinTree → Bool
+abbrev pub not_before : PlanTree → PlanTree → Bool
 not_before (leaf a) other = true
 not_before (node left right) (leaf b) = true
 not_before (node left right) (node left' right') =
-    first_test (entries_of left') (entries_of left) (cond (not_before left left') (cond (same_tree left left') (not_before right right') true) false)
+    first_test (leaf_set left') (leaf_set left) (cond (not_before left left') (cond (same_tree left left') (not_before right right') true) false)
 
-refuted : (a b : JoinTree) → not_before a b ≡ true → ¬ IsBefore a b
+refuted : (a b : PlanTree) → not_before a b ≡ true → ¬ IsTreeBefore a b
 refuted (leaf x) b h before = before
 refuted (node left right) (leaf y) h before = before
-refuted (node left right) (node left' right') h before = elim (first_told (entries_of left') (entries_of left) _ h) [
+refuted (node left right) (node left' right') h before = elim (first_told (leaf_set left') (leaf_set left) _ h) [
   | inl less ↦ elim before [
     | inl above ↦ omega (arith, less, above)
     | inr here ↦ omega (arith, less, here.0)
@@ -44,15 +44,15 @@ refuted (node left right) (node left' right') h before = elim (first_told (entri
       ])
 ]
   where
-    behind_same : (a b : JoinTree) (rest : Bool) → a ≡ b → cond (same_tree a b) rest true ≡ true → rest ≡ true
+    behind_same : (a b : PlanTree) (rest : Bool) → a ≡ b → cond (same_tree a b) rest true ≡ true → rest ≡ true
     behind_same a b rest same h =
-        let is_same : same_tree a b ≡ true = subst (λ (t : JoinTree). same_tree a t ≡ true) same (same_itself a) in
+        let is_same : same_tree a b ≡ true = subst (λ (t : PlanTree). same_tree a t ≡ true) same (same_itself a) in
         rw is_same at h
 
-abbrev pub no_worse : List ℕ → JoinTree → JoinTree → Bool
+abbrev pub no_worse : List ℕ → PlanTree → PlanTree → Bool
 no_worse bounds a b = first_test (cost bounds a) (cost bounds b) (first_test (total bounds a) (total bounds b) (not_before b a))
 
-pub best_by_test : (bounds : List ℕ) (n : ℕ) (best : JoinTree) → 0 < n → IsTreeOver (all_of n) best → each_tree n (λ other. no_worse bounds best other) ≡ true → IsBest bounds n best
+pub best_by_test : (bounds : List ℕ) (n : ℕ) (best : PlanTree) → 0 < n → IsTreeOver (all_of n) best → each_tree n (λ other. no_worse bounds best other) ≡ true → IsBest bounds n best
 best_by_test bounds n best some is_tree tested = record {
   is_tree = is_tree;
   none_cheaper = λ other over. elim (told other over) [
@@ -69,10 +69,10 @@ best_by_test bounds n best some is_tree tested = record {
   ];
 }
   where
-    told : (other : JoinTree) → IsTreeOver (all_of n) other → (cost bounds best < cost bounds other) ⊎ ((cost bounds best ≡ cost bounds other) × (first_test (total bounds best) (total bounds other) (not_before other best) ≡ true))
-    told other over = first_told (cost bounds best) (cost bounds other) _ (at_tree n (λ (t : JoinTree). no_worse bounds best t) other some tested over)
+    told : (other : PlanTree) → IsTreeOver (all_of n) other → (cost bounds best < cost bounds other) ⊎ ((cost bounds best ≡ cost bounds other) × (first_test (total bounds best) (total bounds other) (not_before other best) ≡ true))
+    told other over = first_told (cost bounds best) (cost bounds other) _ (at_tree n (λ (t : PlanTree). no_worse bounds best t) other some tested over)
 
-    then_total : (other : JoinTree) → IsTreeOver (all_of n) other → cost bounds other ≡ cost bounds best → (total bounds best < total bounds other) ⊎ ((total bounds best ≡ total bounds other) × (not_before other best ≡ true))
+    then_total : (other : PlanTree) → IsTreeOver (all_of n) other → cost bounds other ≡ cost bounds best → (total bounds best < total bounds other) ⊎ ((total bounds best ≡ total bounds other) × (not_before other best ≡ true))
     then_total other over same = elim (told other over) [
       | inl below ↦ absurd (omega (arith, below, same))
       | inr here ↦ first_told (total bounds best) (total bounds other) (not_before other best) here.1

@@ -2,55 +2,55 @@
 use Rattle.std.specs.Prelude.{◌≡◌, ℕ, ◌+◌, ◌-◌, ◌^◌, ◌<◌, ◌≤◌, ◌⊎◌, max, List, slice_index}
 use Rattle.tree_plans.specs.declared.bushy.BushyPlan.{BushyPlan}
 use Rattle.tree_plans.specs.declared.bushy.Join.{Join}
-use Rattle.bushy_plan.specs.JoinTrees.{JoinTree, leaf, node, IsTreeOver, entries_of, joins_from}
+use Rattle.bushy_plan.specs.PlanTrees.{PlanTree, leaf, node, IsTreeOver, leaf_set, joins_from}
 
 -- the largest bound of an inner node's set
-abbrev pub inner_greatest : List ℕ → JoinTree → ℕ
+abbrev pub inner_greatest : List ℕ → PlanTree → ℕ
 inner_greatest bounds (leaf entry) = 0
 inner_greatest bounds (node left right) =
-    max (slice_index bounds (entries_of left + entries_of right)) (max (inner_greatest bounds left) (inner_greatest bounds right))
+    max (slice_index bounds (leaf_set left + leaf_set right)) (max (inner_greatest bounds left) (inner_greatest bounds right))
 
 -- the sum of the bounds of the inner nodes' sets
-abbrev pub inner_sum : List ℕ → JoinTree → ℕ
+abbrev pub inner_sum : List ℕ → PlanTree → ℕ
 inner_sum bounds (leaf entry) = 0
-inner_sum bounds (node left right) = slice_index bounds (entries_of left + entries_of right) + inner_sum bounds left
+inner_sum bounds (node left right) = slice_index bounds (leaf_set left + leaf_set right) + inner_sum bounds left
     + inner_sum bounds right
 
 -- the cost of a whole tree: the largest bound of its inner nodes, and of a leaf alone its own
-abbrev pub cost : List ℕ → JoinTree → ℕ
+abbrev pub cost : List ℕ → PlanTree → ℕ
 cost bounds (leaf entry) = slice_index bounds (2 ^ entry)
 cost bounds (node left right) = inner_greatest bounds (node left right)
 
 -- the sum of these bounds
-abbrev pub total : List ℕ → JoinTree → ℕ
+abbrev pub total : List ℕ → PlanTree → ℕ
 total bounds (leaf entry) = slice_index bounds (2 ^ entry)
 total bounds (node left right) = inner_sum bounds (node left right)
 
 -- Of two trees over one set the one comes before the other: the number of its left set at the root is less;
 -- or where these sets are the same, its left tree comes before the other's; or where these trees are the same, its right tree does
-abbrev pub IsBefore : JoinTree → JoinTree → Type 0
-IsBefore (leaf a) other = ⊥
-IsBefore (node left right) (leaf b) = ⊥
-IsBefore (node left right) (node left' right') =
-    (entries_of left < entries_of left')
-    ⊎ ((entries_of left ≡ entries_of left') × (IsBefore left left' ⊎ ((left ≡ left') × IsBefore right right')))
+abbrev pub IsTreeBefore : PlanTree → PlanTree → Type 0
+IsTreeBefore (leaf a) other = ⊥
+IsTreeBefore (node left right) (leaf b) = ⊥
+IsTreeBefore (node left right) (node left' right') =
+    (leaf_set left < leaf_set left')
+    ⊎ ((leaf_set left ≡ leaf_set left') × (IsTreeBefore left left' ⊎ ((left ≡ left') × IsTreeBefore right right')))
 
 -- the set of all of n entries
 abbrev pub all_of : ℕ → ℕ
 all_of n = 2 ^ n - 1
 
 -- the tree has the least cost, among those of least cost the least sum, and none of this sum comes before it
-pub record IsBest (bounds : List ℕ) (n : ℕ) (best : JoinTree) : Type 0 where
+pub record IsBest (bounds : List ℕ) (n : ℕ) (best : PlanTree) : Type 0 where
   pub is_tree : IsTreeOver (all_of n) best
-  pub none_cheaper : (other : JoinTree) → IsTreeOver (all_of n) other → cost bounds best ≤ cost bounds other
-  pub none_smaller : (other : JoinTree) → IsTreeOver (all_of n) other → cost bounds other ≡ cost bounds best
+  pub none_cheaper : (other : PlanTree) → IsTreeOver (all_of n) other → cost bounds best ≤ cost bounds other
+  pub none_smaller : (other : PlanTree) → IsTreeOver (all_of n) other → cost bounds other ≡ cost bounds best
       → total bounds best ≤ total bounds other
-  pub none_earlier : (other : JoinTree) → IsTreeOver (all_of n) other → cost bounds other ≡ cost bounds best
-      → total bounds other ≡ total bounds best → ¬ IsBefore other best
+  pub none_earlier : (other : PlanTree) → IsTreeOver (all_of n) other → cost bounds other ≡ cost bounds best
+      → total bounds other ≡ total bounds best → ¬ IsTreeBefore other best
 
 -- joins are those of the best tree, with the bounds of their sets, and this is its cost
 pub record AreOfBest (bounds : List ℕ) (n cheapest : ℕ) (joins : List Join) : Type 0 where
-  pub tree : JoinTree
+  pub tree : PlanTree
   pub is_best : IsBest bounds n tree
   pub are_its : joins ≡ joins_from bounds n tree
   pub is_its : cheapest ≡ cost bounds tree
@@ -61,7 +61,7 @@ IsBestPlan bounds n plan = AreOfBest bounds n plan.cost plan.joins
 
 -- a tree has this cost, and none has a lower one
 pub record IsLeastCost (bounds : List ℕ) (n least : ℕ) : Type 0 where
-  pub tree : JoinTree
+  pub tree : PlanTree
   pub is_tree : IsTreeOver (all_of n) tree
   pub costs : cost bounds tree ≡ least
-  pub none_cheaper : (other : JoinTree) → IsTreeOver (all_of n) other → least ≤ cost bounds other
+  pub none_cheaper : (other : PlanTree) → IsTreeOver (all_of n) other → least ≤ cost bounds other

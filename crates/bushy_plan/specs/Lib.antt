@@ -1,5 +1,5 @@
 pub mod BestTree
 pub mod Causes
 pub mod Examples
-pub mod JoinTrees
+pub mod PlanTrees
 pub mod Splits

@@ -2,8 +2,8 @@
 use Rattle.std.specs.Prelude.{◌≡◌, ◌≢◌, ℕ, ◌+◌, ◌-◌, ◌^◌, ◌<◌, ◌≤◌, max, min, List, ◌++◌, length, slice_index, nat_le, if◌then◌else◌}
 use Rattle.limits.specs.Profile.{top_bound}
 use Rattle.tree_plans.specs.declared.bushy.Join.{Join}
-use Rattle.bushy_plan.specs.BestTree.{IsBefore}
-use Rattle.bushy_plan.specs.JoinTrees.{JoinTree, leaf, node, IsFirstEntry, IsSplit, IsTreeOver, entries_of, joins_from, root_number}
+use Rattle.bushy_plan.specs.BestTree.{IsTreeBefore}
+use Rattle.bushy_plan.specs.PlanTrees.{PlanTree, leaf, node, IsFirstEntry, IsSplit, IsTreeOver, leaf_set, joins_from, root_number}
 use Rattle.bushy_plan.specs.declared.weight.Weight.{Weight}
 use Rattle.bushy_plan.specs.declared.weight.Weight.TheVariants as weight
 
@@ -14,22 +14,22 @@ pub record IsBehindFirst (set behind : ℕ) : Type 0 where
   pub others : behind ≡ set - 2 ^ first
 
 -- the bound of a node and the weights of its two sides. Where the bound is above what a sum may have, nothing is heavier
-abbrev pub joined : Weight → ℕ → ℕ → ℕ → ℕ
-joined weight.Greatest bound left right = max bound (max left right)
-joined (weight.SumWithin most) bound left right = if nat_le bound most then (min (bound + left + right) top_bound) else top_bound
+abbrev pub combined : Weight → ℕ → ℕ → ℕ → ℕ
+combined weight.Greatest bound left right = max bound (max left right)
+combined (weight.SumWithin most) bound left right = if nat_le bound most then (min (bound + left + right) top_bound) else top_bound
 
 -- the weight of a tree: the bounds of its inner nodes, joined
-abbrev pub weight_of : Weight → List ℕ → JoinTree → ℕ
+abbrev pub weight_of : Weight → List ℕ → PlanTree → ℕ
 weight_of w bounds (leaf entry) = 0
-weight_of w bounds (node left right) = joined w (slice_index bounds (entries_of left
-    + entries_of right)) (weight_of w bounds left) (weight_of w bounds right)
+weight_of w bounds (node left right) = combined w (slice_index bounds (leaf_set left
+    + leaf_set right)) (weight_of w bounds left) (weight_of w bounds right)
 
 -- a tree over the set has this weight, and none is lighter
 pub record IsLeastWeight (w : Weight) (bounds : List ℕ) (set least : ℕ) : Type 0 where
-  pub tree : JoinTree
+  pub tree : PlanTree
   pub is_tree : IsTreeOver set tree
   pub weighs : weight_of w bounds tree ≡ least
-  pub none_lighter : (other : JoinTree) → IsTreeOver set other → least ≤ weight_of w bounds other
+  pub none_lighter : (other : PlanTree) → IsTreeOver set other → least ≤ weight_of w bounds other
 
 -- the table has the least weight for each set of a smaller number. Number 0 is no tree's set
 abbrev pub IsTable : Weight → List ℕ → List ℕ → ℕ → Type 0
@@ -37,7 +37,7 @@ IsTable w bounds table end = (set : ℕ) → 0 < set → set < end → IsLeastWe
 
 -- the weight of the lightest tree over the set whose right set is this one, by the table
 abbrev pub weight_through : Weight → List ℕ → List ℕ → ℕ → ℕ → ℕ
-weight_through w bounds table set right = joined w (slice_index bounds set) (slice_index table (set - right)) (slice_index table right)
+weight_through w bounds table set right = combined w (slice_index bounds set) (slice_index table (set - right)) (slice_index table right)
 
 -- the right set of a lightest split, and no greater one is of such: so its left set has the least number
 pub record IsFirstLightestSplit (w : Weight) (bounds table : List ℕ) (set right : ℕ) : Type 0 where
@@ -47,14 +47,14 @@ pub record IsFirstLightestSplit (w : Weight) (bounds table : List ℕ) (set righ
       → weight_through w bounds table set other ≢ slice_index table set
 
 -- no tree over the set is lighter, and none of its weight comes before it
-pub record IsFirstLightest (w : Weight) (bounds : List ℕ) (set : ℕ) (tree : JoinTree) : Type 0 where
+pub record IsFirstLightest (w : Weight) (bounds : List ℕ) (set : ℕ) (tree : PlanTree) : Type 0 where
   pub is_tree : IsTreeOver set tree
-  pub none_lighter : (other : JoinTree) → IsTreeOver set other → weight_of w bounds tree ≤ weight_of w bounds other
-  pub none_earlier : (other : JoinTree) → IsTreeOver set other → weight_of w bounds other ≡ weight_of w bounds tree → ¬ IsBefore other tree
+  pub none_lighter : (other : PlanTree) → IsTreeOver set other → weight_of w bounds tree ≤ weight_of w bounds other
+  pub none_earlier : (other : PlanTree) → IsTreeOver set other → weight_of w bounds other ≡ weight_of w bounds tree → ¬ IsTreeBefore other tree
 
 -- the joins of the first of the lightest trees were appended, and this is the number of its root. Inner nodes are numbered from `next` on
 pub record IsReadOff (w : Weight) (bounds : List ℕ) (next set : ℕ) (old new : List Join) (root : ℕ) : Type 0 where
-  pub tree : JoinTree
+  pub tree : PlanTree
   pub is_first : IsFirstLightest w bounds set tree
   pub joins : new ≡ old ++ joins_from bounds (next + length old) tree
   pub number : root ≡ root_number (next + length old) tree

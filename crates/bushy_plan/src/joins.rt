@@ -1,7 +1,7 @@
 //! The joins of the first of the lightest trees, read off the table from the root down.
 ghost use Rattle.std.specs.Prelude.{◌≡◌, ◌+◌, ◌<◌, ◌≤◌, length, slice_index, IfOk};
 ghost use Rattle.limits.specs.Profile.{greatest_budget, most_entries, top_bound};
-ghost use Rattle.bushy_plan.specs.JoinTrees.{IsTreeOver, JoinTree, inner_count};
+ghost use Rattle.bushy_plan.specs.PlanTrees.{IsTreeOver, PlanTree, inner_count};
 ghost use Rattle.bushy_plan.specs.Splits.{IsBehindFirst, IsFirstLightestSplit, IsReadOff, IsTable};
 
 use crate::splits::{behind_first, first_entry};
@@ -44,7 +44,7 @@ pub(crate) fn push_joins(
     requires filled { length table.now ≡ length bounds.now }
     requires table { IsTable (Weight.SumWithin most) bounds.now table.now (length bounds.now) }
     requires light { slice_index table.now set < top_bound }
-    requires numbers { (tree : JoinTree) → IsTreeOver set tree → length joins.old.items + inner_count tree < most_entries }
+    requires numbers { (tree : PlanTree) → IsTreeOver set tree → length joins.old.items + inner_count tree < most_entries }
     ensures { IfOk result (λ root. IsReadOff (Weight.SumWithin most) bounds.now count set joins.old.items joins.new.items root) }
 {
     let behind = behind_first(set);

@@ -2,23 +2,23 @@
 ghost use Rattle.std.specs.Prelude.{◌≡◌, ◌≤◌, ◌⊎◌, [], ◌∷◌, ℕ, List};
 ghost use Rattle.limits.specs.Profile.{greatest_budget};
 ghost use Rattle.tree_plans.specs.Examples.{join};
-ghost use Rattle.bushy_plan.specs.BestTree.{IsBefore, IsBest, cost, total};
+ghost use Rattle.bushy_plan.specs.BestTree.{IsTreeBefore, IsBest, cost, total};
 ghost use Rattle.bushy_plan.specs.Causes.{IsCause};
 ghost use Rattle.bushy_plan.specs.Examples.{one_pair, triangle};
-ghost use Rattle.bushy_plan.specs.JoinTrees.{JoinTree, entries_of, joins_from, leaf, node};
+ghost use Rattle.bushy_plan.specs.PlanTrees.{PlanTree, leaf_set, joins_from, leaf, node};
 ghost use Rattle.order_search.specs.declared.refusal.PlanError.{PlanError};
 ghost use Rattle.order_search.specs.declared.refusal.PlanError.TheVariants as error;
 
 /// Of any number of entries, over any bounds, exactly one tree is best.
 pub fn one_best_tree()
-    ensures some { (bounds : List ℕ) (n : ℕ) → 1 ≤ n → (best : JoinTree) × IsBest bounds n best }
-    ensures one { (bounds : List ℕ) (n : ℕ) (a b : JoinTree) → IsBest bounds n a → IsBest bounds n b → a ≡ b }
+    ensures some { (bounds : List ℕ) (n : ℕ) → 1 ≤ n → (best : PlanTree) × IsBest bounds n best }
+    ensures one { (bounds : List ℕ) (n : ℕ) (a b : PlanTree) → IsBest bounds n a → IsBest bounds n b → a ≡ b }
 {}
 
 /// Where the best tree costs no more than the budget, no refusal has a cause but want of memory; and besides that one refusal at most has
 /// one.
 pub fn one_answer()
-    ensures accepted { (bounds : List ℕ) (n budget : ℕ) (best : JoinTree) (e : PlanError) → budget ≤ greatest_budget
+    ensures accepted { (bounds : List ℕ) (n budget : ℕ) (best : PlanTree) (e : PlanError) → budget ≤ greatest_budget
         → IsBest bounds n best → cost bounds best ≤ budget → IsCause bounds n budget e → e ≡ error.NoMemory }
     ensures refused { (bounds : List ℕ) (n budget : ℕ) (e f : PlanError)
         → IsCause bounds n budget e → IsCause bounds n budget f
@@ -27,7 +27,7 @@ pub fn one_answer()
 
 /// What the definitions give for one, two and three entries.
 pub fn examples()
-    ensures entries { entries_of (node (leaf 0) (leaf 2)) ≡ 5 }
+    ensures entries { leaf_set (node (leaf 0) (leaf 2)) ≡ 5 }
     ensures alone { cost one_pair (leaf 0) ≡ 6 }
     ensures pair { joins_from one_pair 2 (node (leaf 0) (leaf 1)) ≡ join 0 1 12 ∷ [] }
     ensures triangle { joins_from triangle 3 (node (leaf 0) (node (leaf 1) (leaf 2))) ≡ join 1 2 5 ∷ join 0 3 9 ∷ [] }
@@ -36,5 +36,5 @@ pub fn examples()
     ensures best_pair { IsBest one_pair 2 (node (leaf 0) (leaf 1)) }
     ensures best_triangle { IsBest triangle 3 (node (leaf 0) (node (leaf 1) (leaf 2))) }
     ensures budget { IsCause one_pair 2 11 (error.Budget 12) }
-    ensures by_left { IsBefore (node (leaf 0) (node (leaf 1) (leaf 2))) (node (node (leaf 0) (leaf 1)) (leaf 2)) }
+    ensures by_left { IsTreeBefore (node (leaf 0) (node (leaf 1) (leaf 2))) (node (node (leaf 0) (leaf 1)) (leaf 2)) }
 {}

@@ -1,6 +1,6 @@
 //! The splits of a set, as the code goes through them. A set is the number whose bits are its entries, and so the place of its bound.
 ghost use Rattle.std.specs.Prelude.{◌<◌};
-ghost use Rattle.bushy_plan.specs.JoinTrees.{IsFirstEntry};
+ghost use Rattle.bushy_plan.specs.PlanTrees.{IsFirstEntry};
 ghost use Rattle.bushy_plan.specs.Splits.{IsBehindFirst};
 
 // The set's first entry.

@@ -1,6 +1,6 @@
 //! What the search keeps small.
 ghost use Rattle.std.specs.Prelude.{◌≡◌};
-ghost use Rattle.bushy_plan.specs.Splits.{joined as joined_of};
+ghost use Rattle.bushy_plan.specs.Splits.{combined as joined_of};
 
 use limits::TOP_BOUND;
 

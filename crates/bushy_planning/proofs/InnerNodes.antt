@@ -14,10 +14,10 @@ use Rattle.tree_rows.specs.Rooms.{bound_at, bound_in}
 use Rattle.tree_rows.specs.Trees.{entries_at, node_entries, singles, with_joins}
 use Rattle.tree_rows.proofs.Once.{plan_once, singles_at, singles_length}
 use Rattle.bushy_plan.specs.BestTree.{all_of, IsBestPlan}
-use Rattle.bushy_plan.specs.JoinTrees.{IsTreeOver, JoinTree, leaf, entries_of}
+use Rattle.bushy_plan.specs.PlanTrees.{IsTreeOver, PlanTree, leaf, leaf_set}
 use Rattle.bushy_planning.proofs.Subtrees.{all_whole, bound_of, bounds_are, joins_are, leaves, set_of_leaves, subtrees, with_tree, HaveLeaves, IsWhole}
 
-all_at : (P : JoinTree → Type 0) (trees : List JoinTree) (k : ℕ) (d : JoinTree) → AllByRecursion P trees → k < length trees
+all_at : (P : PlanTree → Type 0) (trees : List PlanTree) (k : ℕ) (d : PlanTree) → AllByRecursion P trees → k < length trees
     → P (get_or trees k d)
 all_at P [] k d all low = absurd (omega arith)
 all_at P (tree ∷ trees) zero d all low = all.0
@@ -48,7 +48,7 @@ module _ (n : ℕ) (sets : List ℕ) (plan : BushyPlan) (is : IsTreePlan n plan)
       ∙ length-map (subtrees best.tree) (bound_of sets)
 
   module _ (k : ℕ) (low : k < length plan.joins) where
-    subtree : JoinTree
+    subtree : PlanTree
     subtree = get_or (subtrees best.tree) k (leaf 0)
 
     whole : IsWhole n subtree
@@ -78,7 +78,7 @@ module _ (n : ℕ) (sets : List ℕ) (plan : BushyPlan) (is : IsTreePlan n plan)
         ∙ ap (λ (s : List ℕ). get_or s k 0) all_bounds
         ∙ get_or-map (bound_of sets) (subtrees best.tree) k (leaf 0) 0 (omega (arith, low, as_many))
 
-    its_set : set_of (entries_at plan (n + k)) ≡ entries_of subtree
+    its_set : set_of (entries_at plan (n + k)) ≡ leaf_set subtree
     its_set = ap set_of its_entries ∙ set_of_leaves subtree
 
     -- ---- of its entries

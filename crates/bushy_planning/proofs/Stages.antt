@@ -19,7 +19,7 @@ use Rattle.tree_rows.specs.Rooms.{bound_at}
 use Rattle.tree_rows.specs.Trees.{node_count}
 use Rattle.bushy_join.specs.Trees.{node_rows, IsTreePlanOf}
 use Rattle.planning.specs.declared.known.Known.{Known}
-use Rattle.planning.specs.Gives.{Gives}
+use Rattle.planning.specs.HasBounds.{HasBounds}
 use Rattle.planning.specs.Standing.{BoundLevels, BoundLists}
 use Rattle.bushy_planning.proofs.NeverUnder.{never_under, node_fits}
 
@@ -71,7 +71,7 @@ module _ (query : Query) (tables : Tables) (lists : List (List ℕ)) (sets scans
 
 -- ---- over bounds that are known
 
-pub answer_given : (sets scans : List ℕ) (known : Known) → Gives sets scans known → (budget : ℕ) (answer : Result BushyPlan PlanError)
+pub answer_given : (sets scans : List ℕ) (known : Known) → HasBounds sets scans known → (budget : ℕ) (answer : Result BushyPlan PlanError)
     → (answer ≡ Err error.NoMemory) ⊎ (answer ≡ tree_answer known.sets known.scans budget) → (answer ≡ Err error.NoMemory) ⊎ (answer ≡ tree_answer sets scans budget)
 answer_given sets scans known gives budget answer (inl none) = inl none
 answer_given sets scans known gives budget answer (inr is) =

@@ -7,39 +7,39 @@ use Rattle.entry_sets.specs.Sets.{set_of}
 use Rattle.entry_sets.proofs.Bits.{entry_below}
 use Rattle.berge_tree.proofs.Separate.{all_append}
 use Rattle.tree_plans.specs.declared.bushy.Join.{Join}
-use Rattle.bushy_plan.specs.JoinTrees.{IsTreeOver, JoinTree, leaf, node, entries_of, inner_count, joins_from, root_number}
+use Rattle.bushy_plan.specs.PlanTrees.{IsTreeOver, PlanTree, leaf, node, leaf_set, inner_count, joins_from, root_number}
 use Rattle.bushy_plan.proofs.Splitting.{split_sum}
 use Rattle.tree_rows.specs.Trees.{with_joins}
 use Rattle.tree_rows.proofs.Once.{at, joins_more, sides}
 
 -- the entries at its leaves from left to right
-abbrev pub leaves : JoinTree → List ℕ
+abbrev pub leaves : PlanTree → List ℕ
 leaves (leaf entry) = entry ∷ []
 leaves (node left right) = leaves left ++ leaves right
 
 -- the trees at its inner nodes, in the order of their numbers
-abbrev pub subtrees : JoinTree → List JoinTree
+abbrev pub subtrees : PlanTree → List PlanTree
 subtrees (leaf entry) = []
 subtrees (node left right) = subtrees left ++ subtrees right ++ node left right ∷ []
 
-pub length-subtrees : (tree : JoinTree) → length (subtrees tree) ≡ inner_count tree
+pub length-subtrees : (tree : PlanTree) → length (subtrees tree) ≡ inner_count tree
 length-subtrees (leaf entry) = refl
 length-subtrees (node left right) =
     omega (
       arith,
-      length-append {A = JoinTree} (subtrees left ++ subtrees right) (node left right ∷ []),
-      length-append {A = JoinTree} (subtrees left) (subtrees right),
+      length-append {A = PlanTree} (subtrees left ++ subtrees right) (node left right ∷ []),
+      length-append {A = PlanTree} (subtrees left) (subtrees right),
       length-subtrees left,
       length-subtrees right,
     )
 
 -- ---- bounds
 
-abbrev pub bound_of : List ℕ → JoinTree → ℕ
-bound_of bounds tree = get_or bounds (entries_of tree) 0
+abbrev pub bound_of : List ℕ → PlanTree → ℕ
+bound_of bounds tree = get_or bounds (leaf_set tree) 0
 
 -- each join has the bound of its tree's entries
-pub bounds_are : (bounds : List ℕ) (next : ℕ) (tree : JoinTree)
+pub bounds_are : (bounds : List ℕ) (next : ℕ) (tree : PlanTree)
     → map (λ join. join.bound) (joins_from bounds next tree) ≡ map (bound_of bounds) (subtrees tree)
 bounds_are bounds next (leaf entry) = refl
 bounds_are bounds next (node left right) =
@@ -60,24 +60,24 @@ bounds_are bounds next (node left right) =
 -- ---- sets
 
 -- a tree over the set of its own leaves, of entries below n
-pub record IsWhole (n : ℕ) (tree : JoinTree) : Type 0 where
-  pub over : IsTreeOver (entries_of tree) tree
-  pub fits : entries_of tree < 2 ^ n
+pub record IsWhole (n : ℕ) (tree : PlanTree) : Type 0 where
+  pub over : IsTreeOver (leaf_set tree) tree
+  pub fits : leaf_set tree < 2 ^ n
 
-pub all_whole : (n set : ℕ) (tree : JoinTree) → set < 2 ^ n → IsTreeOver set tree → AllByRecursion (IsWhole n) (subtrees tree)
+pub all_whole : (n set : ℕ) (tree : PlanTree) → set < 2 ^ n → IsTreeOver set tree → AllByRecursion (IsWhole n) (subtrees tree)
 all_whole n set (leaf entry) fits is_tree = tt
 all_whole n set (node left right) fits is_tree =
-    let whole : entries_of left + entries_of right ≡ set = split_sum set (entries_of left) (entries_of right) is_tree.0 in
+    let whole : leaf_set left + leaf_set right ≡ set = split_sum set (leaf_set left) (leaf_set right) is_tree.0 in
     all_append (IsWhole n) (subtrees left ++ subtrees right) (node left right ∷ [])
-    (all_append (IsWhole n) (subtrees left) (subtrees right) (all_whole n (entries_of left) left (omega arith) is_tree.1)
-    (all_whole n (entries_of right) right (omega arith) is_tree.2))
+    (all_append (IsWhole n) (subtrees left) (subtrees right) (all_whole n (leaf_set left) left (omega arith) is_tree.1)
+    (all_whole n (leaf_set right) right (omega arith) is_tree.2))
     (record { over = subst (λ (s : ℕ). IsTreeOver s (node left right)) (sym whole) is_tree; fits = omega arith }, tt)
 
 set_of_both : (xs ys : List ℕ) → set_of (xs ++ ys) ≡ set_of xs + set_of ys
 set_of_both [] ys = omega arith
 set_of_both (x ∷ xs) ys = omega (arith, set_of_both xs ys)
 
-pub set_of_leaves : (tree : JoinTree) → set_of (leaves tree) ≡ entries_of tree
+pub set_of_leaves : (tree : PlanTree) → set_of (leaves tree) ≡ leaf_set tree
 set_of_leaves (leaf entry) = omega arith
 set_of_leaves (node left right) = omega (arith, set_of_both (leaves left) (leaves right), set_of_leaves left, set_of_leaves right)
 
@@ -99,15 +99,15 @@ more_leaves n nodes others have entry low =
     )
 
 -- the nodes of a tree behind others
-abbrev pub with_tree : List (List ℕ) → JoinTree → List (List ℕ)
+abbrev pub with_tree : List (List ℕ) → PlanTree → List (List ℕ)
 with_tree nodes tree = nodes ++ map leaves (subtrees tree)
 
-length-with_tree : (nodes : List (List ℕ)) (tree : JoinTree) → length (with_tree nodes tree) ≡ length nodes + inner_count tree
+length-with_tree : (nodes : List (List ℕ)) (tree : PlanTree) → length (with_tree nodes tree) ≡ length nodes + inner_count tree
 length-with_tree nodes tree =
     omega (arith, length-append nodes (map leaves (subtrees tree)), length-map (subtrees tree) leaves, length-subtrees tree)
 
 -- behind a tree's nodes but the last one stands that one
-last_stands : (nodes : List (List ℕ)) (left right : JoinTree)
+last_stands : (nodes : List (List ℕ)) (left right : PlanTree)
     → with_tree (with_tree nodes left) right ++ leaves (node left right) ∷ [] ≡ with_tree nodes (node left right)
 last_stands nodes left right =
     ap (λ (s : List (List ℕ)). s ++ leaves (node left right) ∷ [])
@@ -117,11 +117,11 @@ last_stands nodes left right =
     ∙ ap (λ (s : List (List ℕ)). nodes ++ s) (sym (map-append leaves (subtrees left ++ subtrees right) (node left right ∷ [])))
 
 -- the root is one of these nodes, and its entries are the tree's
-record RootStands (nodes : List (List ℕ)) (next : ℕ) (tree : JoinTree) : Type 0 where
+record RootStands (nodes : List (List ℕ)) (next : ℕ) (tree : PlanTree) : Type 0 where
   is_there : root_number next tree < length (with_tree nodes tree)
   entries : at (with_tree nodes tree) (root_number next tree) ≡ leaves tree
 
-root_stands : (n set next : ℕ) (nodes : List (List ℕ)) (tree : JoinTree) → length nodes ≡ next → HaveLeaves n nodes
+root_stands : (n set next : ℕ) (nodes : List (List ℕ)) (tree : PlanTree) → length nodes ≡ next → HaveLeaves n nodes
     → set < 2 ^ n → IsTreeOver set tree → RootStands nodes next tree
 root_stands n set next nodes (leaf entry) long have fits is_tree =
     let below : entry < n = entry_below n (2 ^ entry) entry (omega arith) (bit_at-pow_same entry) in
@@ -137,17 +137,17 @@ root_stands n set next nodes (node left right) long have fits is_tree =
           ∙ get_or_push front (leaves (node left right)) [] (root_number next (node left right)) place;
     }
 
-root_later : (nodes others : List (List ℕ)) (next : ℕ) (tree : JoinTree) → RootStands nodes next tree
+root_later : (nodes others : List (List ℕ)) (next : ℕ) (tree : PlanTree) → RootStands nodes next tree
     → at (with_tree nodes tree ++ others) (root_number next tree) ≡ leaves tree
 root_later nodes others next tree stands =
     get_or_append_left (with_tree nodes tree) others [] (root_number next tree) stands.is_there ∙ stands.entries
 
 -- the entries of the joins of a tree are those at the leaves of its nodes
-pub joins_are : (bounds : List ℕ) (n set next : ℕ) (nodes : List (List ℕ)) (tree : JoinTree) → length nodes ≡ next → HaveLeaves n nodes
+pub joins_are : (bounds : List ℕ) (n set next : ℕ) (nodes : List (List ℕ)) (tree : PlanTree) → length nodes ≡ next → HaveLeaves n nodes
     → set < 2 ^ n → IsTreeOver set tree → with_joins nodes (joins_from bounds next tree) ≡ with_tree nodes tree
 joins_are bounds n set next nodes (leaf entry) long have fits is_tree = sym (append-nil nodes)
 joins_are bounds n set next nodes (node left right) long have fits is_tree =
-    let whole : entries_of left + entries_of right ≡ set = split_sum set (entries_of left) (entries_of right) is_tree.0 in
+    let whole : leaf_set left + leaf_set right ≡ set = split_sum set (leaf_set left) (leaf_set right) is_tree.0 in
     let of_left = joins_from bounds next left in
     let of_right = joins_from bounds (next + inner_count left) right in
     let own : Join = record {
@@ -162,13 +162,13 @@ joins_are bounds n set next nodes (node left right) long have fits is_tree =
     let both : with_joins nodes (of_left ++ of_right) ≡ third =
     joins_both nodes of_left of_right
     ∙ ap (λ (s : List (List ℕ)). with_joins s of_right)
-    (joins_are bounds n (entries_of left) next nodes left long have (omega arith) is_tree.1)
-    ∙ joins_are bounds n (entries_of right) (next + inner_count left) second right long_second have_second (omega arith) is_tree.2 in
+    (joins_are bounds n (leaf_set left) next nodes left long have (omega arith) is_tree.1)
+    ∙ joins_are bounds n (leaf_set right) (next + inner_count left) second right long_second have_second (omega arith) is_tree.2 in
     let left_side : at third own.left ≡ leaves left =
     root_later nodes (map leaves (subtrees right)) next left
-    (root_stands n (entries_of left) next nodes left long have (omega arith) is_tree.1) in
+    (root_stands n (leaf_set left) next nodes left long have (omega arith) is_tree.1) in
     let right_side : at third own.right ≡ leaves right =
-    (root_stands n (entries_of right) (next + inner_count left) second right long_second have_second (omega arith) is_tree.2).entries in
+    (root_stands n (leaf_set right) (next + inner_count left) second right long_second have_second (omega arith) is_tree.2).entries in
     joins_more nodes (of_left ++ of_right) own
     ∙ ap (λ (s : List (List ℕ)). s ++ sides s own ∷ []) both
     ∙ ap (λ (s : List ℕ). third ++ (s ++ at third own.right) ∷ []) left_side

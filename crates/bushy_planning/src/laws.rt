@@ -4,7 +4,7 @@ ghost use Rattle.limits.specs.Profile.{most_entries, most_rows};
 ghost use Rattle.query_types.specs.declared.types.Query.{Query};
 ghost use Rattle.sql_meaning.specs.Tables.{Tables, row_counts};
 ghost use Rattle.tree_plans.specs.declared.bushy.BushyPlan.{BushyPlan};
-ghost use Rattle.tree_plans.specs.TreePlans.{IsTreePlan, IsWithin};
+ghost use Rattle.tree_plans.specs.TreePlans.{IsTreePlan, BoundsAreWithin};
 ghost use Rattle.bushy_plan.specs.BestTree.{IsBestPlan};
 ghost use Rattle.tree_answers.specs.TreeAnswer.{tree_answer};
 ghost use Rattle.tree_rows.specs.Rooms.{bound_at};
@@ -18,7 +18,7 @@ ghost use Rattle.planning.specs.Standing.{BoundLevels, BoundLists};
 pub fn best_trees_are_never_under()
     ensures over_bounds { (query : Query) (tables : Tables) (lists : List (List ℕ)) (sets : List ℕ) (plan : BushyPlan)
         → BoundLevels query tables lists sets → BoundLists query tables lists plan.scans
-        → IsTreePlan (length query.from) plan → IsWithin most_rows plan → IsBestPlan sets (length query.from) plan
+        → IsTreePlan (length query.from) plan → BoundsAreWithin most_rows plan → IsBestPlan sets (length query.from) plan
         → IsTreePlanOf query tables lists plan }
     ensures plan { (query : Query) (tables : Tables) (lists : List (List ℕ)) (sets scans : List ℕ) (budget : ℕ) (plan : BushyPlan)
         → BoundLists query tables lists scans → 1 ≤ length query.from → length query.from ≤ most_entries

@@ -11,8 +11,8 @@ use Rattle.degree_sequences.specs.Degrees.{degree, different}
 use Rattle.degree_sequences.proofs.Rearranged.{degrees_positive}
 use Rattle.cond_stats.specs.declared.groups.Group.{Group}
 use Rattle.cond_stats.specs.Frequency.{first_place, comes_before}
-use Rattle.cond_stats.specs.Order.{TellsOrder, AreInOrder}
-use Rattle.cond_stats.specs.Runs.{IsRun, AreRuns, AreGroups, value_of_group}
+use Rattle.cond_stats.specs.Order.{TellsOrder, AreInValueOrder}
+use Rattle.cond_stats.specs.Runs.{IsRun, AreRunsOfNumbers, AreGroups, value_of_group}
 use Rattle.cond_stats.specs.Windows.{IsWindow}
 use Rattle.cond_stats.proofs.InOrderFacts.{has_degree, place_of_degree, degree-different, value_at, as_many, places_within, there, number_at, place_found, same_value, same_number}
 use Rattle.cond_stats.proofs.RunsFound.{number_of_run}
@@ -108,7 +108,7 @@ tells_frequency column = record {
 
 -- ---- the groups
 
-module _ {at_most : ℕ → ℕ → Bool} {column numbers places : List ℕ} (order : AreInOrder at_most column numbers places) (lengths : length numbers ≡ length places) where
+module _ {at_most : ℕ → ℕ → Bool} {column numbers places : List ℕ} (order : AreInValueOrder at_most column numbers places) (lengths : length numbers ≡ length places) where
   value_of_run : (run : Group) → IsRun numbers places run → value_of_group column run ≡ value_at column places run.start
   value_of_run run is = ap (λ p. get_or column p 0) is.first
 
@@ -182,7 +182,7 @@ module _ {at_most : ℕ → ℕ → Bool} {column numbers places : List ℕ} (or
       omega (arith, ih, ap (λ b. cond {A = ℕ} b 1 0) here, degree-cons (order.number v) (map order.number D) (order.number a), degree-cons v D a)
 
   -- each value of the column has one group
-  pub degree-of_values : (runs : List Group) → AreRuns numbers places runs → (a : ℕ) → degree (map (value_of_group column) runs) a ≡ degree (different column) a
+  pub degree-of_values : (runs : List Group) → AreRunsOfNumbers numbers places runs → (a : ℕ) → degree (map (value_of_group column) runs) a ≡ degree (different column) a
   degree-of_values runs are a = elim (cases_lt 0 (degree column a)) [
     | inl some ↦ (let D : List ℕ = map (value_of_group column) runs in
         let place = place_of_degree column a some in
@@ -205,7 +205,7 @@ module _ {at_most : ℕ → ℕ → Bool} {column numbers places : List ℕ} (or
   ]
 
   -- groups that are sorted by count and first row are the values in the order of their frequency
-  pub groups_found : (runs groups : List Group) → AreRuns numbers places runs → IsPermutation runs groups
+  pub groups_found : (runs groups : List Group) → AreRunsOfNumbers numbers places runs → IsPermutation runs groups
       → Rises (frequency_number column) (map (value_of_group column) groups) → AreGroups column places groups
   groups_found runs groups are moved rises = record {
     values = in_order_is (frequency_number column) (comes_before column) column (different column) (map (value_of_group column) groups) (tells_frequency column) (degrees_positive column)
@@ -222,7 +222,7 @@ module _ {at_most : ℕ → ℕ → Bool} {column numbers places : List ℕ} (or
   no_group = record { first = 0; start = 0; count = 0 }
 
   -- and so are groups that a sort by these two left
-  pub groups_sorted : (runs groups : List Group) → length places < 2 ^ 32 → AreRuns numbers places runs → IsPermutation runs groups
+  pub groups_sorted : (runs groups : List Group) → length places < 2 ^ 32 → AreRunsOfNumbers numbers places runs → IsPermutation runs groups
       → ((i j : ℕ) (d : Group) → i ≤ j → j < length groups → PairLe (4294967295 - (get_or groups i d).count) (get_or groups i d).first (4294967295 - (get_or groups j d).count) (get_or groups j d).first)
       → AreGroups column places groups
   groups_sorted runs groups short are moved up = groups_found runs groups are moved

@@ -5,7 +5,7 @@ use Rattle.std.proofs.lemmas.Bool.{cases_lt, lt-ltb, le-ltb, leb-true, leb-false
 use Rattle.std.proofs.lemmas.List.{get_or-map, get_or_append_left, get_or_push, length-map}
 use Rattle.degree_sequences.specs.Degrees.{degree, different}
 use Rattle.cond_stats.specs.declared.groups.Group.{Group}
-use Rattle.cond_stats.specs.Runs.{IsRun, AreRuns, IsLeafStart}
+use Rattle.cond_stats.specs.Runs.{IsRun, AreRunsOfNumbers, IsLeafStart}
 use Rattle.cond_stats.proofs.InOrderFacts.{has_degree, place_of_degree, degree-different}
 use Rattle.cond_stats.proofs.LeavesFound.{cut_place, cut_place-within}
 use Rattle.cond_stats.proofs.RunsFound.{number_of_run}
@@ -14,7 +14,7 @@ use Rattle.cond_stats.proofs.RunsFound.{number_of_run}
 abbrev pub no_run : Group
 no_run = record { first = 0; start = 0; count = 0 }
 
-module _ {numbers places : List ℕ} {runs : List Group} (are : AreRuns numbers places runs) where
+module _ {numbers places : List ℕ} {runs : List Group} (are : AreRunsOfNumbers numbers places runs) where
   -- the starts of runs don't fall
   pub starts_rise : IsNonDecreasingBy (λ (run : Group). run.start) runs
   starts_rise i j d low within = elim (cases_lt i j) [

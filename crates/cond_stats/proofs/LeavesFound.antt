@@ -8,7 +8,7 @@ use Rattle.std.proofs.lemmas.List.FromFn.{get_or-map-range_with_len, length-rang
 use Rattle.std.proofs.lemmas.List.Sorted.{sum_by-IsPermutation}
 use Rattle.degree_sequences.proofs.Places.{sum_by-places}
 use Rattle.cond_stats.specs.Leaves.{cuts, in_order, leaf_of}
-use Rattle.cond_stats.specs.Order.{AreInOrder}
+use Rattle.cond_stats.specs.Order.{AreInValueOrder}
 use Rattle.cond_stats.specs.Runs.{AreStarts, IsLeafStart}
 use Rattle.cond_stats.proofs.InOrderFacts.{value_at, as_many, there, number_at}
 use Rattle.cond_stats.proofs.LastPlaces.{last_place-below}
@@ -45,7 +45,7 @@ not_leb a b = elim (cases_lt b a) [
   | inr h ↦ ap not (le-leb a b h) ∙ sym (le-ltb b a h)
 ]
 
-module _ {at_most : ℕ → ℕ → Bool} {column numbers places : List ℕ} (order : AreInOrder at_most column numbers places) where
+module _ {at_most : ℕ → ℕ → Bool} {column numbers places : List ℕ} (order : AreInValueOrder at_most column numbers places) where
   -- the values at the places are the values in order
   pub values_in_order : map (λ p. get_or column p 0) places ≡ in_order at_most column
   values_in_order =

@@ -9,7 +9,7 @@ use Rattle.degree_sequences.specs.Degrees.{degree, different}
 use Rattle.degree_lists.proofs.OneMoreKey.{different-run}
 use Rattle.degree_lists.proofs.RunLengths.{take-run, degree-above}
 use Rattle.cond_stats.specs.declared.groups.Group.{Group}
-use Rattle.cond_stats.specs.Runs.{IsRun, AreRuns, ends_run}
+use Rattle.cond_stats.specs.Runs.{IsRun, AreRunsOfNumbers, ends_run}
 
 -- the number of a run
 abbrev pub number_of_run : List ℕ → Group → ℕ
@@ -149,7 +149,7 @@ run_ends numbers places runs start i run up so within end_here first_is start_is
     ]
 
 -- at the end of the numbers every run is found
-pub all_runs : (numbers places : List ℕ) (runs : List Group) (start i : ℕ) → RunsSoFar numbers places runs start i → length numbers ≤ i → AreRuns numbers places runs
+pub all_runs : (numbers places : List ℕ) (runs : List Group) (start i : ℕ) → RunsSoFar numbers places runs start i → length numbers ≤ i → AreRunsOfNumbers numbers places runs
 all_runs numbers places runs start i so end =
     let none : length numbers ≤ start = elim (cases_lt start i) [ inl h ↦ absurd (omega (arith, so.more h)) | inr h ↦ omega arith ] in
     record { each = so.each; all = so.all ∙ ap different (take_all start numbers none); ascend = so.ascend }

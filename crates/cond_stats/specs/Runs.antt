@@ -4,7 +4,7 @@ use Rattle.degree_sequences.specs.Degrees.{different}
 use Rattle.cond_stats.specs.declared.groups.Group.{Group}
 use Rattle.cond_stats.specs.Frequency.{by_frequency}
 use Rattle.cond_stats.specs.Leaves.{leaf_of}
-use Rattle.cond_stats.specs.Order.{AreInOrder, AreSorted, numbers_at}
+use Rattle.cond_stats.specs.Order.{AreInValueOrder, AreSorted, numbers_at}
 use Rattle.cond_stats.specs.Windows.{IsWindow}
 
 -- the rows of one number among rows in ascending order of their numbers
@@ -17,7 +17,7 @@ pub record IsRun (numbers places : List ℕ) (run : Group) : Type 0 where
   pub higher : (k : ℕ) → run.start + run.count ≤ k → k < length numbers → slice_index numbers run.start < slice_index numbers k
 
 -- each number has its run, and just one, and the runs are in the order of their starts
-pub record AreRuns (numbers places : List ℕ) (runs : List Group) : Type 0 where
+pub record AreRunsOfNumbers (numbers places : List ℕ) (runs : List Group) : Type 0 where
   pub each : All (IsRun numbers places) runs
   pub all : map (λ run. slice_index numbers run.start) runs ≡ different numbers
   pub ascend : (i j : ℕ) (none : Group) → i < j → j < length runs → (slice_index_or runs i none).start < (slice_index_or runs j none).start
@@ -25,13 +25,13 @@ pub record AreRuns (numbers places : List ℕ) (runs : List Group) : Type 0 wher
 -- the places of numbers in ascending order of these, those of one number in their own order, and the runs of equal numbers
 pub record AreSortedInRuns (numbers places : List ℕ) (runs : List Group) : Type 0 where
   pub sorted : AreSorted numbers (numbers_at numbers places) places
-  pub runs_are : AreRuns (numbers_at numbers places) places runs
+  pub runs_are : AreRunsOfNumbers (numbers_at numbers places) places runs
 
 -- the places of a column in ascending order of their values, those of one value in their own order, and the runs of equal values
 pub record AreInRuns (at_most : ℕ → ℕ → Bool) (column places : List ℕ) (runs : List Group) : Type 0 where
   pub numbers : List ℕ
-  pub order : AreInOrder at_most column numbers places
-  pub runs_are : AreRuns numbers places runs
+  pub order : AreInValueOrder at_most column numbers places
+  pub runs_are : AreRunsOfNumbers numbers places runs
 
 -- the value of a group
 abbrev pub value_of_group : List ℕ → Group → ℕ

@@ -1,8 +1,8 @@
 //! The cuts of a column, and where its leaves begin among the rows in order.
 ghost use Rattle.std.specs.Prelude.{◌≡◌, ℕ, ◌<◌, ◌≤◌, ◌^◌, Bool, List, length, All, IfOk};
 ghost use Rattle.cond_stats.specs.Leaves.{cuts as cuts_of_column};
-ghost use Rattle.cond_stats.specs.Order.{AreInOrder};
-ghost use Rattle.cond_stats.specs.Runs.{AreInRuns, AreRuns, AreStarts, IsLeafStart};
+ghost use Rattle.cond_stats.specs.Order.{AreInValueOrder};
+ghost use Rattle.cond_stats.specs.Runs.{AreInRuns, AreRunsOfNumbers, AreStarts, IsLeafStart};
 
 use crate::groups::Group;
 use base_io::NoMemory;
@@ -13,7 +13,7 @@ pub(crate) fn cuts_of(alloc: Global, cells: &[u64], places: &[u32]) -> Result<Ve
     requires places { All (λ place. place < length cells.now) places.now }
     requires rows { length places.now < 2 ^ 32 }
     ensures { IfOk result (λ cuts. (at_most : ℕ → ℕ → Bool) (numbers : List ℕ)
-        → AreInOrder at_most cells.now numbers places.now → cuts.items ≡ cuts_of_column at_most cells.now) }
+        → AreInValueOrder at_most cells.now numbers places.now → cuts.items ≡ cuts_of_column at_most cells.now) }
 {
     let mut cuts = Vec::new(alloc);
     if places.is_empty() {
@@ -41,7 +41,7 @@ pub(crate) fn leaf_starts(alloc: Global, runs: &[Group], rows: u32) -> Result<Ve
 // How many rows have a leaf below this one: those before the run with the leaf's cut. Below 32, which is the end, lie all.
 fn leaf_start(runs: &[Group], rows: u32, leaf: u32) -> u32
     requires leaf { leaf ≤ 32 }
-    ensures { (numbers places : List ℕ) → length numbers ≡ rows → AreRuns numbers places runs.now → IsLeafStart numbers leaf result }
+    ensures { (numbers places : List ℕ) → length numbers ≡ rows → AreRunsOfNumbers numbers places runs.now → IsLeafStart numbers leaf result }
 {
     if leaf == 32 {
         return rows;

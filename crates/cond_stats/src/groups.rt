@@ -1,7 +1,7 @@
 //! The runs of equal values, and their order by frequency.
 ghost use Rattle.std.specs.Prelude.{◌≡◌, ℕ, ◌<◌, ◌^◌, Bool, List, length, IfOk};
 ghost use Rattle.std.specs.List.Sorted.{IsNonDecreasing};
-ghost use Rattle.cond_stats.specs.Runs.{AreGroups, AreInRuns, AreRuns, ends_run};
+ghost use Rattle.cond_stats.specs.Runs.{AreGroups, AreInRuns, AreRunsOfNumbers, ends_run};
 
 use base_io::NoMemory;
 use std::alloc::Global;
@@ -33,7 +33,7 @@ pub(crate) fn runs_of(
     requires lengths { length numbers.now ≡ length places.now }
     requires rows { length places.now < 2 ^ 32 }
     requires ascend { IsNonDecreasing numbers.now }
-    ensures { IfOk result (λ runs. AreRuns numbers.now places.now runs.items) }
+    ensures { IfOk result (λ runs. AreRunsOfNumbers numbers.now places.now runs.items) }
 {
     let mut runs = Vec::new(alloc);
     let mut start: usize = 0;

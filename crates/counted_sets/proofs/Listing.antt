@@ -7,7 +7,7 @@ use Rattle.std.proofs.lemmas.Bool.{cases_eq, cases_lt}
 use Rattle.std.proofs.lemmas.List.{get_or_push, get_or-set_same, get_or-set_other, length-set, take_more, length-take-le}
 use Rattle.std.proofs.lemmas.List.Elements.{Contains-append_left, Contains-append_right}
 use Rattle.row_buf.specs.Rows.{Rows}
-use Rattle.counted_sets.specs.Counts.{AreListed, Extends, IsWorkOf, positives}
+use Rattle.counted_sets.specs.Counts.{EmptySlotsAreListed, Extends, IsWorkOf, positives}
 
 pub positives-set_zero : (counts : List ℕ) (q : ℕ) → q < length counts → 0 < get_or counts q 0 → positives (set counts q 0) + 1 ≡ positives counts
 positives-set_zero [] q h some = absurd (omega arith)
@@ -52,7 +52,7 @@ extends_more a b c f g = record {
   same = λ p h. g.same p (omega (arith, f.longer)) ∙ f.same p h;
 }
 
-pub listed_zero : (counts work : List ℕ) → AreListed counts work → AreListed (counts ++ 0 ∷ []) (work ++ length counts ∷ [])
+pub listed_zero : (counts work : List ℕ) → EmptySlotsAreListed counts work → EmptySlotsAreListed (counts ++ 0 ∷ []) (work ++ length counts ∷ [])
 listed_zero counts work listed = record {
   within = λ p h. pushed_place (λ q. q < length (counts ++ 0 ∷ [])) work (length counts) p h (λ before. omega (arith, listed.within p before, length-append counts (0 ∷ []))) (omega (arith, length-append counts (0 ∷ [])));
   zero_there = λ p h. pushed_place (λ q. get_or (counts ++ 0 ∷ []) q 0 ≡ 0) work (length counts) p h
@@ -65,7 +65,7 @@ listed_zero counts work listed = record {
   room = omega (arith, listed.room, length-append counts (0 ∷ []), length-append work (length counts ∷ []), positives-push_zero counts);
 }
 
-pub listed_some : (counts work : List ℕ) (m : ℕ) → AreListed counts work → AreListed (counts ++ suc m ∷ []) work
+pub listed_some : (counts work : List ℕ) (m : ℕ) → EmptySlotsAreListed counts work → EmptySlotsAreListed (counts ++ suc m ∷ []) work
 listed_some counts work m listed = record {
   within = λ p h. omega (arith, listed.within p h, length-append counts (suc m ∷ []));
   zero_there = λ p h. get_or-append counts (suc m ∷ []) 0 (get_or work p 0) (listed.within p h) ∙ listed.zero_there p h;
@@ -77,12 +77,12 @@ listed_some counts work m listed = record {
 }
 
 -- a listed slot isn't one of count above 0
-listed_apart : (counts work : List ℕ) (q p : ℕ) → AreListed counts work → 0 < get_or counts q 0 → p < length work → get_or work p 0 ≡ q → ⊥
+listed_apart : (counts work : List ℕ) (q p : ℕ) → EmptySlotsAreListed counts work → 0 < get_or counts q 0 → p < length work → get_or work p 0 ≡ q → ⊥
 listed_apart counts work q p listed some h is =
     let none : get_or counts q 0 ≡ 0 = subst (λ k. get_or counts k 0 ≡ 0) is (listed.zero_there p h) in omega (arith, none, some)
 
 -- the last of a slot is taken
-pub listed_last : (counts work : List ℕ) (q : ℕ) → q < length counts → 0 < get_or counts q 0 → AreListed counts work → AreListed (set counts q 0) (work ++ q ∷ [])
+pub listed_last : (counts work : List ℕ) (q : ℕ) → q < length counts → 0 < get_or counts q 0 → EmptySlotsAreListed counts work → EmptySlotsAreListed (set counts q 0) (work ++ q ∷ [])
 listed_last counts work q within some listed = record {
   within = λ p h. pushed_place (λ k. k < length (set counts q 0)) work q p h (λ before. omega (arith, listed.within p before, length-set counts q 0)) (omega (arith, length-set counts q 0));
   zero_there = λ p h. pushed_place (λ k. get_or (set counts q 0) k 0 ≡ 0) work q p h
@@ -96,7 +96,7 @@ listed_last counts work q within some listed = record {
 }
 
 -- one of several is taken
-pub listed_less : (counts work : List ℕ) (q n : ℕ) → q < length counts → 0 < get_or counts q 0 → AreListed counts work → AreListed (set counts q (suc n)) work
+pub listed_less : (counts work : List ℕ) (q n : ℕ) → q < length counts → 0 < get_or counts q 0 → EmptySlotsAreListed counts work → EmptySlotsAreListed (set counts q (suc n)) work
 listed_less counts work q n within some listed = record {
   within = λ p h. omega (arith, listed.within p h, length-set counts q (suc n));
   zero_there = λ p h. get_or-set_other counts q (get_or work p 0) (suc n) 0 (listed_apart counts work q p listed some h) ∙ listed.zero_there p h;
@@ -116,7 +116,7 @@ some_room counts q within some = omega (arith, positives-set_zero counts q withi
 pub taken_last : (counts : List ℕ) (work new : Rows ℕ) (q left : ℕ) → q < length counts → 0 < get_or counts q 0 → left ≡ 0 → new.items ≡ work.items ++ q ∷ [] → new.spare + 1 ≡ work.spare → IsWorkOf counts work
     → IsWorkOf (set counts q left) new
 taken_last counts work new q left within some last items spare are = record {
-  listed = subst (λ n. AreListed (set counts q n) new.items) (sym last) (subst (AreListed (set counts q 0)) (sym items) (listed_last counts work.items q within some are.listed));
+  listed = subst (λ n. EmptySlotsAreListed (set counts q n) new.items) (sym last) (subst (EmptySlotsAreListed (set counts q 0)) (sym items) (listed_last counts work.items q within some are.listed));
   spare = omega (arith, spare, are.spare, positives-set_zero counts q within some, ap (λ n. positives (set counts q n)) last);
 }
 
@@ -128,15 +128,15 @@ taken_less counts work q (suc n) within some more are = record {
 }
 
 -- the same, as the loop over the counts has it
-pub zeros_zero : (counts work : List ℕ) (slot : ℕ) → slot < length counts → get_or counts slot 0 ≡ 0 → AreListed (take slot counts) work → AreListed (take (slot + 1) counts) (work ++ slot ∷ [])
+pub zeros_zero : (counts work : List ℕ) (slot : ℕ) → slot < length counts → get_or counts slot 0 ≡ 0 → EmptySlotsAreListed (take slot counts) work → EmptySlotsAreListed (take (slot + 1) counts) (work ++ slot ∷ [])
 zeros_zero counts work slot h none listed =
     let size : length (take slot counts) ≡ slot = length-take-le slot counts (omega arith) in
     let next : take (slot + 1) counts ≡ take slot counts ++ 0 ∷ [] = take_more counts slot 0 h ∙ ap (λ c. take slot counts ++ c ∷ []) none in
-    subst (λ k. AreListed (take (slot + 1) counts) (work ++ k ∷ [])) size (subst (λ l. AreListed l (work ++ length (take slot counts) ∷ [])) (sym next) (listed_zero (take slot counts) work listed))
+    subst (λ k. EmptySlotsAreListed (take (slot + 1) counts) (work ++ k ∷ [])) size (subst (λ l. EmptySlotsAreListed l (work ++ length (take slot counts) ∷ [])) (sym next) (listed_zero (take slot counts) work listed))
 
-pub zeros_some : (counts work : List ℕ) (slot : ℕ) → slot < length counts → (get_or counts slot 0 ≡ 0 → ⊥) → AreListed (take slot counts) work → AreListed (take (slot + 1) counts) work
+pub zeros_some : (counts work : List ℕ) (slot : ℕ) → slot < length counts → (get_or counts slot 0 ≡ 0 → ⊥) → EmptySlotsAreListed (take slot counts) work → EmptySlotsAreListed (take (slot + 1) counts) work
 zeros_some counts work slot h some listed = by_cases (get_or counts slot 0) refl
   where
-    by_cases : (c : ℕ) → get_or counts slot 0 ≡ c → AreListed (take (slot + 1) counts) work
+    by_cases : (c : ℕ) → get_or counts slot 0 ≡ c → EmptySlotsAreListed (take (slot + 1) counts) work
     by_cases zero is = absurd (some is)
-    by_cases (suc m) is = subst (λ l. AreListed l work) (sym (take_more counts slot 0 h ∙ ap (λ c. take slot counts ++ c ∷ []) is)) (listed_some (take slot counts) work m listed)
+    by_cases (suc m) is = subst (λ l. EmptySlotsAreListed l work) (sym (take_more counts slot 0 h ∙ ap (λ c. take slot counts ++ c ∷ []) is)) (listed_some (take slot counts) work m listed)

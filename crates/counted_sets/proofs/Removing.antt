@@ -7,7 +7,7 @@ use Rattle.std.proofs.lemmas.List.{get_or-set_same, get_or-set_other, length-set
 use Rattle.row_buf.specs.Rows.{Rows}
 use Rattle.counted_sets.specs.declared.uses.Use.{Use}
 use Rattle.counted_sets.specs.Sets.{marked, IsGiven, IsConsistent, IsGreatest}
-use Rattle.counted_sets.specs.Chains.{AreChains, last_before}
+use Rattle.counted_sets.specs.Chains.{AreUseChains, last_before}
 use Rattle.counted_sets.specs.Counts.{supply, item_at, need_at, use_at, AreGone, Extends, IsCounted, IsSafe, IsWorkOf}
 use Rattle.counted_sets.proofs.Chaining.{last_has, last_within, none_after}
 use Rattle.counted_sets.proofs.Supply.{given-supply, place_of, stands_there, supply-given, supply-set, supply_last, supply_one, supply_other}
@@ -25,7 +25,7 @@ last_is : (key_of : ℕ → ℕ) (key n at : ℕ) → last_before key_of key n �
 last_is key_of key n zero is some = absurd (omega arith)
 last_is key_of key n (suc k) is some = let e : suc k - 1 ≡ k = omega arith in ap key_of e ∙ last_has key_of key n k is
 
-pub taken_none : (uses : List Use) (item keys at : ℕ) (lasts befores before : List ℕ) → AreChains (item_at uses) keys (length uses) lasts befores → item < keys → at ≡ get_or lasts item 0 → AreTaken uses item before before at
+pub taken_none : (uses : List Use) (item keys at : ℕ) (lasts befores before : List ℕ) → AreUseChains (item_at uses) keys (length uses) lasts befores → item < keys → at ≡ get_or lasts item 0 → AreTaken uses item before before at
 taken_none uses item keys at lasts befores before chains low is =
     let last : last_before (item_at uses) item (length uses) ≡ at = sym (chains.last item low) ∙ sym is in
     record {
@@ -48,7 +48,7 @@ taken_some uses item (suc place) slot before counts some is within enough so_far
     let gives : (use_at uses place).gives ≡ slot = ap (λ p. (use_at uses p).gives) (sym e) ∙ sym is in
     omega (arith, so_far.taken slot within, enough, first_left uses item slot place here gives)
 
-pub taken_one : (uses : List Use) (item at slot next keys : ℕ) (lasts befores before counts : List ℕ) → AreChains (item_at uses) keys (length uses) lasts befores → 0 < at → slot ≡ (use_at uses (at - 1)).gives
+pub taken_one : (uses : List Use) (item at slot next keys : ℕ) (lasts befores before counts : List ℕ) → AreUseChains (item_at uses) keys (length uses) lasts befores → 0 < at → slot ≡ (use_at uses (at - 1)).gives
     → next ≡ get_or befores (at - 1) 0 → slot < length before → 0 < get_or counts slot 0 → AreTaken uses item before counts at
     → AreTaken uses item before (set counts slot (get_or counts slot 0 - 1)) next
 taken_one uses item zero slot next keys lasts befores before counts chains some is link within left so_far = absurd (omega arith)
@@ -74,7 +74,7 @@ taken_one uses item (suc place) slot next keys lasts befores before counts chain
     }
 
 -- a chain goes back
-pub back_before : (key_of : ℕ → ℕ) (at places next keys : ℕ) (lasts befores : List ℕ) → AreChains key_of keys places lasts befores → 0 < at → at ≤ places → next ≡ get_or befores (at - 1) 0 → next < at
+pub back_before : (key_of : ℕ → ℕ) (at places next keys : ℕ) (lasts befores : List ℕ) → AreUseChains key_of keys places lasts befores → 0 < at → at ≤ places → next ≡ get_or befores (at - 1) 0 → next < at
 back_before key_of zero places next keys lasts befores chains some within link = absurd (omega arith)
 back_before key_of (suc place) places next keys lasts befores chains some within link =
     let e : suc place - 1 ≡ place = omega arith in
@@ -144,7 +144,7 @@ pub record AreGoneFrom (uses : List Use) (slot at : ℕ) (marks : List Bool) : T
   pub here : 0 < at → need_at uses (at - 1) ≡ slot
   pub gone : (k : ℕ) → at ≤ k → k < length uses → need_at uses k ≡ slot → marked marks (item_at uses k) ≡ false
 
-pub gone_none : (uses : List Use) (slot keys at : ℕ) (lasts befores : List ℕ) (marks : List Bool) → AreChains (need_at uses) keys (length uses) lasts befores → slot < keys → at ≡ get_or lasts slot 0 → AreGoneFrom uses slot at marks
+pub gone_none : (uses : List Use) (slot keys at : ℕ) (lasts befores : List ℕ) (marks : List Bool) → AreUseChains (need_at uses) keys (length uses) lasts befores → slot < keys → at ≡ get_or lasts slot 0 → AreGoneFrom uses slot at marks
 gone_none uses slot keys at lasts befores marks chains low is =
     let last : last_before (need_at uses) slot (length uses) ≡ at = sym (chains.last slot low) ∙ sym is in
     record {
@@ -153,7 +153,7 @@ gone_none uses slot keys at lasts befores marks chains low is =
       gone = λ k from below needs. absurd (none_after (need_at uses) slot (length uses) k (omega (arith, last)) below needs);
     }
 
-pub gone_one : (uses : List Use) (slot keys at item next : ℕ) (lasts befores : List ℕ) (marks : List Bool) → AreChains (need_at uses) keys (length uses) lasts befores → 0 < at → item ≡ item_at uses (at - 1)
+pub gone_one : (uses : List Use) (slot keys at item next : ℕ) (lasts befores : List ℕ) (marks : List Bool) → AreUseChains (need_at uses) keys (length uses) lasts befores → 0 < at → item ≡ item_at uses (at - 1)
     → next ≡ get_or befores (at - 1) 0 → AreGoneFrom uses slot at marks → AreGoneFrom uses slot next (set marks item false)
 gone_one uses slot keys zero item next lasts befores marks chains some is link so_far = absurd (omega arith)
 gone_one uses slot keys (suc place) item next lasts befores marks chains some is link so_far =

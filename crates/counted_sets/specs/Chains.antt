@@ -7,7 +7,7 @@ last_before key_of key zero = 0
 last_before key_of key (suc n) = if key_of n == key then suc n else last_before key_of key n
 
 -- for each key the last place that has it, and for each place the one before with the same key
-pub record AreChains (key_of : ℕ → ℕ) (keys places : ℕ) (lasts befores : List ℕ) : Type 0 where
+pub record AreUseChains (key_of : ℕ → ℕ) (keys places : ℕ) (lasts befores : List ℕ) : Type 0 where
   pub key_count : length lasts ≡ keys
   pub place_count : length befores ≡ places
   pub last : (key : ℕ) → key < keys → slice_index lasts key ≡ last_before key_of key places

@@ -27,7 +27,7 @@ positives (zero ∷ counts) = positives counts
 positives (suc n ∷ counts) = suc (positives counts)
 
 -- the slots whose count is 0 are listed, each once
-pub record AreListed (counts work : List ℕ) : Type 0 where
+pub record EmptySlotsAreListed (counts work : List ℕ) : Type 0 where
   pub within : (p : ℕ) → p < length work → slice_index work p < length counts
   pub zero_there : (p : ℕ) → p < length work → slice_index counts (slice_index work p) ≡ 0
   pub all_there : (slot : ℕ) → slot < length counts → slice_index counts slot ≡ 0 → Contains work slot
@@ -35,7 +35,7 @@ pub record AreListed (counts work : List ℕ) : Type 0 where
 
 -- and there is room to list each of the others
 pub record IsWorkOf (counts : List ℕ) (work : Rows ℕ) : Type 0 where
-  pub listed : AreListed counts work.items
+  pub listed : EmptySlotsAreListed counts work.items
   pub spare : work.spare ≡ positives counts
 
 -- the one list begins with the other

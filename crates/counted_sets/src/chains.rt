@@ -1,6 +1,6 @@
 //! Uses with one item, or with one needed slot, linked from the last one back.
 ghost use Rattle.std.specs.Prelude.{◌≡◌, ◌+◌, ◌^◌, ◌<◌, ◌≤◌, All, IfOk, ℕ, length, slice_index};
-ghost use Rattle.counted_sets.specs.Chains.{AreChains, last_before};
+ghost use Rattle.counted_sets.specs.Chains.{AreUseChains, last_before};
 ghost use Rattle.counted_sets.specs.Counts.{item_at, need_at};
 ghost use Rattle.counted_sets.specs.Sets.{IsUseOf};
 
@@ -19,7 +19,7 @@ pub(crate) struct Chains {
 impl Chains {
     // Empty chains with room for this many keys and places.
     fn new(alloc: Global, keys: u32, places: u64) -> Result<Chains, NoMemory>
-        ensures chains { IfOk result (λ chains. (key_of : ℕ → ℕ) → AreChains key_of keys 0 chains.lasts.items chains.befores.items) }
+        ensures chains { IfOk result (λ chains. (key_of : ℕ → ℕ) → AreUseChains key_of keys 0 chains.lasts.items chains.befores.items) }
         ensures spare { IfOk result (λ chains. chains.befores.spare ≡ places) }
     {
         let mut lasts = RowBuf::new(alloc);
@@ -36,8 +36,8 @@ impl Chains {
         requires room { 1 ≤ self.old.befores.spare }
         requires few { length self.old.befores.items + 1 < 2 ^ 32 }
         ensures chains { (key_of : ℕ → ℕ) → key_of (length self.old.befores.items) ≡ key
-            → AreChains key_of (length self.old.lasts.items) (length self.old.befores.items) self.old.lasts.items self.old.befores.items
-            → AreChains key_of (length self.old.lasts.items) (length self.old.befores.items + 1)
+            → AreUseChains key_of (length self.old.lasts.items) (length self.old.befores.items) self.old.lasts.items self.old.befores.items
+            → AreUseChains key_of (length self.old.lasts.items) (length self.old.befores.items + 1)
             self.new.lasts.items self.new.befores.items }
         ensures keys { length self.new.lasts.items ≡ length self.old.lasts.items }
         ensures places { length self.new.befores.items ≡ length self.old.befores.items + 1 }
@@ -69,7 +69,7 @@ impl Chains {
 pub(crate) fn chained_by_item(alloc: Global, items: u32, uses: &[Use]) -> Result<Chains, NoMemory>
     requires items { All (λ u. u.item < items) uses.now }
     requires few { length uses.now < 2 ^ 32 }
-    ensures { IfOk result (λ chains. AreChains (item_at uses.now) items (length uses.now) chains.lasts.items chains.befores.items) }
+    ensures { IfOk result (λ chains. AreUseChains (item_at uses.now) items (length uses.now) chains.lasts.items chains.befores.items) }
 {
     let mut chains = Chains::new(alloc, items, uses.len() as u64)?;
     'uses: for k in 0..uses.len() {
@@ -82,7 +82,7 @@ pub(crate) fn chained_by_item(alloc: Global, items: u32, uses: &[Use]) -> Result
 pub(crate) fn chained_by_need(alloc: Global, slots: u32, uses: &[Use]) -> Result<Chains, NoMemory>
     requires slots { All (λ u. u.needs < slots) uses.now }
     requires few { length uses.now < 2 ^ 32 }
-    ensures { IfOk result (λ chains. AreChains (need_at uses.now) slots (length uses.now) chains.lasts.items chains.befores.items) }
+    ensures { IfOk result (λ chains. AreUseChains (need_at uses.now) slots (length uses.now) chains.lasts.items chains.befores.items) }
 {
     let mut chains = Chains::new(alloc, slots, uses.len() as u64)?;
     'uses: for k in 0..uses.len() {

@@ -1,7 +1,7 @@
 //! Counts of slots, and the slots whose count is 0.
 ghost use Rattle.std.specs.Prelude.{◌≡◌, ◌==◌, ◌+◌, ◌-◌, ◌^◌, ◌<◌, ◌≤◌, ℕ, All, IfOk, length, slice_index, slice_set, true};
-ghost use Rattle.counted_sets.specs.Chains.{AreChains};
-ghost use Rattle.counted_sets.specs.Counts.{AreListed, Extends, IsWorkOf, item_at, supply};
+ghost use Rattle.counted_sets.specs.Chains.{AreUseChains};
+ghost use Rattle.counted_sets.specs.Counts.{EmptySlotsAreListed, Extends, IsWorkOf, item_at, supply};
 
 use crate::chains::Chains;
 use crate::uses::Use;
@@ -69,7 +69,7 @@ pub(crate) fn take_off(
     work: &mut RowBuf<u32>,
 )
     requires item { item < length of_item.now.lasts.items }
-    requires chains { AreChains (item_at uses.now) (length of_item.now.lasts.items) (length uses.now)
+    requires chains { AreUseChains (item_at uses.now) (length of_item.now.lasts.items) (length uses.now)
         of_item.now.lasts.items of_item.now.befores.items }
     requires slots { All (λ u. u.gives < length counts.old.items) uses.now }
     requires enough { (slot : ℕ) → slot < length counts.old.items

@@ -1,6 +1,6 @@
 //! Items go while a slot that they need has the count 0.
 ghost use Rattle.std.specs.Prelude.{◌≡◌, ◌^◌, ◌<◌, All, IfOk, false, length, slice_index, slice_set};
-ghost use Rattle.counted_sets.specs.Chains.{AreChains};
+ghost use Rattle.counted_sets.specs.Chains.{AreUseChains};
 ghost use Rattle.counted_sets.specs.Counts.{AreGone, Extends, IsCounted, IsSafe, item_at, need_at};
 ghost use Rattle.counted_sets.specs.Sets.{IsGreatest, IsUseOf, marked};
 
@@ -22,7 +22,7 @@ fn remove(
 )
     requires item { item < length marks.old.items }
     requires slots { All (λ u. u.gives < length counts.old.items) uses.now }
-    requires chains { AreChains (item_at uses.now) (length marks.old.items) (length uses.now)
+    requires chains { AreUseChains (item_at uses.now) (length marks.old.items) (length uses.now)
         of_item.now.lasts.items of_item.now.befores.items }
     requires counted { IsCounted (length marks.old.items) (length counts.old.items) uses.now marks.old.items counts.old.items work.old }
     ensures marks { marks.new.items ≡ slice_set marks.old.items item false }
@@ -49,9 +49,9 @@ fn remove_needing(
     requires slot { slot < length counts.old.items }
     requires none { slice_index counts.old.items slot ≡ 0 }
     requires uses { All (IsUseOf (length marks.old.items) (length counts.old.items)) uses.now }
-    requires items { AreChains (item_at uses.now) (length marks.old.items) (length uses.now)
+    requires items { AreUseChains (item_at uses.now) (length marks.old.items) (length uses.now)
         of_item.now.lasts.items of_item.now.befores.items }
-    requires needs { AreChains (need_at uses.now) (length counts.old.items) (length uses.now)
+    requires needs { AreUseChains (need_at uses.now) (length counts.old.items) (length uses.now)
         needing.now.lasts.items needing.now.befores.items }
     requires counted { IsCounted (length marks.old.items) (length counts.old.items) uses.now marks.old.items counts.old.items work.old }
     ensures gone { AreGone uses.now slot marks.new.items }

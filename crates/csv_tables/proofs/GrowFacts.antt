@@ -4,34 +4,34 @@ use Rattle.std.proofs.Math.ListN.{get_or-append}
 use Rattle.schema_types.specs.declared.types.Kind.{Kind}
 use Rattle.schema_types.specs.declared.types.Kind.TheVariants as kind
 use Rattle.csv_tables.specs.Cells.{value_of_cell, IsCell}
-use Rattle.csv_tables.specs.Pools.{BeginsWith}
+use Rattle.csv_tables.specs.Pools.{PoolBeginsWith}
 use Rattle.csv_tables.specs.Reads.{AreCellsOfRow, IsCellOf}
 use Rattle.csv_tables.specs.Rows.{Row}
 use Rattle.csv_tables.specs.Values.{Value, Text}
 
-pub begins_itself : (texts : List (List ℕ)) → BeginsWith texts texts
+pub begins_itself : (texts : List (List ℕ)) → PoolBeginsWith texts texts
 begins_itself texts = record { more = []; grew = sym (append-nil texts) }
 
-pub begins_then : (a b c : List (List ℕ)) → BeginsWith a b → BeginsWith b c → BeginsWith a c
+pub begins_then : (a b c : List (List ℕ)) → PoolBeginsWith a b → PoolBeginsWith b c → PoolBeginsWith a c
 begins_then a b c p q = record { more = p.more ++ q.more; grew = q.grew ∙ ap (λ l. l ++ q.more) p.grew ∙ append_assoc a p.more q.more }
 
-begins_long : (a b : List (List ℕ)) → BeginsWith a b → length a ≤ length b
+begins_long : (a b : List (List ℕ)) → PoolBeginsWith a b → length a ≤ length b
 begins_long a b p = omega (arith, ap length p.grew, length-append a p.more)
 
 -- a cell is one in a larger pool too
-pub is_cell-grown : (a b : List (List ℕ)) (k : Kind) (cell : ℕ) → BeginsWith a b → IsCell a k cell → IsCell b k cell
+pub is_cell-grown : (a b : List (List ℕ)) (k : Kind) (cell : ℕ) → PoolBeginsWith a b → IsCell a k cell → IsCell b k cell
 is_cell-grown a b kind.Int cell p h = h
 is_cell-grown a b (kind.Text most) cell p h = omega (arith, h, begins_long a b p)
 
 -- of the same value
-pub value-grown : (a b : List (List ℕ)) (k : Kind) (cell : ℕ) → BeginsWith a b → IsCell a k cell → value_of_cell b k cell ≡ value_of_cell a k cell
+pub value-grown : (a b : List (List ℕ)) (k : Kind) (cell : ℕ) → PoolBeginsWith a b → IsCell a k cell → value_of_cell b k cell ≡ value_of_cell a k cell
 value-grown a b kind.Int cell p h = refl
 value-grown a b (kind.Text most) cell p h = ap Text (ap (λ l. get_or l cell []) p.grew ∙ get_or-append a p.more [] cell h)
 
-cell_of-grown : (a b : List (List ℕ)) (k : Kind) (value : Value) (cell : ℕ) → BeginsWith a b → IsCellOf a k value cell → IsCellOf b k value cell
+cell_of-grown : (a b : List (List ℕ)) (k : Kind) (value : Value) (cell : ℕ) → PoolBeginsWith a b → IsCellOf a k value cell → IsCellOf b k value cell
 cell_of-grown a b k value cell p h = record { value_is = value-grown a b k cell p h.is_cell ∙ h.value_is; is_cell = is_cell-grown a b k cell p h.is_cell }
 
-pub row-grown : (a b : List (List ℕ)) (kinds : List Kind) (row : Row) (cells : List ℕ) → BeginsWith a b → AreCellsOfRow a kinds row cells → AreCellsOfRow b kinds row cells
+pub row-grown : (a b : List (List ℕ)) (kinds : List Kind) (row : Row) (cells : List ℕ) → PoolBeginsWith a b → AreCellsOfRow a kinds row cells → AreCellsOfRow b kinds row cells
 row-grown a b [] [] [] p h = tt
 row-grown a b [] [] (x ∷ xs) p h = absurd h
 row-grown a b [] (v ∷ vs) cells p h = absurd h

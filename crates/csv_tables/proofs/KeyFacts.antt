@@ -26,7 +26,7 @@ use Rattle.csv_tables.specs.Cells.{value_of_cell, row_of_columns, rows_of_column
 use Rattle.csv_tables.specs.Groups.{have_same_cells, repeat_from, AreFirsts, IsFirst, IsRepeat}
 use Rattle.csv_tables.specs.Keys.{are_same, first_repeat, key_values, or_rows, repeat_after, repeat_or, rows_with_keys}
 use Rattle.csv_tables.specs.Numbers.{bits_of, number_in}
-use Rattle.csv_tables.specs.Pools.{AreDifferent}
+use Rattle.csv_tables.specs.Pools.{TextsAreDifferent}
 use Rattle.csv_tables.specs.Reads.{kinds_of}
 use Rattle.csv_tables.specs.Rows.{Row}
 use Rattle.csv_tables.proofs.TableFacts.{columns_long}
@@ -36,7 +36,7 @@ pub bits_back : (x : ℕ) → x < 2 ^ 64 → bits_of (number_in x) ≡ x
 bits_back x l = of_z-to_z w64 x l
 
 -- equal values have equal cells
-same_value : (texts : List (List ℕ)) → AreDifferent texts → (k : Kind) (x y : ℕ) → IsCell texts k x → IsCell texts k y
+same_value : (texts : List (List ℕ)) → TextsAreDifferent texts → (k : Kind) (x y : ℕ) → IsCell texts k x → IsCell texts k y
     → is_same (value_of_cell texts k x) (value_of_cell texts k y) ≡ (x == y)
 same_value texts different kind.Int x y p q =
     both_ways (int_eq (number_in x) (number_in y)) (x == y)
@@ -77,7 +77,7 @@ cell_there texts rows row (k ∷ ks) (c ∷ cs) zero l m h =
 cell_there texts rows row (k ∷ ks) (c ∷ cs) (suc column) l m h = cell_there texts rows row ks cs column l (omega (arith, m)) h.1
 
 -- two rows have the same values in a key where they have the same cells
-same_values : (texts : List (List ℕ)) → AreDifferent texts → (rows i j : ℕ) (kinds : List Kind) (columns : List (List ℕ)) → i < rows → j < rows → AreColumns texts rows kinds columns
+same_values : (texts : List (List ℕ)) → TextsAreDifferent texts → (rows i j : ℕ) (kinds : List Kind) (columns : List (List ℕ)) → i < rows → j < rows → AreColumns texts rows kinds columns
     → (key : List ℕ) → All (λ column. column < length columns) key
     → are_same (key_values key (row_of_columns texts kinds columns i)) (key_values key (row_of_columns texts kinds columns j)) ≡ have_same_cells columns key i j
 same_values texts different rows i j kinds columns l m h [] there = refl
@@ -179,7 +179,7 @@ map-length f [] = refl
 map-length f (r ∷ rows) = ap (λ n. suc n) (map-length f rows)
 
 -- the repeat among cells is the repeat among values
-pub repeat_is : (texts : List (List ℕ)) → AreDifferent texts → (rows : ℕ) (kinds : List Kind) (columns : List (List ℕ)) → AreColumns texts rows kinds columns
+pub repeat_is : (texts : List (List ℕ)) → TextsAreDifferent texts → (rows : ℕ) (kinds : List Kind) (columns : List (List ℕ)) → AreColumns texts rows kinds columns
     → (key : List ℕ) → All (λ column. column < length columns) key → (found : Option Repeat) → IsRepeat columns key rows found
     → first_repeat key (rows_of_columns texts kinds columns rows) ≡ found
 repeat_is texts different rows kinds columns h key there found is =
@@ -214,7 +214,7 @@ keys_next : (keys : List (List ℕ)) (at : ℕ) (key : List ℕ) (rows : List Ro
 keys_next keys at key rows l is = ap (λ ks. rows_with_keys ks rows) (drop_more keys at key l ∙ ap (λ k. k ∷ drop (at + 1) keys) (sym is))
 
 module _ (table : Table) (texts : List (List ℕ)) (rows : ℕ) (columns : List (List ℕ)) (at : ℕ) (key : List ℕ) (found : Option Repeat)
-    (valid : IsValidTable table) (different : AreDifferent texts) (h : AreColumns texts rows (kinds_of table.columns) columns)
+    (valid : IsValidTable table) (different : TextsAreDifferent texts) (h : AreColumns texts rows (kinds_of table.columns) columns)
     (l : at < length table.keys) (is : key ≡ get_or table.keys at key) (repeat : IsRepeat columns key rows found) where
   next_is : rows_with_keys (drop at table.keys) (rows_of_columns texts (kinds_of table.columns) columns rows)
       ≡ or_rows (rows_of_columns texts (kinds_of table.columns) columns rows) found (rows_with_keys (drop (at + 1) table.keys) (rows_of_columns texts (kinds_of table.columns) columns rows))

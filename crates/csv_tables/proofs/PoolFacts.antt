@@ -14,7 +14,7 @@ use Rattle.std.proofs.lemmas.Str.{IsUtf8-string_bytes}
 use Rattle.std.specs.Prelude.{All}
 use Rattle.std.proofs.Math.Bool.{or-true}
 use Rattle.indexmap.specs.IndexSet.{insert_key}
-use Rattle.csv_tables.specs.Pools.{with_text, AreDifferent}
+use Rattle.csv_tables.specs.Pools.{with_text, TextsAreDifferent}
 
 module _ {X Y : Type 0} (f : X → Y) (p : Y → Bool) where
   list_any-map : (xs : List X) → list_any p (map f xs) ≡ list_any (λ x. p (f x)) xs
@@ -80,7 +80,7 @@ distinct_texts [] d = tt
 distinct_texts (k ∷ keys) d = (apart_texts k keys d.0, distinct_texts keys d.1)
 
 -- a set's keys are different as texts
-pub different_texts : {Z : Type 0} (keys : List (String Z)) → IsDistinct string_eq keys → AreDifferent (map string_bytes keys)
+pub different_texts : {Z : Type 0} (keys : List (String Z)) → IsDistinct string_eq keys → TextsAreDifferent (map string_bytes keys)
 different_texts keys d = AllPairs-from_IsDistinct bytes_eq-Decides (map string_bytes keys) (distinct_texts keys d)
 
 texts_are_utf8 : {Z : Type 0} (keys : List (String Z)) → AllByRecursion IsUtf8 (map string_bytes keys)

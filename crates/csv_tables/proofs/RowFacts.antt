@@ -4,7 +4,7 @@ use Rattle.std.proofs.lemmas.List.{drop_more, take_more, map-append}
 use Rattle.schema_types.specs.declared.types.Column.{Column}
 use Rattle.csv_tables.specs.declared.types.TableError.TheVariants as error
 use Rattle.csv_tables.specs.Cells.{value_of_cell, IsCell}
-use Rattle.csv_tables.specs.Pools.{BeginsWith}
+use Rattle.csv_tables.specs.Pools.{PoolBeginsWith}
 use Rattle.csv_tables.specs.Reads.{kinds_of, AreCellsOfRow}
 use Rattle.csv_tables.specs.Records.{Record}
 use Rattle.csv_tables.specs.Rows.{values_of_record, Row}
@@ -18,7 +18,7 @@ pub record RowSoFar (number at : ℕ) (columns : List Column) (places : List ℕ
   pub row : Row
   pub read : ReadTo (values_of_record number 0 columns places fields) row (values_of_record number at (drop at columns) (drop at places) fields)
   pub cells_of_row : AreCellsOfRow texts (kinds_of (take at columns)) row cells
-  pub begins : BeginsWith old texts
+  pub begins : PoolBeginsWith old texts
   pub few : length texts ≤ length old + at
 
 values_next : (number at : ℕ) (columns : List Column) (places : List ℕ) (fields : Record) (column : Column)
@@ -34,7 +34,7 @@ values_next number at columns places fields column l m c =
 pub row_more : (number at : ℕ) (columns : List Column) (places : List ℕ) (fields : Record) (old texts new : List (List ℕ)) (cells : List ℕ) (column : Column) (field : List ℕ) (cell : ℕ)
     → at < length columns → at < length places → column ≡ get_or columns at column → field ≡ get_or fields (get_or places at 0) []
     → RowSoFar number at columns places fields old texts cells → Some (value_of_cell new column.kind cell) ≡ value_of_field column.kind field
-    → IsCell new column.kind cell → BeginsWith texts new → length new ≤ length texts + 1
+    → IsCell new column.kind cell → PoolBeginsWith texts new → length new ≤ length texts + 1
     → RowSoFar number (at + 1) columns places fields old new (cells ++ cell ∷ [])
 row_more number at columns places fields old texts new cells column field cell l m c f so_far good is grew few =
     let value = value_of_cell new column.kind cell in

@@ -9,7 +9,7 @@ use Rattle.schema_types.specs.declared.types.Column.{Column}
 use Rattle.schema_types.specs.declared.types.Kind.{Kind}
 use Rattle.csv_tables.specs.declared.types.TableError.{TableError}
 use Rattle.csv_tables.specs.Cells.{value_of_cell, row_of_columns, rows_of_columns, AreColumns, IsCell}
-use Rattle.csv_tables.specs.Pools.{BeginsWith}
+use Rattle.csv_tables.specs.Pools.{PoolBeginsWith}
 use Rattle.csv_tables.specs.Reads.{add_row, kinds_of, AreCellsOfRow, HoldsRow}
 use Rattle.csv_tables.specs.Records.{Record}
 use Rattle.csv_tables.specs.Rows.{row_of_record, rows_of_records, Row}
@@ -22,7 +22,7 @@ columns_none texts [] n e = rw e tt
 columns_none texts (k ∷ ks) n e = rw e (record { height = refl; cells = All-nil (IsCell texts k) }, columns_none texts ks (length ks) refl)
 
 -- in a larger pool
-pub columns-grown : (a b : List (List ℕ)) (rows : ℕ) (kinds : List Kind) (columns : List (List ℕ)) → BeginsWith a b → AreColumns a rows kinds columns → AreColumns b rows kinds columns
+pub columns-grown : (a b : List (List ℕ)) (rows : ℕ) (kinds : List Kind) (columns : List (List ℕ)) → PoolBeginsWith a b → AreColumns a rows kinds columns → AreColumns b rows kinds columns
 columns-grown a b rows [] [] p h = tt
 columns-grown a b rows [] (c ∷ cs) p h = absurd h
 columns-grown a b rows (k ∷ ks) [] p h = absurd h
@@ -30,7 +30,7 @@ columns-grown a b rows (k ∷ ks) (c ∷ cs) p h =
     (record { height = h.0.height; cells = All-weaker (IsCell a k) (IsCell b k) (λ cell. is_cell-grown a b k cell p) c h.0.cells }, columns-grown a b rows ks cs p h.1)
 
 -- a row of columns in a larger pool
-row_of_columns-grown : (a b : List (List ℕ)) (rows row : ℕ) (kinds : List Kind) (columns : List (List ℕ)) → BeginsWith a b → row < rows → AreColumns a rows kinds columns
+row_of_columns-grown : (a b : List (List ℕ)) (rows row : ℕ) (kinds : List Kind) (columns : List (List ℕ)) → PoolBeginsWith a b → row < rows → AreColumns a rows kinds columns
     → row_of_columns b kinds columns row ≡ row_of_columns a kinds columns row
 row_of_columns-grown a b rows row [] columns p l h = refl
 row_of_columns-grown a b rows row (k ∷ ks) [] p l h = absurd h
@@ -82,7 +82,7 @@ rows-alike a b kinds p q (suc n) h =
     ∙ ap (λ r. rows_of_columns a kinds p n ++ r ∷ []) (h n (omega arith))
 
 -- the rows of columns are the same in a larger pool
-pub rows_of_columns-grown : (a b : List (List ℕ)) (rows : ℕ) (kinds : List Kind) (columns : List (List ℕ)) → BeginsWith a b → AreColumns a rows kinds columns
+pub rows_of_columns-grown : (a b : List (List ℕ)) (rows : ℕ) (kinds : List Kind) (columns : List (List ℕ)) → PoolBeginsWith a b → AreColumns a rows kinds columns
     → rows_of_columns b kinds columns rows ≡ rows_of_columns a kinds columns rows
 rows_of_columns-grown a b rows kinds columns p h = rows-alike a b kinds columns columns rows (λ row l. row_of_columns-grown a b rows row kinds columns p l h)
 
@@ -99,7 +99,7 @@ rows_of_columns-more texts rows kinds columns row cells h c =
 pub record RowsSoFar (columns : List Column) (places : List ℕ) (width : ℕ) (records left : List Record) (old texts found : List (List ℕ)) (rows : ℕ) : Type 0 where
   pub read : ReadTo (rows_of_records columns places width 1 records) (rows_of_columns texts (kinds_of columns) found rows) (rows_of_records columns places width (rows + 1) left)
   pub are : AreColumns texts rows (kinds_of columns) found
-  pub begins : BeginsWith old texts
+  pub begins : PoolBeginsWith old texts
   pub few : length texts ≤ length old + 64 * rows
   pub limit : rows ≤ 4000000
 
@@ -117,7 +117,7 @@ rows_none columns places width records texts found e = record {
 pub rows_more : (columns : List Column) (places : List ℕ) (width : ℕ) (records left after : List Record) (fields : Record) (old texts new found : List (List ℕ)) (rows : ℕ) (cells : List ℕ)
     → RowsSoFar columns places width records left old texts found rows → left ≡ fields ∷ after
     → HoldsRow (row_of_record columns places width (rows + 1) fields) new (kinds_of columns) cells
-    → BeginsWith texts new → length new ≤ length texts + 64 → rows + 1 ≤ 4000000
+    → PoolBeginsWith texts new → length new ≤ length texts + 64 → rows + 1 ≤ 4000000
     → RowsSoFar columns places width records after old new (add_row found cells) (rows + 1)
 rows_more columns places width records left after fields old texts new found rows cells so_far e row grew few limit =
     let kinds = kinds_of columns in

@@ -29,9 +29,9 @@ size_of most digits =
     if is_numeral digits && nat_le (decimal_after 0 digits) most then Some (decimal_after 0 digits) else None
 
 -- the greatest size of a signed number of 64 bits, below 0 and from 0 on
-abbrev pub greatest : Bool → ℕ
-greatest true = 2 ^ 63
-greatest false = 2 ^ 63 - 1
+abbrev pub greatest_magnitude : Bool → ℕ
+greatest_magnitude true = 2 ^ 63
+greatest_magnitude false = 2 ^ 63 - 1
 
 -- the number of this size, below 0 or not
 abbrev pub signed : Bool → ℕ → ℤ
@@ -40,7 +40,7 @@ signed false size = pos size
 
 -- the number that a field spells: a sign or none, then digits, in the signed range of 64 bits
 abbrev pub number_of : List ℕ → Option ℤ
-number_of field = option_map (signed (is_minus field)) (size_of (greatest (is_minus field)) (without_sign field))
+number_of field = option_map (signed (is_minus field)) (size_of (greatest_magnitude (is_minus field)) (without_sign field))
 
 -- the cell of a number: its 64 bits in two's complement
 abbrev pub bits_of : ℤ → ℕ

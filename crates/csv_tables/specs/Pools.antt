@@ -8,10 +8,10 @@ abbrev pub with_text : List (List ℕ) → List ℕ → List (List ℕ)
 with_text texts text = if list_any (bytes_eq text) texts then texts else texts ++ text ∷ []
 
 -- no text stands twice
-abbrev pub AreDifferent : List (List ℕ) → Type 0
-AreDifferent texts = AllPairs (λ a b. a ≢ b) texts
+abbrev pub TextsAreDifferent : List (List ℕ) → Type 0
+TextsAreDifferent texts = AllPairs (λ a b. a ≢ b) texts
 
 -- the new texts begin with the old ones, in their places
-pub record BeginsWith (old new : List (List ℕ)) : Type 0 where
+pub record PoolBeginsWith (old new : List (List ℕ)) : Type 0 where
   pub more : List (List ℕ)
   pub grew : new ≡ old ++ more

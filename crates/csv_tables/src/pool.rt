@@ -2,7 +2,7 @@
 ghost use Rattle.std.specs.Prelude.{◌≡◌, ◌<◌, ◌^◌, [], All, length, position, slice_get, Some, IfOk, OnOk, OnErr, option_map};
 ghost use Rattle.std.specs.List.{position_or_len};
 ghost use Rattle.std.specs.Str.{IsUtf8, bytes_eq};
-ghost use Rattle.csv_tables.specs.Pools.{with_text, AreDifferent};
+ghost use Rattle.csv_tables.specs.Pools.{with_text, TextsAreDifferent};
 
 use base_io::NoMemory;
 use indexmap::IndexSet;
@@ -40,7 +40,7 @@ impl Pool {
     pub fn len(&self) -> usize
         ensures len { result ≡ length self.now }
         ensures few { result < 2 ^ 32 }
-        ensures different { AreDifferent self.now }
+        ensures different { TextsAreDifferent self.now }
         ensures texts { All IsUtf8 self.now }
     {
         self.texts.len()

@@ -4,7 +4,7 @@ ghost use Rattle.std.specs.Str.{chars};
 ghost use Rattle.limits.specs.Profile.{most_rows};
 ghost use Rattle.csv.specs.Records.{fields_of, AllText};
 ghost use Rattle.csv_tables.specs.Cells.{value_of_cell, IsCell};
-ghost use Rattle.csv_tables.specs.Pools.{BeginsWith};
+ghost use Rattle.csv_tables.specs.Pools.{PoolBeginsWith};
 ghost use Rattle.csv_tables.specs.Records.{left, IsReading};
 ghost use Rattle.csv_tables.specs.Refused.{Refuses};
 ghost use Rattle.csv_tables.specs.Rows.{row_of_record, rows_of_records, values_of_record};
@@ -36,7 +36,7 @@ fn cell_of_text(pool: &mut Pool, most: u32, field: &[u8]) -> Result<Option<u64>,
     ensures value { IfOk result (λ cell. option_map (value_of_cell pool.new (Kind.Text most)) cell
         ≡ value_of_field (Kind.Text most) field.now) }
     ensures cell { IfOk result (λ cell. IfSome cell (IsCell pool.new (Kind.Text most))) }
-    ensures begins { BeginsWith pool.old pool.new }
+    ensures begins { PoolBeginsWith pool.old pool.new }
     ensures few { length pool.new ≤ length pool.old + 1 }
 {
     let text = unsafe { str::from_utf8_unchecked(field) };
@@ -52,7 +52,7 @@ fn cell_of_field(pool: &mut Pool, kind: Kind, field: &[u8]) -> Result<Option<u64
     requires room { length pool.old < 4294967295 }
     ensures value { IfOk result (λ cell. option_map (value_of_cell pool.new kind) cell ≡ value_of_field kind field.now) }
     ensures cell { IfOk result (λ cell. IfSome cell (IsCell pool.new kind)) }
-    ensures begins { BeginsWith pool.old pool.new }
+    ensures begins { PoolBeginsWith pool.old pool.new }
     ensures few { length pool.new ≤ length pool.old + 1 }
 {
     match kind {
@@ -92,7 +92,7 @@ fn read_row(
     ensures ok { OnOk result
         (HoldsRow (values_of_record number 0 columns.now places.now (fields_of row.now)) pool.new (kinds_of columns.now) cells.new.items) }
     ensures refused { IfErr result (Refuses (values_of_record number 0 columns.now places.now (fields_of row.now))) }
-    ensures begins { BeginsWith pool.old pool.new }
+    ensures begins { PoolBeginsWith pool.old pool.new }
     ensures few { length pool.new ≤ length pool.old + length columns.now }
 {
     cells.clear();
@@ -137,7 +137,7 @@ fn read_record(
     ensures ok { OnOk result
         (HoldsRow (row_of_record columns.now places.now width number (fields_of row.now)) pool.new (kinds_of columns.now) cells.new.items) }
     ensures refused { IfErr result (Refuses (row_of_record columns.now places.now width number (fields_of row.now))) }
-    ensures begins { BeginsWith pool.old pool.new }
+    ensures begins { PoolBeginsWith pool.old pool.new }
     ensures few { number ≤ most_rows → length pool.new ≤ length pool.old + 64 }
     ensures past { most_rows < number → pool.new ≡ pool.old }
     ensures number { OnOk result (number ≤ most_rows) }
@@ -186,7 +186,7 @@ pub(crate) fn read_rows(
         (kinds_of columns.now) found.0.items found.1) }
     ensures limit { IfOk result (λ found. found.1 ≤ most_rows) }
     ensures refused { IfErr result (Refuses (rows_of_records columns.now places.now width 1 (left reader.old))) }
-    ensures begins { BeginsWith pool.old pool.new }
+    ensures begins { PoolBeginsWith pool.old pool.new }
     ensures few { length pool.new ≤ length pool.old + 256000000 }
 {
     let mut found = empty_columns(alloc, columns.len())?;

@@ -8,7 +8,7 @@ ghost use Rattle.csv.specs.Records.{fields_of};
 ghost use Rattle.schema_types.specs.Validity.{IsValidTable};
 ghost use Rattle.csv_tables.specs.Cells.{rows_of_cells, AreCellsOf};
 ghost use Rattle.csv_tables.specs.Files.{rows_of_file, rows_under_header};
-ghost use Rattle.csv_tables.specs.Pools.{BeginsWith};
+ghost use Rattle.csv_tables.specs.Pools.{PoolBeginsWith};
 ghost use Rattle.csv_tables.specs.Reads.{kinds_of, HoldsColumns};
 ghost use Rattle.csv_tables.specs.Records.{records_of};
 ghost use Rattle.csv_tables.specs.Refused.{Refuses};
@@ -68,7 +68,7 @@ fn read_columns(
         (kinds_of columns.now) found.0.items found.1) }
     ensures limit { IfOk result (λ found. found.1 ≤ most_rows) }
     ensures refused { IfErr result (Refuses (rows_under_header columns.now (records_of (strip_bom bytes.now)))) }
-    ensures begins { BeginsWith pool.old pool.new }
+    ensures begins { PoolBeginsWith pool.old pool.new }
     ensures more { length pool.new ≤ length pool.old + 256000000 }
 {
     let mut reader = open_records(alloc, bytes);
@@ -101,7 +101,7 @@ pub fn read_table(
     ensures cells { IfOk result (AreCellsOf table.now pool.new) }
     ensures refused { IfErr result (Refuses (rows_of_file table.now bytes.now)) }
 
-    ensures begins { BeginsWith pool.old pool.new }
+    ensures begins { PoolBeginsWith pool.old pool.new }
     ensures more { length pool.new ≤ length pool.old + 256000000 }
 {
     check_text(bytes)?;

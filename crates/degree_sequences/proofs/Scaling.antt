@@ -11,7 +11,7 @@ use Rattle.degree_sequences.proofs.Spread.{IsFalling-front, IsFalling-spread, ru
 use Rattle.degree_sequences.specs.ByRank.{rank_product}
 use Rattle.degree_sequences.specs.Composition.{ChildLists, composed}
 use Rattle.degree_sequences.specs.Falling.{IsFalling}
-use Rattle.degree_sequences.specs.Families.{ColumnFalls, IsChildOf, IsNear, IsWithin, MatchedChild, factors, scales}
+use Rattle.degree_sequences.specs.Families.{ColumnFalls, IsChildOf, IsNear, SumsAreWithin, MatchedChild, factors, scales}
 use Rattle.degree_sequences.specs.RunningSums.{running_sum}
 
 -- each element times c
@@ -44,8 +44,8 @@ rank_product-scale c e (x ∷ s) (y ∷ t) = rw (times c x e y, rank_product-sca
     times c x e y = omega arith
 
 -- products of lists that are near are near by the products of the numbers
-pub rank_product-near : (b c d e : ℕ) (s t s' t' : List ℕ) → IsFalling t → IsFalling s' → IsWithin b c s' s → IsWithin d e t' t
-    → IsWithin (b * d) (c * e) (rank_product s' t') (rank_product s t)
+pub rank_product-near : (b c d e : ℕ) (s t s' t' : List ℕ) → IsFalling t → IsFalling s' → SumsAreWithin b c s' s → SumsAreWithin d e t' t
+    → SumsAreWithin (b * d) (c * e) (rank_product s' t') (rank_product s t)
 rank_product-near b c d e s t s' t' ft fs' near_s near_t r =
     omega (
       arith,
@@ -127,8 +127,8 @@ spread-scale c (x ∷ g) v =
     rw (get_or-scale c v 0, tail_of-scale c v, spread-scale c g (tail_of v)) (sym (scale-front c x (get_or v 0 0) (spread g (tail_of v))))
 
 -- rows of lists that are near, when both are stretched to one length
-pub spread-near : (a e b c : ℕ) (g v f w : List ℕ) → IsFalling w → IsFalling g → IsWithin a e g f → IsWithin b c v w
-    → IsWithin b c (stretched a (spread g v)) (stretched e (spread f w))
+pub spread-near : (a e b c : ℕ) (g v f w : List ℕ) → IsFalling w → IsFalling g → SumsAreWithin a e g f → SumsAreWithin b c v w
+    → SumsAreWithin b c (stretched a (spread g v)) (stretched e (spread f w))
 spread-near a e b c g v f w fw fg near_g near_v r =
     omega (
       arith,
@@ -160,7 +160,7 @@ exacts ms = map (λ m. m.exact) ms
 -- row weights of children that are near, when both are stretched to one length
 pub spreads-near : (a n k : ℕ) → a * n ≤ (a + 1) * k → (ms : List MatchedChild) → AllByRecursion (IsNear a) ms
     → AllByRecursion (IsChildOf n) (nears ms) → AllByRecursion (IsChildOf k) (exacts ms) → AllByRecursion ColumnFalls (nears ms)
-    → IsWithin (scales ms) (factors ms) (stretched a (spreads (nears ms) n)) (stretched (a + 1) (spreads (exacts ms) k))
+    → SumsAreWithin (scales ms) (factors ms) (stretched a (spreads (nears ms) n)) (stretched (a + 1) (spreads (exacts ms) k))
 spreads-near a n k h [] near ok ok' fall r = omega (arith, running_sum-stretched-ones a n r, running_sum-stretched-ones (a + 1) k r)
 spreads-near a n k h (m ∷ ms) near ok ok' fall r =
     let s' : List ℕ = spreads (nears ms) n in
@@ -176,10 +176,10 @@ spreads-near a n k h (m ∷ ms) near ok ok' fall r =
     rw (mul_comm m.scale (scales ms), mul_comm m.factor (factors ms), sym (rank_product-stretched a s' t'), sym (rank_product-stretched (a + 1) s t)) both
 
 -- lists that are near, by an accuracy and by two numbers for each class, give a composition that is near
-pub composed-near : (a : ℕ) (g f : List ℕ) (ms : List MatchedChild) → IsWithin a (a + 1) g f → AllByRecursion (IsNear a) ms
+pub composed-near : (a : ℕ) (g f : List ℕ) (ms : List MatchedChild) → SumsAreWithin a (a + 1) g f → AllByRecursion (IsNear a) ms
     → AllByRecursion (IsChildOf (sum g)) (map (λ m. m.near) ms) → AllByRecursion (IsChildOf (sum f)) (map (λ m. m.exact) ms)
     → AllByRecursion ColumnFalls (map (λ m. m.near) ms)
-    → IsWithin (a * scales ms) ((a + 1) * factors ms) (composed g (map (λ m. m.near) ms)) (composed f (map (λ m. m.exact) ms))
+    → SumsAreWithin (a * scales ms) ((a + 1) * factors ms) (composed g (map (λ m. m.near) ms)) (composed f (map (λ m. m.exact) ms))
 composed-near a g f ms near_g near ok ok' fall r =
     let u : List ℕ = spreads (exacts ms) (sum f) in
     let v : List ℕ = spreads (nears ms) (sum g) in

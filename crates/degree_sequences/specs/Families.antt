@@ -20,8 +20,8 @@ pub record ChildIsAbove (child other : ChildLists) : Type 0 where
   pub class : IsAbove child.class other.class
 
 -- at every rank, `scale` times the running sum of s is at most `factor` times that of t
-abbrev pub IsWithin : ℕ → ℕ → List ℕ → List ℕ → Type 0
-IsWithin scale factor s t = (r : ℕ) → scale * running_sum s r ≤ factor * running_sum t r
+abbrev pub SumsAreWithin : ℕ → ℕ → List ℕ → List ℕ → Type 0
+SumsAreWithin scale factor s t = (r : ℕ) → scale * running_sum s r ≤ factor * running_sum t r
 
 -- a child, the one that it is near, and how near its class list is: scale times the one against factor times the other
 pub record MatchedChild : Type 0 where
@@ -32,8 +32,8 @@ pub record MatchedChild : Type 0 where
 
 -- a child is near its match: its column by the accuracy, its class list by its own two numbers
 pub record IsNear (accuracy : ℕ) (child : MatchedChild) : Type 0 where
-  pub column : IsWithin accuracy (accuracy + 1) child.near.column child.exact.column
-  pub class : IsWithin child.scale child.factor child.near.class child.exact.class
+  pub column : SumsAreWithin accuracy (accuracy + 1) child.near.column child.exact.column
+  pub class : SumsAreWithin child.scale child.factor child.near.class child.exact.class
 
 -- the product of the scales
 abbrev pub scales : List MatchedChild → ℕ

@@ -18,7 +18,7 @@ use Rattle.sql_meaning.specs.Levels as levels
 use Rattle.sql_meaning.specs.Levels.{scan}
 use Rattle.sql_meaning.specs.Tables.{Tables, row_counts}
 use Rattle.degree_sequences.proofs.Counting.{all-count}
-use Rattle.filtered_lists.specs.Filters.{Conjunction, joined, and_answer, conjunction_of, own_conjuncts, filtered}
+use Rattle.filtered_lists.specs.Filters.{Conjunction, one_conjunction, and_answer, conjunction_of, own_conjuncts, filtered}
 use Rattle.filtered_lists.specs.Lists.{ColumnLists, RowCounts, count_answers, filtered_list, row_bound}
 use Rattle.filtered_lists.specs.Ranges.{Range}
 use Rattle.filtered_lists.specs.Standing.{ListsStandFor, CountsStandFor, has_value, is_in_range, rows_where, scan_of}
@@ -106,7 +106,7 @@ module _ (tables : Tables) (entry : ℕ) where
   left_pass : (conjuncts : List Cond) (row : ℕ) → leaves conjuncts row ≡ true → filtered (row_tests tables entry) entry conjuncts row ≡ true
   left_pass conjuncts row h =
       let members : List (Conjunction (ℕ → Bool)) = map (λ c. conjunction_of (row_tests tables entry) c true) (own_conjuncts entry conjuncts) in
-      and_from (and_answer (row_tests tables entry) (joined members) row) true (and_passes tables entry row (joined members) (joined_passes tables entry row members (own_pass row conjuncts h))) refl
+      and_from (and_answer (row_tests tables entry) (one_conjunction members) row) true (and_passes tables entry row (one_conjunction members) (joined_passes tables entry row members (own_pass row conjuncts h))) refl
 
   -- ---- counts that are enough for the rows that are counted
 

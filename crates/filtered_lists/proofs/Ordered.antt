@@ -10,8 +10,8 @@ use Rattle.csv_tables.specs.Values.{Value, Int, Text, value_cmp}
 use Rattle.query_grammar.specs.declared.tree.Op.{Op}
 use Rattle.query_grammar.specs.declared.tree.Op.TheVariants as op
 use Rattle.sql_meaning.specs.Conditions.{compares}
-use Rattle.filtered_lists.specs.Comparisons.{opposite, turned}
-use Rattle.filtered_lists.specs.Ranges.{greater_of, lower_of, greatest, least}
+use Rattle.filtered_lists.specs.Comparisons.{opposite, mirrored}
+use Rattle.filtered_lists.specs.Ranges.{greater_of, lower_of, greatest_value, least}
 use Rattle.filtered_lists.specs.Standing.{is_from, is_up_to}
 
 -- ---- comparisons
@@ -42,7 +42,7 @@ opposite_compares op.Ge Less h = refl
 opposite_compares op.Ge Equal h = cc
 opposite_compares op.Ge Greater h = cc
 
-reversed_compares : (o : Op) (order : Ordering) → compares (turned o) order ≡ compares o (ordering_reverse order)
+reversed_compares : (o : Op) (order : Ordering) → compares (mirrored o) order ≡ compares o (ordering_reverse order)
 reversed_compares op.Eq Less = refl
 reversed_compares op.Eq Equal = refl
 reversed_compares op.Eq Greater = refl
@@ -62,7 +62,7 @@ reversed_compares op.Ge Less = refl
 reversed_compares op.Ge Equal = refl
 reversed_compares op.Ge Greater = refl
 
-pub turned_compares : (o : Op) (a b : Value) → compares (turned o) (value_cmp b a) ≡ compares o (value_cmp a b)
+pub turned_compares : (o : Op) (a b : Value) → compares (mirrored o) (value_cmp b a) ≡ compares o (value_cmp a b)
 turned_compares o a b = reversed_compares o (value_cmp b a) ∙ ap (compares o) (sym (value_cmp-reverse a b))
 
 -- ---- ends
@@ -76,9 +76,9 @@ from_greater value low (Some other) h k = either_end (is_lt (value_cmp low other
     either_end true = k
     either_end false = h
 
-pub from_greatest : (value : Value) (lows : List Value) → AllByRecursion (λ low. is_from (Some low) value ≡ true) lows → is_from (greatest lows) value ≡ true
+pub from_greatest : (value : Value) (lows : List Value) → AllByRecursion (λ low. is_from (Some low) value ≡ true) lows → is_from (greatest_value lows) value ≡ true
 from_greatest value [] h = refl
-from_greatest value (low ∷ lows) h = from_greater value low (greatest lows) h.0 (from_greatest value lows h.1)
+from_greatest value (low ∷ lows) h = from_greater value low (greatest_value lows) h.0 (from_greatest value lows h.1)
 
 up_to_lower : (value high : Value) (other : Option Value) → is_up_to (Some high) value ≡ true → is_up_to other value ≡ true → is_up_to (Some (lower_of high other)) value ≡ true
 up_to_lower value high None h k = h

@@ -7,9 +7,9 @@ use Rattle.query_types.specs.declared.types.Cond.TheFolds.{fold-roll-Cond}
 use Rattle.query_types.specs.declared.types.Cond.TheOpen.{Cond-F}
 use Rattle.query_types.specs.declared.types.Cond.TheOpen as layer
 use Rattle.query_types.specs.declared.types.Cond.TheVariants.{rolls-And, rolls-Or, rolls-Not, rolls-Compare}
-use Rattle.filtered_lists.specs.Filters.{Answers, Conjunction, conjunction_step, conjunction_of}
+use Rattle.filtered_lists.specs.Filters.{ComparisonAnswers, Conjunction, conjunction_step, conjunction_of}
 
-module _ {A : Type 0} (answers : Answers A) where
+module _ {A : Type 0} (answers : ComparisonAnswers A) where
   pub of_and : (all : List Cond) (holds : Bool) → conjunction_of answers (And all) holds ≡ conjunction_step answers (layer.And (map (conjunction_of answers) all)) holds
   of_and all holds = ap (λ (c : Cond). conjunction_of answers c holds) (sym (rolls-And all)) ∙ ap (λ (f : Bool → Conjunction A). f holds) (fold-roll-Cond (Bool → Conjunction A) (conjunction_step answers) (layer.And all))
 

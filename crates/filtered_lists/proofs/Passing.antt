@@ -20,14 +20,14 @@ use Rattle.sql_meaning.specs.Conditions as meaning
 use Rattle.sql_meaning.specs.Conditions.{column_value, operand_value, compares, comparison_says, cond_holds, holds_step}
 use Rattle.sql_meaning.specs.Tables.{Tables}
 use Rattle.degree_sequences.specs.Degrees.{different}
-use Rattle.filtered_lists.specs.Comparisons.{comparison_of, opposite, turned}
-use Rattle.filtered_lists.specs.Filters.{Answers, Conjunction, of_range, of_answer, joined, and_more, or_more, all_of, and_answer, or_answer, of_comparison, of_comparison_or_whole, conjunction_step, conjunction_of}
-use Rattle.filtered_lists.specs.Ranges.{Range, from_value, up_to_value, ranges_of, one_range, range_for_each_column, greatest, least}
+use Rattle.filtered_lists.specs.Comparisons.{comparison_of, opposite, mirrored}
+use Rattle.filtered_lists.specs.Filters.{ComparisonAnswers, Conjunction, of_range, of_answer, one_conjunction, and_more, or_more, all_of, and_answer, or_answer, of_comparison, of_comparison_or_whole, conjunction_step, conjunction_of}
+use Rattle.filtered_lists.specs.Ranges.{Range, from_value, up_to_value, ranges_of, one_range, range_for_each_column, greatest_value, least}
 use Rattle.filtered_lists.specs.Standing.{value_in_row, is_from, is_up_to, has_value, is_in_range}
 use Rattle.filtered_lists.proofs.Ordered.{opposite_compares, turned_compares, from_greatest, up_to_least}
 
 -- tests of an entry's rows
-abbrev pub row_tests : Tables → ℕ → Answers (ℕ → Bool)
+abbrev pub row_tests : Tables → ℕ → ComparisonAnswers (ℕ → Bool)
 row_tests tables entry = record {
   whole = λ row. true;
   equal = has_value tables entry;
@@ -50,7 +50,7 @@ back_part P [] ys h = h
 back_part P (x ∷ xs) ys h = back_part P xs ys h.1
 
 module _ (tables : Tables) (entry row : ℕ) where
-  abbrev tests : Answers (ℕ → Bool)
+  abbrev tests : ComparisonAnswers (ℕ → Bool)
   tests = row_tests tables entry
 
   abbrev IsIn : Range → Type 0
@@ -67,14 +67,14 @@ module _ (tables : Tables) (entry row : ℕ) where
   passes_answer : (test : ℕ → Bool) → test row ≡ true → Passes (of_answer test)
   passes_answer test h = record { ranges = tt; others = (h, tt) }
 
-  pub joined_passes : (cs : List (Conjunction (ℕ → Bool))) → AllByRecursion Passes cs → Passes (joined cs)
+  pub joined_passes : (cs : List (Conjunction (ℕ → Bool))) → AllByRecursion Passes cs → Passes (one_conjunction cs)
   joined_passes [] h = record { ranges = tt; others = tt }
   joined_passes (c ∷ cs) h =
       let first : Passes c = h.0 in
-      let rest : Passes (joined cs) = joined_passes cs h.1 in
+      let rest : Passes (one_conjunction cs) = joined_passes cs h.1 in
       record {
-        ranges = joined_parts IsIn c.ranges (joined cs).ranges first.ranges rest.ranges;
-        others = joined_parts Holds c.others (joined cs).others first.others rest.others;
+        ranges = joined_parts IsIn c.ranges (one_conjunction cs).ranges first.ranges rest.ranges;
+        others = joined_parts Holds c.others (one_conjunction cs).others first.others rest.others;
       }
 
   -- ---- one range of each column
@@ -124,7 +124,7 @@ module _ (tables : Tables) (entry row : ℕ) where
 
   in_one_range : (ranges : List Range) (column : ℕ) → AllByRecursion IsIn ranges → IsIn (one_range ranges column)
   in_one_range ranges column h =
-      let low : Option Value = greatest (filter_map (λ range. range.low) (ranges_of column ranges)) in
+      let low : Option Value = greatest_value (filter_map (λ range. range.low) (ranges_of column ranges)) in
       let high : Option Value = least (filter_map (λ range. range.high) (ranges_of column ranges)) in
       and_from (is_from low (value column)) (is_up_to high (value column))
       (from_greatest (value column) (filter_map (λ range. range.low) (ranges_of column ranges)) (ends_hold (λ end. is_from (Some end) (value column) ≡ true) (λ range. range.low) column ranges (lows column ranges h)))
@@ -196,8 +196,8 @@ module _ (tables : Tables) (entry row : ℕ) where
   left_column o column literal same h = comparison_passes o column.column literal (ap (λ (v : Value). compares o (value_cmp v literal)) (sym (column_is column same)) ∙ h)
 
   right_column : (o : Op) (column : ColumnRef) (literal : Value) → column.from ≡ entry → compares o (value_cmp literal (column_value tables (λ e. row) column)) ≡ true
-      → Passes (of_comparison tests (turned o) column.column literal)
-  right_column o column literal same h = left_column (turned o) column literal same (turned_compares o literal (column_value tables (λ e. row) column) ∙ h)
+      → Passes (of_comparison tests (mirrored o) column.column literal)
+  right_column o column literal same h = left_column (mirrored o) column literal same (turned_compares o literal (column_value tables (λ e. row) column) ∙ h)
 
   whole_passes : Passes (of_answer tests.whole)
   whole_passes = passes_answer (λ row. true) refl

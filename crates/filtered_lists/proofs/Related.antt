@@ -9,11 +9,11 @@ use Rattle.query_types.specs.declared.types.Cond.TheFolds.{fold-roll-Cond, ind-C
 use Rattle.query_types.specs.declared.types.Cond.TheOpen.{Cond-F}
 use Rattle.query_types.specs.declared.types.Cond.TheOpen as layer
 use Rattle.filtered_lists.specs.Comparisons.{Comparison, comparison_of, opposite}
-use Rattle.filtered_lists.specs.Filters.{Answers, Conjunction, of_answer, joined, and_more, all_of, or_more, and_answer, or_answer, of_comparison, of_comparison_or_whole, conjunction_step, conjunction_of, own_conjuncts, filtered}
+use Rattle.filtered_lists.specs.Filters.{ComparisonAnswers, Conjunction, of_answer, one_conjunction, and_more, all_of, or_more, and_answer, or_answer, of_comparison, of_comparison_or_whole, conjunction_step, conjunction_of, own_conjuncts, filtered}
 use Rattle.filtered_lists.specs.Ranges.{Range, from_value, up_to_value, range_for_each_column}
 
 -- answers to each comparison are related, and stay so when they are put together
-pub record AreRelated (A B : Type 0) (R : A → B → Type 0) (a : Answers A) (b : Answers B) : Type 0 where
+pub record AreRelated (A B : Type 0) (R : A → B → Type 0) (a : ComparisonAnswers A) (b : ComparisonAnswers B) : Type 0 where
   pub whole : R a.whole b.whole
   pub equal : (column : ℕ) (value : Value) → R (a.equal column value) (b.equal column value)
   pub range : (range : Range) → R (a.range range) (b.range range)
@@ -21,7 +21,7 @@ pub record AreRelated (A B : Type 0) (R : A → B → Type 0) (a : Answers A) (b
   pub none : R a.none b.none
   pub either : (x y : A) (x' y' : B) → R x x' → R y y' → R (a.either x y) (b.either x' y')
 
-module _ (A B : Type 0) (R : A → B → Type 0) (a : Answers A) (b : Answers B) (related : AreRelated A B R a b) where
+module _ (A B : Type 0) (R : A → B → Type 0) (a : ComparisonAnswers A) (b : ComparisonAnswers B) (related : AreRelated A B R a b) where
   -- the same ranges, and answers that are related
   pub record Alike (x : Conjunction A) (y : Conjunction B) : Type 0 where
     pub ranges : x.ranges ≡ y.ranges
@@ -69,16 +69,16 @@ module _ (A B : Type 0) (R : A → B → Type 0) (a : Answers A) (b : Answers B)
       each (x ∷ xs) [] h = absurd h
       each (x ∷ xs) (y ∷ ys) h = (and_related x y h.0, each xs ys h.1)
 
-  pub joined_alike : (xs : List (Conjunction A)) (ys : List (Conjunction B)) → AllZip Alike xs ys → Alike (joined xs) (joined ys)
+  pub joined_alike : (xs : List (Conjunction A)) (ys : List (Conjunction B)) → AllZip Alike xs ys → Alike (one_conjunction xs) (one_conjunction ys)
   joined_alike [] [] h = record { ranges = refl; others = tt }
   joined_alike [] (y ∷ ys) h = absurd h
   joined_alike (x ∷ xs) [] h = absurd h
   joined_alike (x ∷ xs) (y ∷ ys) h =
-      let rest : Alike (joined xs) (joined ys) = joined_alike xs ys h.1 in
+      let rest : Alike (one_conjunction xs) (one_conjunction ys) = joined_alike xs ys h.1 in
       let first : Alike x y = h.0 in
       record {
-        ranges = ap (λ (rs : List Range). rs ++ (joined xs).ranges) first.ranges ∙ ap (λ (rs : List Range). y.ranges ++ rs) rest.ranges;
-        others = zipped_append x.others (joined xs).others y.others (joined ys).others first.others rest.others;
+        ranges = ap (λ (rs : List Range). rs ++ (one_conjunction xs).ranges) first.ranges ∙ ap (λ (rs : List Range). y.ranges ++ rs) rest.ranges;
+        others = zipped_append x.others (one_conjunction xs).others y.others (one_conjunction ys).others first.others rest.others;
       }
 
   alike_answer : (x : A) (y : B) → R x y → Alike (of_answer x) (of_answer y)
@@ -107,7 +107,7 @@ module _ (A B : Type 0) (R : A → B → Type 0) (a : Answers A) (b : Answers B)
   members [] holds = tt
   members (y ∷ ys) holds = (y.1 holds, members ys holds)
 
-  abbrev within : {C : Type 0} → Answers C → List ((c : Cond) × IsAlike c) → Bool → List (Conjunction C)
+  abbrev within : {C : Type 0} → ComparisonAnswers C → List ((c : Cond) × IsAlike c) → Bool → List (Conjunction C)
   within answers ys holds = map (λ member. member holds) (map (conjunction_of answers) (map (λ y. y.0) ys))
 
   layers : (y : Cond-F ((c : Cond) × IsAlike c)) (holds : Bool)
@@ -136,8 +136,8 @@ module _ (A B : Type 0) (R : A → B → Type 0) (a : Answers A) (b : Answers B)
   pub filtered_related : (entry : ℕ) (conjuncts : List Cond) → R (filtered a entry conjuncts) (filtered b entry conjuncts)
   filtered_related entry conjuncts =
       let own : List Cond = own_conjuncts entry conjuncts in
-      let x : Conjunction A = joined (map (λ c. conjunction_of a c true) own) in
-      let y : Conjunction B = joined (map (λ c. conjunction_of b c true) own) in
+      let x : Conjunction A = one_conjunction (map (λ c. conjunction_of a c true) own) in
+      let y : Conjunction B = one_conjunction (map (λ c. conjunction_of b c true) own) in
       related.both (and_answer a x) a.whole (and_answer b y) b.whole
       (and_related x y (joined_alike (map (λ c. conjunction_of a c true) own) (map (λ c. conjunction_of b c true) own) (conds_alike own)))
       related.whole

@@ -12,12 +12,12 @@ use Rattle.query_types.specs.Named.{entries_of_operand}
 use Rattle.query_types.proofs.CondFacts.{entries_and, entries_or, entries_not, entries_compare}
 use Rattle.filtered_lists.specs.Examples.{column_x, column_y, list_where, number, range_x, range_y, six_rows, value, x_is, y_is}
 use Rattle.filtered_lists.specs.Lists.{ColumnLists, list_answers}
-use Rattle.filtered_lists.specs.Filters.{Conjunction, and_answer, joined, conjunction_of, conjunction_step}
+use Rattle.filtered_lists.specs.Filters.{Conjunction, and_answer, one_conjunction, conjunction_of, conjunction_step}
 use Rattle.filtered_lists.proofs.Parts.{of_and, of_or, of_not, of_compare}
 
 -- a comparison of the entry's columns alone
 pub one : (lists : ColumnLists) (o : Op) (left right : Operand) → are_just (entries_of_operand left ++ entries_of_operand right) 0 ≡ true
-    → list_where lists (Compare o left right) ≡ lesser (and_answer (list_answers lists) (joined (conjunction_step (list_answers lists) (layer.Compare o left right) true ∷ []))) lists.whole
+    → list_where lists (Compare o left right) ≡ lesser (and_answer (list_answers lists) (one_conjunction (conjunction_step (list_answers lists) (layer.Compare o left right) true ∷ []))) lists.whole
 one lists o left right named = rw (entries_compare o left right, named, of_compare (list_answers lists) o left right true) refl
 
 -- a comparison with columns of other entries
@@ -63,7 +63,7 @@ module _ (lists : ColumnLists) where
 
   pub two_columns : list_where lists both_columns ≡ lesser (lesser (lists.range (range_x (Some (value 1)) None)) (lists.range (range_y None (Some (value 2))))) lists.whole
   two_columns = rw (entries_and (x_is op.Gt 1 ∷ y_is op.Lt 2 ∷ []), entries_compare op.Gt column_x (number 1), entries_compare op.Lt column_y (number 2))
-      (ap (λ (c : Conjunction (List ℕ)). lesser (and_answer (list_answers lists) (joined (c ∷ []))) lists.whole) both_ranges)
+      (ap (λ (c : Conjunction (List ℕ)). lesser (and_answer (list_answers lists) (one_conjunction (c ∷ []))) lists.whole) both_ranges)
 
   pub literals : list_where lists (And (Compare op.Eq (number 2) (number 2) ∷ x_is op.Eq 1 ∷ [])) ≡ lesser (lesser lists.whole (lists.equal 0 (value 1))) lists.whole
   literals = rw (

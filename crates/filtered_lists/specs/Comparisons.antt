@@ -16,13 +16,13 @@ opposite op.Gt = op.Le
 opposite op.Ge = op.Lt
 
 -- the same comparison with its sides changed
-abbrev pub turned : Op → Op
-turned op.Eq = op.Eq
-turned op.Ne = op.Ne
-turned op.Lt = op.Gt
-turned op.Le = op.Ge
-turned op.Gt = op.Lt
-turned op.Ge = op.Le
+abbrev pub mirrored : Op → Op
+mirrored op.Eq = op.Eq
+mirrored op.Ne = op.Ne
+mirrored op.Lt = op.Gt
+mirrored op.Le = op.Ge
+mirrored op.Gt = op.Lt
+mirrored op.Ge = op.Le
 
 -- a column, by its number in its table, compared with a literal on its right
 pub record Comparison : Type 0 where
@@ -38,10 +38,10 @@ comparison_of op (operand.Column column) (operand.Text text) =
     Some (record { op = op; column = column.column; literal = Text text })
 comparison_of op (operand.Column column) (operand.Column other) = None
 comparison_of op (operand.Int number) (operand.Column column) =
-    Some (record { op = turned op; column = column.column; literal = Int number })
+    Some (record { op = mirrored op; column = column.column; literal = Int number })
 comparison_of op (operand.Int number) (operand.Int other) = None
 comparison_of op (operand.Int number) (operand.Text text) = None
 comparison_of op (operand.Text text) (operand.Column column) =
-    Some (record { op = turned op; column = column.column; literal = Text text })
+    Some (record { op = mirrored op; column = column.column; literal = Text text })
 comparison_of op (operand.Text text) (operand.Int number) = None
 comparison_of op (operand.Text text) (operand.Text other) = None

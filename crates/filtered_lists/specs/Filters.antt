@@ -14,7 +14,7 @@ use Rattle.filtered_lists.specs.Ranges.{Range, from_value, up_to_value, range_fo
 
 -- an answer for all rows of an entry, for the rows that have a value in a column, and for those in a range of a column;
 -- and how answers are put together
-pub record Answers (A : Type 0) : Type 0 where
+pub record ComparisonAnswers (A : Type 0) : Type 0 where
   pub whole : A
   pub equal : ℕ → Value → A
   pub range : Range → A
@@ -34,37 +34,37 @@ abbrev pub of_answer : {A : Type 0} → A → Conjunction A
 of_answer answer = record { ranges = []; others = answer ∷ [] }
 
 -- ANDs within an AND are one
-abbrev pub joined : {A : Type 0} → List (Conjunction A) → Conjunction A
-joined [] = record { ranges = []; others = [] }
-joined (member ∷ members) = record { ranges = member.ranges ++ (joined members).ranges; others = member.others ++ (joined members).others }
+abbrev pub one_conjunction : {A : Type 0} → List (Conjunction A) → Conjunction A
+one_conjunction [] = record { ranges = []; others = [] }
+one_conjunction (member ∷ members) = record { ranges = member.ranges ++ (one_conjunction members).ranges; others = member.others ++ (one_conjunction members).others }
 
-abbrev pub and_more : {A : Type 0} → Answers A → A → List A → A
+abbrev pub and_more : {A : Type 0} → ComparisonAnswers A → A → List A → A
 and_more answers so_far [] = so_far
 and_more answers so_far (x ∷ xs) = and_more answers (answers.both so_far x) xs
 
 -- all of the answers, where there are some
-abbrev pub all_of : {A : Type 0} → Answers A → List A → A
+abbrev pub all_of : {A : Type 0} → ComparisonAnswers A → List A → A
 all_of answers [] = answers.whole
 all_of answers (x ∷ xs) = and_more answers x xs
 
-abbrev pub or_more : {A : Type 0} → Answers A → A → List A → A
+abbrev pub or_more : {A : Type 0} → ComparisonAnswers A → A → List A → A
 or_more answers so_far [] = so_far
 or_more answers so_far (x ∷ xs) = or_more answers (answers.either so_far x) xs
 
 -- any of the answers
-abbrev pub any_of : {A : Type 0} → Answers A → List A → A
+abbrev pub any_of : {A : Type 0} → ComparisonAnswers A → List A → A
 any_of answers xs = or_more answers answers.none xs
 
 -- AND: all of the answers of its members, in which the ranges of one column are one
-abbrev pub and_answer : {A : Type 0} → Answers A → Conjunction A → A
+abbrev pub and_answer : {A : Type 0} → ComparisonAnswers A → Conjunction A → A
 and_answer answers members = all_of answers (members.others ++ map answers.range (range_for_each_column members.ranges))
 
 -- OR: any of the answers of its members
-abbrev pub or_answer : {A : Type 0} → Answers A → List (Conjunction A) → A
+abbrev pub or_answer : {A : Type 0} → ComparisonAnswers A → List (Conjunction A) → A
 or_answer answers members = any_of answers (map (and_answer answers) members)
 
 -- a comparison of a column with a literal. <> is below or above, each a range with one end, and joins no range
-abbrev pub of_comparison : {A : Type 0} → Answers A → Op → ℕ → Value → Conjunction A
+abbrev pub of_comparison : {A : Type 0} → ComparisonAnswers A → Op → ℕ → Value → Conjunction A
 of_comparison answers op.Eq column literal = of_answer (answers.equal column literal)
 of_comparison answers op.Ne column literal =
     of_answer (answers.either (answers.range (up_to_value column literal)) (answers.range (from_value column literal)))
@@ -74,24 +74,24 @@ of_comparison answers op.Gt column literal = of_range (from_value column literal
 of_comparison answers op.Ge column literal = of_range (from_value column literal)
 
 -- any other comparison is whole
-abbrev pub of_comparison_or_whole : {A : Type 0} → Answers A → Option Comparison → Conjunction A
+abbrev pub of_comparison_or_whole : {A : Type 0} → ComparisonAnswers A → Option Comparison → Conjunction A
 of_comparison_or_whole answers None = of_answer answers.whole
 of_comparison_or_whole answers (Some c) = of_comparison answers c.op c.column c.literal
 
 -- NOT is pushed down: false stands for the opposite of a condition. It turns AND into OR, OR into AND, and each
 -- comparison into its opposite
-abbrev pub conjunction_step : {A : Type 0} → Answers A → Cond-F (Bool → Conjunction A) → Bool → Conjunction A
-conjunction_step answers (layer.And all) true = joined (map (λ member. member true) all)
+abbrev pub conjunction_step : {A : Type 0} → ComparisonAnswers A → Cond-F (Bool → Conjunction A) → Bool → Conjunction A
+conjunction_step answers (layer.And all) true = one_conjunction (map (λ member. member true) all)
 conjunction_step answers (layer.And all) false = of_answer (or_answer answers (map (λ member. member false) all))
 conjunction_step answers (layer.Or any) true = of_answer (or_answer answers (map (λ member. member true) any))
-conjunction_step answers (layer.Or any) false = joined (map (λ member. member false) any)
+conjunction_step answers (layer.Or any) false = one_conjunction (map (λ member. member false) any)
 conjunction_step answers (layer.Not inner) true = inner false
 conjunction_step answers (layer.Not inner) false = inner true
 conjunction_step answers (layer.Compare op left right) true = of_comparison_or_whole answers (comparison_of op left right)
 conjunction_step answers (layer.Compare op left right) false = of_comparison_or_whole answers (comparison_of (opposite op) left right)
 
 -- what a condition, or its opposite, adds to the AND in which it stands
-abbrev pub conjunction_of : {A : Type 0} → Answers A → Cond → Bool → Conjunction A
+abbrev pub conjunction_of : {A : Type 0} → ComparisonAnswers A → Cond → Bool → Conjunction A
 conjunction_of {A} answers = fold-Cond (Bool → Conjunction A) (conjunction_step answers)
 
 -- the conjuncts that name an entry and no other one
@@ -99,6 +99,6 @@ abbrev pub own_conjuncts : ℕ → List Cond → List Cond
 own_conjuncts entry conjuncts = filter (names_just entry) conjuncts
 
 -- the AND of an entry's own conjuncts, within the whole
-abbrev pub filtered : {A : Type 0} → Answers A → ℕ → List Cond → A
+abbrev pub filtered : {A : Type 0} → ComparisonAnswers A → ℕ → List Cond → A
 filtered answers entry conjuncts =
-    answers.both (and_answer answers (joined (map (λ c. conjunction_of answers c true) (own_conjuncts entry conjuncts)))) answers.whole
+    answers.both (and_answer answers (one_conjunction (map (λ c. conjunction_of answers c true) (own_conjuncts entry conjuncts)))) answers.whole

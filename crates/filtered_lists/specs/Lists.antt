@@ -4,7 +4,7 @@ use Rattle.csv_tables.specs.Values.{Value}
 use Rattle.degree_sequences.specs.ByRank.{rank_sum}
 use Rattle.degree_sequences.specs.RunningSums.{lesser}
 use Rattle.query_types.specs.declared.types.Cond.{Cond}
-use Rattle.filtered_lists.specs.Filters.{Answers, filtered}
+use Rattle.filtered_lists.specs.Filters.{ComparisonAnswers, filtered}
 use Rattle.filtered_lists.specs.Ranges.{Range}
 
 -- what statistics know of a joined column of an entry: a list for all rows, for the rows that have a value in a filter
@@ -15,7 +15,7 @@ pub record ColumnLists : Type 0 where
   pub range : Range → List ℕ
 
 -- AND takes the minima of running sums, OR the sum rank by rank
-abbrev pub list_answers : ColumnLists → Answers (List ℕ)
+abbrev pub list_answers : ColumnLists → ComparisonAnswers (List ℕ)
 list_answers lists = record { whole = lists.whole; equal = lists.equal; range = lists.range; both = lesser; none = []; either = rank_sum }
 
 -- the list of a joined column where an entry is filtered by its own conjuncts
@@ -29,7 +29,7 @@ pub record RowCounts : Type 0 where
   pub range : Range → ℕ
 
 -- AND takes the least, OR the sum
-abbrev pub count_answers : RowCounts → Answers ℕ
+abbrev pub count_answers : RowCounts → ComparisonAnswers ℕ
 count_answers counts = record { whole = counts.whole; equal = counts.equal; range = counts.range; both = min; none = 0; either = ◌+◌ }
 
 -- the row bound of an entry that is filtered by its own conjuncts

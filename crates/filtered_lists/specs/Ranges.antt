@@ -28,9 +28,9 @@ lower_of value None = value
 lower_of value (Some other) = if is_gt (value_cmp value other) then other else value
 
 -- the greatest of values, if there is one
-abbrev pub greatest : List Value → Option Value
-greatest [] = None
-greatest (value ∷ values) = Some (greater_of value (greatest values))
+abbrev pub greatest_value : List Value → Option Value
+greatest_value [] = None
+greatest_value (value ∷ values) = Some (greater_of value (greatest_value values))
 
 -- the least of values, if there is one
 abbrev pub least : List Value → Option Value
@@ -45,7 +45,7 @@ ranges_of column ranges = filter (λ range. range.column == column) ranges
 abbrev pub one_range : List Range → ℕ → Range
 one_range ranges column = record {
   column = column;
-  low = greatest (filter_map (λ range. range.low) (ranges_of column ranges));
+  low = greatest_value (filter_map (λ range. range.low) (ranges_of column ranges));
   high = least (filter_map (λ range. range.high) (ranges_of column ranges));
 }
 

@@ -21,7 +21,7 @@ use Rattle.predicate_bounds.specs.declared.steps.Step.{Step}
 use Rattle.predicate_bounds.specs.ListRuns.{listed}
 use Rattle.sql_meaning.specs.Databases.{AreCells}
 use Rattle.sql_meaning.proofs.ColumnFacts.{column_at}
-use Rattle.table_stats.specs.Cells.{StandsFor}
+use Rattle.table_stats.specs.Cells.{IsCellFor}
 use Rattle.csv_tables.proofs.TableFacts.{columns_long}
 use Rattle.gathered_stats.specs.Columns.{HaveLists, cells_in, kind_in}
 use Rattle.gathered_stats.specs.Filters.{IsColumnIn}
@@ -65,7 +65,7 @@ module _ (texts : List (List ℕ)) (cells : Cells) where
 
   module _ (accuracy : ℕ) (keys : List ℕ) (lists : ColumnLists) (have : HaveLists texts cells accuracy keys lists) where
     pub literal_list : (column : ℕ) (value : Value) (cell : Option ℕ) (sorted : CellColumn) (list : List ℕ) → IsColumnIn texts cells column sorted
-        → StandsFor texts (kind_in cells column) value cell → list ≡ list_of_value accuracy (zip sorted.cells keys) cell → list ≡ lists.equal column value
+        → IsCellFor texts (kind_in cells column) value cell → list ≡ list_of_value accuracy (zip sorted.cells keys) cell → list ≡ lists.equal column value
     literal_list column value cell sorted list is stands made =
         made ∙ ap (λ (s : CellColumn). list_of_value accuracy (zip s.cells keys) cell) is.is ∙ have.equal column value cell is.exists stands
 

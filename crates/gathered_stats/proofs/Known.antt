@@ -26,7 +26,7 @@ use Rattle.join_graph.specs.Conjuncts.{names_just}
 use Rattle.sql_meaning.specs.Databases.{IsAskable, IsColumnOf, IsColumnOfKind}
 use Rattle.sql_meaning.specs.Tables.{cells_of}
 use Rattle.filtered_lists.specs.Comparisons.{comparison_of, opposite}
-use Rattle.filtered_lists.specs.Filters.{Conjunction, all_of, and_answer, and_more, conjunction_of, conjunction_step, joined, of_answer, of_comparison, of_comparison_or_whole, or_answer, or_more, own_conjuncts}
+use Rattle.filtered_lists.specs.Filters.{Conjunction, all_of, and_answer, and_more, conjunction_of, conjunction_step, one_conjunction, of_answer, of_comparison, of_comparison_or_whole, or_answer, or_more, own_conjuncts}
 use Rattle.filtered_lists.specs.Ranges.{Range, from_value, one_range, range_for_each_column, up_to_value}
 use Rattle.predicate_bounds.specs.declared.steps.Step.{Step}
 use Rattle.predicate_bounds.specs.declared.steps.Step.TheVariants as step
@@ -93,14 +93,14 @@ module _ (cells : Cells) where
   or_within : (cs : List (Conjunction (List Step))) → AllByRecursion IsWithin cs → IsWithin (of_answer (or_answer step_answers cs))
   or_within cs h = record { ranges = tt; others = (any_within step_answers.none (map (and_answer step_answers) cs) (tt, tt) (each_within cs h), tt) }
 
-  joined_within : (cs : List (Conjunction (List Step))) → AllByRecursion IsWithin cs → IsWithin (joined cs)
+  joined_within : (cs : List (Conjunction (List Step))) → AllByRecursion IsWithin cs → IsWithin (one_conjunction cs)
   joined_within [] h = record { ranges = tt; others = tt }
   joined_within (c ∷ cs) h =
       let first : IsWithin c = h.0 in
-      let rest : IsWithin (joined cs) = joined_within cs h.1 in
+      let rest : IsWithin (one_conjunction cs) = joined_within cs h.1 in
       record {
-        ranges = joined_parts (λ range. Exists range.column) c.ranges (joined cs).ranges first.ranges rest.ranges;
-        others = joined_parts AskWithin c.others (joined cs).others first.others rest.others;
+        ranges = joined_parts (λ range. Exists range.column) c.ranges (one_conjunction cs).ranges first.ranges rest.ranges;
+        others = joined_parts AskWithin c.others (one_conjunction cs).others first.others rest.others;
       }
 
   comparison_within : (o : Op) (column : ℕ) (value : Value) → Exists column → IsWithin (of_comparison step_answers o column value)
@@ -204,5 +204,5 @@ module _ (db : Database) (entry : ℕ) where
   steps_within conds asked =
       let members : List (Conjunction (List Step)) = map (λ c. conjunction_of step_answers c true) (own_conjuncts entry conds) in
       All-from_recursion (AsksWithin (cells_of db entry)) (steps_of entry conds)
-      (both_within (cells_of db entry) (and_answer step_answers (joined members)) (step.Whole ∷ [])
-      (and_within (cells_of db entry) (joined members) (joined_within (cells_of db entry) members (own_known conds (recursion_from_All (IsAskable db) conds asked)))) (tt, tt))
+      (both_within (cells_of db entry) (and_answer step_answers (one_conjunction members)) (step.Whole ∷ [])
+      (and_within (cells_of db entry) (one_conjunction members) (joined_within (cells_of db entry) members (own_known conds (recursion_from_All (IsAskable db) conds asked)))) (tt, tt))

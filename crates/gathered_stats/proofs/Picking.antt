@@ -31,11 +31,11 @@ use Rattle.gathered_stats.specs.Asked.{column_asked, joined_columns}
 use Rattle.gathered_stats.specs.Beside.{AreStepsBeside, IsGatheredBeside, IsPicked, ServeColumns}
 use Rattle.gathered_stats.specs.Columns.{HaveLists, cells_in, kind_in}
 use Rattle.gathered_stats.specs.Filters.{IsColumnIn, Serve}
-use Rattle.gathered_stats.specs.Seen.{AreRowsOf, cells_at, picked}
+use Rattle.gathered_stats.specs.Seen.{AreRowNumbersOf, cells_at, picked}
 use Rattle.gathered_stats.proofs.Seeing.{picked_cells}
 use Rattle.gathered_stats.proofs.Serving.{one_item_more}
 
-module _ (texts : List (List ℕ)) (cells : Cells) (are : AreCells texts cells) (rows : List ℕ) (low : AreRowsOf cells rows) where
+module _ (texts : List (List ℕ)) (cells : Cells) (are : AreCells texts cells) (rows : List ℕ) (low : AreRowNumbersOf cells rows) where
   whole_column : (column : ℕ) → column < length cells.kinds → IsColumn texts cells.rows (kind_in cells column) (cells_in cells column)
   whole_column column exists = column_at texts cells.rows cells.kinds cells.columns are column kind.Int [] exists
 

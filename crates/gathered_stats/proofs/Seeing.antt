@@ -7,7 +7,7 @@ use Rattle.csv_tables.specs.declared.types.Cells.{Cells}
 use Rattle.csv_tables.specs.Cells.{AreColumns, IsCell}
 use Rattle.sql_meaning.specs.Databases.{AreCells}
 use Rattle.gathered_stats.specs.declared.entry_table.EntryTable.{EntryTable}
-use Rattle.gathered_stats.specs.Seen.{AreRowsOf, cells_at, picked, seen}
+use Rattle.gathered_stats.specs.Seen.{AreRowNumbersOf, cells_at, picked, seen}
 
 -- rows have the kinds of their table
 pub seen_kinds : (table : EntryTable) → (seen table).kinds ≡ table.cells.now.kinds
@@ -45,5 +45,5 @@ columns_at texts count (kind ∷ kinds) (column ∷ columns) are rows low = (
   columns_at texts count kinds columns are.1 rows low,
 )
 
-pub are_cells_at : (texts : List (List ℕ)) (cells : Cells) (rows : List ℕ) → AreCells texts cells → AreRowsOf cells rows → AreCells texts (cells_at rows cells)
+pub are_cells_at : (texts : List (List ℕ)) (cells : Cells) (rows : List ℕ) → AreCells texts cells → AreRowNumbersOf cells rows → AreCells texts (cells_at rows cells)
 are_cells_at texts cells rows are low = columns_at texts cells.rows cells.kinds cells.columns are rows low

@@ -13,7 +13,7 @@ use Rattle.std.proofs.lemmas.Slice.Eq.{bytes_eq-Decides}
 use Rattle.std.proofs.lemmas.Str.{encodes-chars}
 use Rattle.schema_types.specs.declared.types.Kind.TheVariants as kind
 use Rattle.csv_tables.specs.Values.{Text}
-use Rattle.table_stats.specs.Cells.{StandsFor}
+use Rattle.table_stats.specs.Cells.{IsCellFor}
 
 -- ---- the place of a text
 
@@ -42,7 +42,7 @@ same_chars a b = is_eq-slice_cmp (chars a) (chars b)
 
 -- a text has its cell
 pub found_stands : (texts : List (List ℕ)) (most : ℕ) (text : List ℕ) (cell : ℕ) → position (bytes_eq text) texts ≡ Some cell
-    → StandsFor texts (kind.Text most) (Text text) (Some cell)
+    → IsCellFor texts (kind.Text most) (Text text) (Some cell)
 found_stands texts most text cell h =
     let at = position-Some (bytes_eq text) texts cell [] h in
     let is : text ≡ get_or texts cell [] = (bytes_eq-Decides text (get_or texts cell [])).0 at.1 in
@@ -50,7 +50,7 @@ found_stands texts most text cell h =
 
 -- a text that the pool hasn't has none
 pub absent_stands : (texts : List (List ℕ)) (most : ℕ) (text : List ℕ) → All IsUtf8 texts → IsUtf8 text → position (bytes_eq text) texts ≡ None
-    → StandsFor texts (kind.Text most) (Text text) None
+    → IsCellFor texts (kind.Text most) (Text text) None
 absent_stands texts most text utf8 own h = λ cell low.
     let other : List ℕ = get_or texts cell [] in
     let apart : bytes_eq text other ≡ false = nowhere (bytes_eq text) [] texts cell h low in

@@ -27,7 +27,7 @@ use Rattle.table_stats.proofs.DatabaseColumns.{cells_equal, cells_range, cells_w
 use Rattle.table_stats.specs.Statistics.{column_lists, entry_counts}
 use Rattle.csv_tables.proofs.TableFacts.{columns_long}
 use Rattle.gathered_stats.specs.Asked.{AreStepsOf, IsGathered, asked_columns}
-use Rattle.gathered_stats.specs.Columns.{HasLists, HaveLists, cells_in, keys_in}
+use Rattle.gathered_stats.specs.Columns.{KeysHaveLists, HaveLists, cells_in, keys_in}
 use Rattle.gathered_stats.specs.Statistics.{statistics_of}
 use Rattle.gathered_stats.proofs.Joined.{asked_place, place_asked, place_exists, some_asked}
 use Rattle.gathered_stats.proofs.MissingColumns.{missing_lists}
@@ -107,11 +107,11 @@ module _ (query : Query) (db : Database) (accuracy : ℕ) (of : IsDatabaseOf que
       same_ref a b c d h k = rw (h, k) refl
 
   -- each column of an entry's table has its lists
-  pub columns_have : (entry : ℕ) (cells : Cells) → entry < length query.from → cells ≡ cells_of db entry → (column : ℕ) → column < length cells.kinds → HasLists db.pool cells accuracy column
+  pub columns_have : (entry : ℕ) (cells : Cells) → entry < length query.from → cells ≡ cells_of db entry → (column : ℕ) → column < length cells.kinds → KeysHaveLists db.pool cells accuracy column
   columns_have entry cells low is column exists =
       let named : IsColumnOf db (record { from = entry; column = column }) =
       record { entry = omega (arith, low, of.entries); exists = subst (λ (t : Cells). column < length t.kinds) is exists } in
-      subst (λ (t : Cells). HasLists db.pool t accuracy column) (sym is)
+      subst (λ (t : Cells). KeysHaveLists db.pool t accuracy column) (sym is)
       (column_lists (tables_of db) accuracy entry column, of_column (record { from = entry; column = column }) named (cells_there entry low))
 
   -- ---- what is told

@@ -9,13 +9,13 @@ use Rattle.predicate_bounds.specs.declared.columns.ColumnSteps.{ColumnSteps}
 use Rattle.predicate_bounds.specs.declared.steps.Step.{Step}
 use Rattle.predicate_bounds.specs.ListRuns.{listed}
 use Rattle.gathered_stats.specs.Asked.{AreStepsOf}
-use Rattle.gathered_stats.specs.Columns.{HasLists, HaveLists, keys_in}
+use Rattle.gathered_stats.specs.Columns.{KeysHaveLists, HaveLists, keys_in}
 
 -- a list that is the one of all rows wherever a column's steps have their lists is that of the column's keys
 pub column_whole : (texts : List (List ℕ)) (cells : Cells) (accuracy column : ℕ) (steps : List Step) (columns read : List ColumnSteps) (i : ℕ) (gathered : ColumnSteps) (list : List ℕ)
     → read ≡ columns → i < length read → gathered ≡ get_or read i gathered → gathered.column ≡ column
     → ((lists : ColumnLists) → gathered.steps ≡ map (listed lists) steps → list ≡ lists.whole)
-    → HasLists texts cells accuracy column → All (AreStepsOf texts cells accuracy steps) columns → list ≡ compressed_degrees accuracy (keys_in cells column)
+    → KeysHaveLists texts cells accuracy column → All (AreStepsOf texts cells accuracy steps) columns → list ≡ compressed_degrees accuracy (keys_in cells column)
 column_whole texts cells accuracy column steps columns read i gathered list same low at named whole has all =
     let mine : AreStepsOf texts cells accuracy steps gathered =
     subst (AreStepsOf texts cells accuracy steps) (sym at) (subst (All (AreStepsOf texts cells accuracy steps)) (sym same) all i gathered low) in

@@ -9,7 +9,7 @@ use Rattle.cond_stats.specs.Columns.{list_between}
 use Rattle.cond_stats.specs.Lists.{compressed_degrees, list_of_value}
 use Rattle.filtered_lists.specs.Lists.{ColumnLists}
 use Rattle.filtered_lists.specs.Ranges.{Range}
-use Rattle.table_stats.specs.Cells.{StandsFor}
+use Rattle.table_stats.specs.Cells.{IsCellFor}
 
 -- the kind of a column, and its cells
 abbrev pub kind_in : Cells → ℕ → Kind
@@ -27,12 +27,12 @@ keys_in cells column = slice_index_or cells.columns column (replicate cells.rows
 pub record HaveLists (texts : List (List ℕ)) (cells : Cells) (accuracy : ℕ) (keys : List ℕ) (lists : ColumnLists) : Type 0 where
   pub whole : compressed_degrees accuracy keys ≡ lists.whole
   pub equal : (column : ℕ) (value : Value) (cell : Option ℕ) → column < length cells.kinds
-      → StandsFor texts (kind_in cells column) value cell
+      → IsCellFor texts (kind_in cells column) value cell
       → list_of_value accuracy (zip (cells_in cells column) keys) cell ≡ lists.equal column value
   pub range : (range : Range) → range.column < length cells.kinds
       → list_between texts (kind_in cells range.column) accuracy (zip (cells_in cells range.column) keys) range.low range.high
       ≡ lists.range range
 
 -- a column's keys have some
-abbrev pub HasLists : List (List ℕ) → Cells → ℕ → ℕ → Type 0
-HasLists texts cells accuracy column = (lists : ColumnLists) × HaveLists texts cells accuracy (keys_in cells column) lists
+abbrev pub KeysHaveLists : List (List ℕ) → Cells → ℕ → ℕ → Type 0
+KeysHaveLists texts cells accuracy column = (lists : ColumnLists) × HaveLists texts cells accuracy (keys_in cells column) lists

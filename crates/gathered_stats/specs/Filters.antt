@@ -36,5 +36,5 @@ pub record IsReady (table : EntryTable) : Type 0 where
   pub filters : All (IsFilterOf table.pool.now (seen table)) table.filters
 
 -- keys, one for each row of the table, have these lists
-abbrev pub AreListsOf : EntryTable → List ℕ → ColumnLists → Type 0
-AreListsOf table keys lists = HaveLists table.pool.now (seen table) table.accuracy keys lists
+abbrev pub AreColumnListsOf : EntryTable → List ℕ → ColumnLists → Type 0
+AreColumnListsOf table keys lists = HaveLists table.pool.now (seen table) table.accuracy keys lists

@@ -12,8 +12,8 @@ abbrev pub cells_at : List ℕ → Cells → Cells
 cells_at rows cells = record { kinds = cells.kinds; columns = map (picked rows) cells.columns; rows = length rows }
 
 -- each is the number of a row
-abbrev pub AreRowsOf : Cells → List ℕ → Type 0
-AreRowsOf cells rows = All (λ row. row < cells.rows) rows
+abbrev pub AreRowNumbersOf : Cells → List ℕ → Type 0
+AreRowNumbersOf cells rows = All (λ row. row < cells.rows) rows
 
 -- the cells that an entry's table shows
 abbrev pub seen : EntryTable → Cells

@@ -8,9 +8,9 @@ ghost use Rattle.sql_meaning.specs.Tables.{cells_of};
 ghost use Rattle.cond_stats.specs.Lists.{compressed_degrees};
 ghost use Rattle.gathered_stats.specs.Asked.{AreStepsOf, AsksWithin, IsGathered, column_asked};
 ghost use Rattle.gathered_stats.specs.Beside.{ArePicked, AreGatheredBeside, AreStepsBeside, IsGatheredBeside, IsPicked, ServeColumns};
-ghost use Rattle.gathered_stats.specs.Columns.{HasLists, keys_in};
+ghost use Rattle.gathered_stats.specs.Columns.{KeysHaveLists, keys_in};
 ghost use Rattle.gathered_stats.specs.Filters.{IsFilterOf, IsReady, Serve};
-ghost use Rattle.gathered_stats.specs.Seen.{AreRowsOf, cells_at, seen};
+ghost use Rattle.gathered_stats.specs.Seen.{AreRowNumbersOf, cells_at, seen};
 
 use crate::columns::joined_columns;
 use crate::entry_table::{EntryTable, cells_in_entry};
@@ -65,7 +65,7 @@ fn pick(
 ) -> Result<PickedColumn, NoMemory>
     requires cells { AreCells pool.now cells.now }
     requires exists { column < length cells.now.kinds }
-    requires rows { AreRowsOf cells.now rows.now }
+    requires rows { AreRowNumbersOf cells.now rows.now }
     ensures { IfOk result (IsPicked cells.now rows.now column) }
 {
     let at = column as usize;
@@ -89,7 +89,7 @@ fn add_picked(
 ) -> Result<(), NoMemory>
     requires cells { AreCells pool.now cells.now }
     requires exists { AsksWithin cells.now step.now }
-    requires rows { AreRowsOf cells.now rows.now }
+    requires rows { AreRowNumbersOf cells.now rows.now }
     requires columns { ArePicked cells.now rows.now columns.old }
     ensures columns { OnOk result (ArePicked cells.now rows.now columns.new) }
     ensures served { OnOk result (ServeColumns columns.new step.now) }
@@ -114,7 +114,7 @@ fn picked_columns(
 ) -> Result<Seq<PickedColumn>, NoMemory>
     requires cells { AreCells pool.now cells.now }
     requires exist { All (AsksWithin cells.now) steps.now }
-    requires rows { AreRowsOf cells.now rows.now }
+    requires rows { AreRowNumbersOf cells.now rows.now }
     ensures columns { IfOk result (ArePicked cells.now rows.now) }
     ensures served { IfOk result (λ columns. All (ServeColumns columns) steps.now) }
 {
@@ -134,7 +134,7 @@ fn sorted_columns<'a>(
     columns: &'a [PickedColumn],
 ) -> Result<Seq<Filter<'a>>, NoMemory>
     requires cells { AreCells pool.now cells.now }
-    requires rows { AreRowsOf cells.now rows.now }
+    requires rows { AreRowNumbersOf cells.now rows.now }
     requires few { length rows.now < 2 ^ 32 }
     requires columns { ArePicked cells.now rows.now columns.now }
     ensures filters { IfOk result (λ filters. All (IsFilterOf pool.now (cells_at rows.now cells.now)) filters) }
@@ -189,7 +189,7 @@ fn gather_other(
 ) -> Result<ColumnSteps, NoMemory>
     requires ready { IsReady table.now }
     requires served { All (Serve table.now.filters) steps.now }
-    requires rows { AreRowsOf cells.now rows.now }
+    requires rows { AreRowNumbersOf cells.now rows.now }
     requires beside { length rows.now ≡ length table.now.rows.now }
     requires at_rows { table.now.whole ≡ false }
     requires cells { AreCells table.now.pool.now cells.now }
@@ -222,12 +222,12 @@ fn gather_others(
 ) -> Result<EntryStats, NoMemory>
     requires ready { IsReady table.now }
     requires served { All (Serve table.now.filters) steps.now }
-    requires rows { AreRowsOf cells.now rows.now }
+    requires rows { AreRowNumbersOf cells.now rows.now }
     requires beside { length rows.now ≡ length table.now.rows.now }
     requires at_rows { table.now.whole ≡ false }
     requires cells { AreCells table.now.pool.now cells.now }
     requires columns { All (λ column. column < length cells.now.kinds) columns.now }
-    requires lists { (column : ℕ) → column < length cells.now.kinds → HasLists table.now.pool.now cells.now table.now.accuracy column }
+    requires lists { (column : ℕ) → column < length cells.now.kinds → KeysHaveLists table.now.pool.now cells.now table.now.accuracy column }
     requires own { All (AreStepsOf table.now.pool.now cells.now table.now.accuracy own_steps.now) own.now.columns }
     ensures { IfOk result (AreGatheredBeside table.now cells.now rows.now steps.now columns.now) }
 {
@@ -256,8 +256,8 @@ pub fn gather_beside(
     requires database { IsDatabaseOf query.now db.now }
     requires entry { beside.now.entry < length query.now.from }
     requires other { beside.now.other < length query.now.from }
-    requires rows { AreRowsOf (cells_of db.now beside.now.entry) beside.now.rows.now }
-    requires other_rows { AreRowsOf (cells_of db.now beside.now.other) beside.now.other_rows.now }
+    requires rows { AreRowNumbersOf (cells_of db.now beside.now.entry) beside.now.rows.now }
+    requires other_rows { AreRowNumbersOf (cells_of db.now beside.now.other) beside.now.other_rows.now }
     requires as_many { length beside.now.other_rows.now ≡ length beside.now.rows.now }
     requires few { length beside.now.rows.now < 2 ^ 32 }
     requires other_stats { IsGathered query.now db.now accuracy beside.now.other beside.now.other_stats.now }

@@ -6,7 +6,7 @@ ghost use Rattle.filtered_lists.specs.Lists.{ColumnLists};
 ghost use Rattle.predicate_bounds.specs.ListRuns.{is_small, listed};
 ghost use Rattle.predicate_bounds.specs.Steps.{range_of, value_of};
 ghost use Rattle.gathered_stats.specs.Asked.{is_whole};
-ghost use Rattle.gathered_stats.specs.Filters.{AreListsOf, IsColumnIn, IsReady, Serve, is_sorted};
+ghost use Rattle.gathered_stats.specs.Filters.{AreColumnListsOf, IsColumnIn, IsReady, Serve, is_sorted};
 ghost use Rattle.gathered_stats.specs.Rests.{IsRestOf, rest_in, with_rest};
 ghost use Rattle.gathered_stats.specs.Seen.{seen};
 
@@ -96,7 +96,7 @@ impl EntryTable<'_> {
         requires keys { length keys.now ≡ (seen self.now).rows }
         requires sorted { is_sorted self.now.filters column ≡ true }
         requires rests { All (IsRestOf self.now keys.now) rests.old }
-        ensures list { IfOk result (λ list. (lists : ColumnLists) → AreListsOf self.now keys.now lists
+        ensures list { IfOk result (λ list. (lists : ColumnLists) → AreColumnListsOf self.now keys.now lists
             → list ≡ lists.equal column (value_of literal.now)) }
         ensures small { IfOk result (λ list. sum list ≤ 2 ^ 32) }
         ensures rests { OnOk result (All (IsRestOf self.now keys.now) rests.new) }
@@ -112,7 +112,7 @@ impl EntryTable<'_> {
         requires ready { IsReady self.now }
         requires keys { length keys.now ≡ (seen self.now).rows }
         requires sorted { is_sorted self.now.filters range.now.column ≡ true }
-        ensures list { IfOk result (λ list. (lists : ColumnLists) → AreListsOf self.now keys.now lists
+        ensures list { IfOk result (λ list. (lists : ColumnLists) → AreColumnListsOf self.now keys.now lists
             → list ≡ lists.range (range_of range.now)) }
         ensures small { IfOk result (λ list. sum list ≤ 2 ^ 32) }
     {
@@ -150,7 +150,7 @@ impl EntryTable<'_> {
         requires served { Serve self.now.filters step.now }
         requires rests { All (IsRestOf self.now keys.now) rests.old }
         ensures list { IfOk result (λ listed_step. (lists : ColumnLists)
-            → AreListsOf self.now keys.now lists → listed_step ≡ listed lists step.now) }
+            → AreColumnListsOf self.now keys.now lists → listed_step ≡ listed lists step.now) }
         ensures small { IfOk result (λ listed_step. IsTrue (is_small listed_step)) }
         ensures rests { OnOk result (All (IsRestOf self.now keys.now) rests.new) }
     {
@@ -180,7 +180,7 @@ impl EntryTable<'_> {
         requires served { All (Serve self.now.filters) steps.now }
         ensures column { IfOk result (λ gathered. gathered.column ≡ column) }
         ensures steps { IfOk result (λ gathered. (lists : ColumnLists)
-            → AreListsOf self.now keys.now lists → gathered.steps ≡ map (listed lists) steps.now) }
+            → AreColumnListsOf self.now keys.now lists → gathered.steps ≡ map (listed lists) steps.now) }
     {
         let whole = self.whole_for(alloc, keys, steps)?;
         self.list_steps_over(alloc, keys, &whole, column, steps)
@@ -202,7 +202,7 @@ impl EntryTable<'_> {
         requires served { All (Serve self.now.filters) steps.now }
         ensures column { IfOk result (λ gathered. gathered.column ≡ column) }
         ensures steps { IfOk result (λ gathered. (lists : ColumnLists)
-            → AreListsOf self.now keys.now lists → gathered.steps ≡ map (listed lists) steps.now) }
+            → AreColumnListsOf self.now keys.now lists → gathered.steps ≡ map (listed lists) steps.now) }
     {
         let mut rests = Seq::new(alloc);
         let mut gathered = ColumnSteps::new(alloc, column);

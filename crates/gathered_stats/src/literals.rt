@@ -4,7 +4,7 @@ ghost use Rattle.schema_types.specs.declared.types.Kind.TheVariants as kind;
 ghost use Rattle.csv_tables.specs.Values.{Int, Text};
 ghost use Rattle.cond_stats.specs.Columns.{leaf_of_value};
 ghost use Rattle.predicate_bounds.specs.Steps.{value_of};
-ghost use Rattle.table_stats.specs.Cells.{StandsFor};
+ghost use Rattle.table_stats.specs.Cells.{IsCellFor};
 
 use cond_stats::FilterColumn;
 use csv_tables::{Pool, cell_of};
@@ -13,7 +13,7 @@ use schema_types::Kind;
 
 // The cell of a number in a column of a kind. No text is a number.
 fn cell_of_int(pool: &Pool, kind: Kind, number: i64) -> Option<u64>
-    ensures { StandsFor pool.now kind (Int number) result }
+    ensures { IsCellFor pool.now kind (Int number) result }
 {
     match kind {
         Kind::Int => Some(cell_of(number)),
@@ -23,7 +23,7 @@ fn cell_of_int(pool: &Pool, kind: Kind, number: i64) -> Option<u64>
 
 // The cell of a text in a column of texts, if the pool has it. The pool's length says that its texts are UTF-8.
 fn find_text(pool: &Pool, text: &str) -> Option<u64>
-    ensures { (most : ℕ) → StandsFor pool.now (kind.Text most) (Text text.now) result }
+    ensures { (most : ℕ) → IsCellFor pool.now (kind.Text most) (Text text.now) result }
 {
     let _texts = pool.len();
     match pool.find(text) {
@@ -34,7 +34,7 @@ fn find_text(pool: &Pool, text: &str) -> Option<u64>
 
 // The cell of a text in a column of a kind. No number is a text.
 fn cell_of_text(pool: &Pool, kind: Kind, text: &str) -> Option<u64>
-    ensures { StandsFor pool.now kind (Text text.now) result }
+    ensures { IsCellFor pool.now kind (Text text.now) result }
 {
     match kind {
         Kind::Int => None,
@@ -44,7 +44,7 @@ fn cell_of_text(pool: &Pool, kind: Kind, text: &str) -> Option<u64>
 
 /// The cell of a literal in a column of a kind, if one can have it.
 pub(crate) fn cell_of_literal(pool: &Pool, kind: Kind, literal: &Literal) -> Option<u64>
-    ensures { StandsFor pool.now kind (value_of literal.now) result }
+    ensures { IsCellFor pool.now kind (value_of literal.now) result }
 {
     match literal {
         Literal::Int(number) => cell_of_int(pool, kind, *number),

@@ -6,7 +6,7 @@ ghost use Rattle.filtered_lists.specs.Lists.{ColumnLists};
 ghost use Rattle.predicate_bounds.specs.declared.running.ListStep.TheVariants as list_step;
 ghost use Rattle.predicate_bounds.specs.ListRuns.{listed};
 ghost use Rattle.gathered_stats.specs.Asked.{AreStepsOf};
-ghost use Rattle.gathered_stats.specs.Columns.{HasLists, keys_in};
+ghost use Rattle.gathered_stats.specs.Columns.{KeysHaveLists, keys_in};
 
 use crate::lists::is_whole;
 use piece_math::Pieces;
@@ -39,7 +39,7 @@ fn whole_among<'a>(steps: &[Step], gathered: &'a ColumnSteps) -> Option<&'a Piec
 
 /// The list of all rows of a column, where the steps of its entry have it.
 pub(crate) fn whole_of<'a>(steps: &[Step], own: &'a EntryStats, column: u32) -> Option<&'a Pieces>
-    ensures { IfSome result (λ list. (texts : List (List ℕ)) (cells : Cells) (accuracy : ℕ) → HasLists texts cells accuracy column
+    ensures { IfSome result (λ list. (texts : List (List ℕ)) (cells : Cells) (accuracy : ℕ) → KeysHaveLists texts cells accuracy column
         → All (AreStepsOf texts cells accuracy steps.now) own.now.columns → list.now ≡ compressed_degrees accuracy (keys_in cells column)) }
 {
     for gathered in own.columns.as_slice() {

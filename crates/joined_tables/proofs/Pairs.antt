@@ -4,24 +4,24 @@ use Rattle.std.specs.List.{filter, flat_map, list_any}
 use Rattle.std.proofs.lemmas.Bool.{cases_Bool, false≢true}
 use Rattle.std.proofs.lemmas.List.{length-map}
 use Rattle.std.proofs.lemmas.List.Sums.{count_by-le-length, length-filter}
-use Rattle.joined_tables.specs.Tables.{Condition, Row, Table, inner_join, left_alone, left_paired, left_with_nulls, nulls, right_alone, right_with_nulls}
+use Rattle.joined_tables.specs.Tables.{Condition, RowWithNulls, Table, inner_join, left_alone, left_paired, left_with_nulls, nulls, right_alone, right_with_nulls}
 
-some_pass : (p : Row → Bool) (rows : List Row) → list_any p rows ≡ true → 1 ≤ length (filter p rows)
+some_pass : (p : RowWithNulls → Bool) (rows : List RowWithNulls) → list_any p rows ≡ true → 1 ≤ length (filter p rows)
 some_pass p [] h = absurd (false≢true h)
 some_pass p (row ∷ rows) h = elim (cases_Bool (p row)) [
   | inl t ↦ rw t (omega arith)
   | inr n ↦ rw n (some_pass p rows (rw n at h))
 ]
 
-no_more_pass : (p : Row → Bool) (rows : List Row) → length (filter p rows) ≤ length rows
+no_more_pass : (p : RowWithNulls → Bool) (rows : List RowWithNulls) → length (filter p rows) ≤ length rows
 no_more_pass p rows = omega (arith, length-filter p rows, count_by-le-length p rows)
 
-paired_of : (is_true : Condition) (others rows : List Row)
+paired_of : (is_true : Condition) (others rows : List RowWithNulls)
     → length (filter (λ row. list_any (is_true row) others) rows) ≤ length (flat_map (λ row. map (λ other. row ++ other) (filter (is_true row) others)) rows)
 paired_of is_true others [] = omega arith
 paired_of is_true others (row ∷ rows) =
-    let pairs : List Row = map (λ other. row ++ other) (filter (is_true row) others) in
-    let more : List Row = flat_map (λ row. map (λ other. row ++ other) (filter (is_true row) others)) rows in
+    let pairs : List RowWithNulls = map (λ other. row ++ other) (filter (is_true row) others) in
+    let more : List RowWithNulls = flat_map (λ row. map (λ other. row ++ other) (filter (is_true row) others)) rows in
     elim (cases_Bool (list_any (is_true row) others)) [
       | inl t ↦ rw t (
           omega (

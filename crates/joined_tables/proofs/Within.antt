@@ -1,17 +1,17 @@
 -- Bounds in 64 bits, of which the greatest says nothing.
 use Rattle.std.proofs.Common.{ℕ, ◌+◌, ◌≤◌, min, inl, inr, arith}
 use Rattle.std.proofs.lemmas.Bool.{cases_lt}
-use Rattle.safebound_bounds.specs.Meaning.{narrowed, no_bound}
+use Rattle.safebound_bounds.specs.Meaning.{in_64_bits, no_bound}
 use Rattle.joined_tables.specs.Bounds.{IsWithin}
 
 -- no more rows than a number are within it, as 64 bits hold it
-pub narrowed_within : (rows n : ℕ) → rows ≤ n → IsWithin rows (narrowed n)
+pub narrowed_within : (rows n : ℕ) → rows ≤ n → IsWithin rows (in_64_bits n)
 narrowed_within rows n few = elim (cases_lt n no_bound) [
   | inl low ↦ inl (omega (arith, few, low))
   | inr high ↦ inr (omega (arith, high))
 ]
 
-pub sum_within : (rows more x y : ℕ) → IsWithin rows x → IsWithin more y → IsWithin (rows + more) (narrowed (x + y))
+pub sum_within : (rows more x y : ℕ) → IsWithin rows x → IsWithin more y → IsWithin (rows + more) (in_64_bits (x + y))
 sum_within rows more x y few others = elim few [
   | inl low ↦ elim others [
     | inl small ↦ narrowed_within (rows + more) (x + y) (omega (arith, low, small))

@@ -6,46 +6,46 @@ use Rattle.joined_tables.specs.declared.joins.Join.{Join}
 use Rattle.joined_tables.specs.declared.joins.Join.TheVariants.{Anti, Full, Left, Right, Semi}
 
 -- a row has for each column a value, told by its number, or the null value
-abbrev pub Row : Type 0
-Row = List (Option ℕ)
+abbrev pub RowWithNulls : Type 0
+RowWithNulls = List (Option ℕ)
 
 -- a table: how many columns it has, and its rows, of which some may be equal
 pub record Table : Type 0 where
   pub columns : ℕ
-  pub rows : List Row
+  pub rows : List RowWithNulls
 
 -- a join condition: of which pairs of rows it is true. Where it is false or unknown it isn't true
 abbrev pub Condition : Type 0
-Condition = Row → Row → Bool
+Condition = RowWithNulls → RowWithNulls → Bool
 
 -- a row of null values
-abbrev pub nulls : ℕ → Row
+abbrev pub nulls : ℕ → RowWithNulls
 nulls columns = replicate columns None
 
 -- the inner join: the pairs of rows of which the condition is true
-abbrev pub inner_join : Condition → Table → Table → List Row
+abbrev pub inner_join : Condition → Table → Table → List RowWithNulls
 inner_join is_true left right = flat_map (λ row. map (λ other. row ++ other) (filter (is_true row) right.rows)) left.rows
 
 -- the rows of the left table that are in a pair of the inner join, and those that are in none
-abbrev pub left_paired : Condition → Table → Table → List Row
+abbrev pub left_paired : Condition → Table → Table → List RowWithNulls
 left_paired is_true left right = filter (λ row. list_any (is_true row) right.rows) left.rows
 
-abbrev pub left_alone : Condition → Table → Table → List Row
+abbrev pub left_alone : Condition → Table → Table → List RowWithNulls
 left_alone is_true left right = filter (λ row. not (list_any (is_true row) right.rows)) left.rows
 
 -- and of the right table those that are in none
-abbrev pub right_alone : Condition → Table → Table → List Row
+abbrev pub right_alone : Condition → Table → Table → List RowWithNulls
 right_alone is_true left right = filter (λ other. not (list_any (λ row. is_true row other) left.rows)) right.rows
 
 -- the rows that are in no pair, with null values for the columns of the other table
-abbrev pub left_with_nulls : Condition → Table → Table → List Row
+abbrev pub left_with_nulls : Condition → Table → Table → List RowWithNulls
 left_with_nulls is_true left right = map (λ row. row ++ nulls right.columns) (left_alone is_true left right)
 
-abbrev pub right_with_nulls : Condition → Table → Table → List Row
+abbrev pub right_with_nulls : Condition → Table → Table → List RowWithNulls
 right_with_nulls is_true left right = map (λ other. nulls left.columns ++ other) (right_alone is_true left right)
 
 -- the rows of a joined table. The union keeps equal rows
-abbrev pub joined : Join → Condition → Table → Table → List Row
+abbrev pub joined : Join → Condition → Table → Table → List RowWithNulls
 joined Left is_true left right = inner_join is_true left right ++ left_with_nulls is_true left right
 joined Right is_true left right = inner_join is_true left right ++ right_with_nulls is_true left right
 joined Full is_true left right = inner_join is_true left right ++ (left_with_nulls is_true left right ++ right_with_nulls is_true left right)

@@ -1,6 +1,6 @@
 //! The rows of joined tables.
 ghost use Rattle.std.specs.Prelude.{◌≡◌, length};
-ghost use Rattle.safebound_bounds.specs.Meaning.{narrowed};
+ghost use Rattle.safebound_bounds.specs.Meaning.{in_64_bits};
 ghost use Rattle.joined_tables.specs.Bounds.{IsWithin, most_joined};
 ghost use Rattle.joined_tables.specs.Tables.{Condition, Table, inner_join, joined};
 
@@ -21,7 +21,7 @@ pub enum Join {
 
 /// How many rows a joined table has at most, by bounds of the inner join and of both tables.
 pub fn joined_rows(join: Join, inner: u64, left: u64, right: u64) -> u64
-    ensures exact { result ≡ narrowed (most_joined join inner left right) }
+    ensures exact { result ≡ in_64_bits (most_joined join inner left right) }
     ensures never_under { (is_true : Condition) (left_table right_table : Table)
         → IsWithin (length (inner_join is_true left_table right_table)) inner
         → IsWithin (length left_table.rows) left → IsWithin (length right_table.rows) right

@@ -34,10 +34,10 @@ use Rattle.predicate_bounds.specs.Told.{asked_lists, columns_of, first_steps, li
 use Rattle.predicate_bounds.proofs.Answering.{lists_answer}
 use Rattle.gathered_stats.specs.Asked.{joined_columns}
 use Rattle.gathered_stats.specs.Beside.{IsGatheredBeside}
-use Rattle.gathered_stats.specs.Seen.{AreRowsOf}
+use Rattle.gathered_stats.specs.Seen.{AreRowNumbersOf}
 use Rattle.gathered_stats.proofs.Joined.{joined_exist, place_exists, place_joined}
 use Rattle.gathered_stats.proofs.Telling.{first_one, found_one}
-use Rattle.key_carriers.specs.Carriers.{both_ways, carriers, carries, turned}
+use Rattle.key_carriers.specs.Carriers.{both_ways, carriers, carries, exchanged}
 use Rattle.key_carriers.specs.Cells.{AreOfOneKind}
 use Rattle.key_carriers.specs.Widened.{referred, referring, tables_at}
 use Rattle.key_carriers.proofs.Referring.{as_many, few_referring, referred_low, referring_low}
@@ -50,11 +50,11 @@ use Rattle.key_bounds.proofs.CellsBeside.{lists_beside}
 
 -- ---- an equality of the query, either way round
 
-from_both : (es : List Edge) (e : Edge) → Contains (both_ways es) e → ((f : Edge) × Contains es f × (e ≡ f)) ⊎ ((f : Edge) × Contains es f × (e ≡ turned f))
+from_both : (es : List Edge) (e : Edge) → Contains (both_ways es) e → ((f : Edge) × Contains es f × (e ≡ f)) ⊎ ((f : Edge) × Contains es f × (e ≡ exchanged f))
 from_both [] e has = absurd (in_none e has)
-from_both (f ∷ es) e has = elim (one_in f (turned f ∷ both_ways es) e has) [
+from_both (f ∷ es) e has = elim (one_in f (exchanged f ∷ both_ways es) e has) [
   | inr is ↦ inl (f, in_front f es f refl, is)
-  | inl later ↦ elim (one_in (turned f) (both_ways es) e later) [
+  | inl later ↦ elim (one_in (exchanged f) (both_ways es) e later) [
     | inr is ↦ inr (f, in_front f es f refl, is)
     | inl rest ↦ elim (from_both es e rest) [
       | inl at ↦ inl (at.0, in_rest f es at.0 at.1, at.2)
@@ -64,7 +64,7 @@ from_both (f ∷ es) e has = elim (one_in f (turned f ∷ both_ways es) e has) [
 ]
 
 -- what holds of each equality, and of each with its sides exchanged
-of_both : (P : Edge → Type 0) (es : List Edge) (e : Edge) → ((f : Edge) → Contains es f → P f × P (turned f)) → Contains (both_ways es) e → P e
+of_both : (P : Edge → Type 0) (es : List Edge) (e : Edge) → ((f : Edge) → Contains es f → P f × P (exchanged f)) → Contains (both_ways es) e → P e
 of_both P es e each has = elim (from_both es e has) [
   | inl at ↦ subst P (sym at.2) (each at.0 at.1).0
   | inr at ↦ subst P (sym at.2) (each at.0 at.1).1
@@ -98,10 +98,10 @@ module _ (query : Query) (db : Database) (of : IsDatabaseOf query db) (e : Edge)
   pub right_low : e.right.entry < length query.from
   right_low = omega (arith, of_one_kind.right.exists.entry, of.entries)
 
-  pub rows_of_left : AreRowsOf (cells_of db e.left.entry) (referring (tables_of db) e)
+  pub rows_of_left : AreRowNumbersOf (cells_of db e.left.entry) (referring (tables_of db) e)
   rows_of_left = subst (λ (n : ℕ). All (λ row. row < n) (referring (tables_of db) e)) (rows_are db e.left.entry) (referring_low (tables_of db) e)
 
-  pub rows_of_right : AreRowsOf (cells_of db e.right.entry) (referred (tables_of db) e)
+  pub rows_of_right : AreRowNumbersOf (cells_of db e.right.entry) (referred (tables_of db) e)
   rows_of_right = subst (λ (n : ℕ). All (λ row. row < n) (referred (tables_of db) e)) (rows_are db e.right.entry) (referred_low (tables_of db) e)
 
   left_joined : Contains (joined_columns e.left.entry (equalities_of query)) e.left.column

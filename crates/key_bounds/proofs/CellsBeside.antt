@@ -24,14 +24,14 @@ use Rattle.table_stats.specs.Statistics.{list_between, list_with, lists_over}
 use Rattle.table_stats.proofs.CellColumns.{same_equal, same_range, same_whole}
 use Rattle.table_stats.proofs.DatabaseColumns.{cells_are, column_is}
 use Rattle.gathered_stats.specs.Columns.{HaveLists, cells_in, kind_in}
-use Rattle.gathered_stats.specs.Seen.{AreRowsOf, cells_at, picked}
+use Rattle.gathered_stats.specs.Seen.{AreRowNumbersOf, cells_at, picked}
 use Rattle.gathered_stats.proofs.Seeing.{picked_cells}
 use Rattle.key_carriers.specs.Widened.{tables_at, values_at}
 
 module _ (db : Database) (are : AreTables db) (differ : HaveDifferentCharacters db.pool) where
   -- ---- a column at rows
 
-  module _ (entry : ℕ) (there : entry < length db.slots) (rows : List ℕ) (low : AreRowsOf (cells_of db entry) rows) where
+  module _ (entry : ℕ) (there : entry < length db.slots) (rows : List ℕ) (low : AreRowNumbersOf (cells_of db entry) rows) where
     abbrev cells : Cells
     cells = cells_of db entry
 
@@ -81,8 +81,8 @@ module _ (db : Database) (are : AreTables db) (differ : HaveDifferentCharacters 
 
   -- ---- a column of another entry beside
 
-  module _ (entry other : ℕ) (there : entry < length db.slots) (other_there : other < length db.slots) (rows beside : List ℕ) (low : AreRowsOf (cells_of db entry) rows)
-      (beside_low : AreRowsOf (cells_of db other) beside) (as_many : length beside ≡ length rows) (accuracy column : ℕ) (exists : column < length (cells_of db other).kinds) where
+  module _ (entry other : ℕ) (there : entry < length db.slots) (other_there : other < length db.slots) (rows beside : List ℕ) (low : AreRowNumbersOf (cells_of db entry) rows)
+      (beside_low : AreRowNumbersOf (cells_of db other) beside) (as_many : length beside ≡ length rows) (accuracy column : ℕ) (exists : column < length (cells_of db other).kinds) where
     abbrev joined : List ℕ
     joined = picked beside (cells_in (cells_of db other) column)
 

@@ -20,12 +20,12 @@ use Rattle.bound_fold.specs.Lists.{bounds_of, list_of, rows_of}
 use Rattle.set_bounds.specs.AllSets.{bounds_in_sets}
 use Rattle.set_bounds.specs.Parts.{LooksAtParts}
 use Rattle.sql_meaning.specs.Tables.{Tables}
-use Rattle.query_bounds.specs.Bounds.{Holds, entry_bounds, is_among, is_at, joined_columns, scan_list, scan_rows}
+use Rattle.query_bounds.specs.Bounds.{HoldsKnown, entry_bounds, is_among, is_at, joined_columns, scan_list, scan_rows}
 use Rattle.query_bounds.proofs.Sets.{both_among, list_there, row_there}
 use Rattle.gathered_stats.specs.Statistics.{statistics_of}
 use Rattle.planning.specs.declared.known.Known.{Known}
 use Rattle.planning.specs.Bounds.{scan_bounds_of}
-use Rattle.planning.specs.Gives.{Gives}
+use Rattle.planning.specs.HasBounds.{HasBounds}
 use Rattle.planning.proofs.Giving.{told_scans}
 use Rattle.key_carriers.specs.Carriers.{carriers, carriers_to}
 use Rattle.key_stats.specs.declared.carried.Carried.{Carried}
@@ -33,7 +33,7 @@ use Rattle.key_stats.specs.Carrying.{TellAlong, TellsCarried}
 use Rattle.key_stats.specs.Lists.{carried_list, carried_rows}
 use Rattle.key_bounds.specs.declared.key_lists.KeyLists.{KeyLists}
 use Rattle.key_bounds.specs.Bounds.{bounds_by_keys, least_list, least_rows, list_by_keys, set_bounds_by_keys}
-use Rattle.key_bounds.specs.InSets.{AreKeyed, CarriesLists, CarriesTo, carried_to, known_by_keys, list_carried, list_within, rows_carried, rows_within}
+use Rattle.key_bounds.specs.InSets.{HaveKeyLists, CarriesLists, CarriesTo, carried_to, known_by_keys, list_carried, list_within, rows_carried, rows_within}
 use Rattle.key_bounds.proofs.InParts.{looks_at_parts}
 use Rattle.key_bounds.proofs.Made.{is_some}
 
@@ -67,7 +67,7 @@ module _ {Y : Type 0} (subset entry : ℕ) (f : Carried → Y) (g : Edge → Y) 
 -- ---- what is told
 
 module _ (schema : Schema) (query : Query) (tables : Tables) (accuracy : ℕ) (carried : List Carried) (along : TellAlong query tables accuracy (carriers schema query) carried)
-    (own : EntryLists) (held : Holds query (statistics_of tables accuracy) (length query.from) (joined_columns query) own) (count : ℕ) (all : count ≡ length query.from) where
+    (own : EntryLists) (held : HoldsKnown query (statistics_of tables accuracy) (length query.from) (joined_columns query) own) (count : ℕ) (all : count ≡ length query.from) where
   abbrev keys : KeyLists
   keys = record { count = count; own = own; carried = carried }
 
@@ -131,9 +131,9 @@ module _ (schema : Schema) (query : Query) (tables : Tables) (accuracy : ℕ) (c
   -- ---- what the bounds of all sets need
 
   pub are_keyed : (es : List Edge) → es ≡ equalities_of query → EachNamedColumn (λ entry column. entry < length query.from) (equalities_of query) → length query.from ≤ most_entries
-      → (subset : ℕ) → subset < 2 ^ length query.from → AreKeyed keys es subset
+      → (subset : ℕ) → subset < 2 ^ length query.from → HaveKeyLists keys es subset
   are_keyed es split named few subset fits =
-      subst (λ (s : List Edge). AreKeyed keys s subset) (sym split) (record {
+      subst (λ (s : List Edge). HaveKeyLists keys s subset) (sym split) (record {
         few = omega (arith, all, few);
         fits = subst (λ (n : ℕ). subset < 2 ^ n) (sym all) fits;
         rows = λ entry low. is_some (rows_of own entry) (scan_rows query (statistics_of tables accuracy) entry)
@@ -167,7 +167,7 @@ module _ (schema : Schema) (query : Query) (tables : Tables) (accuracy : ℕ) (c
   pub keys_give : (es : List Edge) (scans : List ℕ) (known : Known) → es ≡ equalities_of query → scans ≡ map (bounds_of own).rows (range_with_len 0 count) → length scans ≡ length query.from
       → bounds_of own ≡ entry_bounds query (statistics_of tables accuracy)
       → known.sets ≡ bounds_in_sets (known_by_keys keys) es (length scans) → known.scans ≡ scans
-      → Gives (set_bounds_by_keys schema query tables accuracy) (scan_bounds_of query tables accuracy) known
+      → HasBounds (set_bounds_by_keys schema query tables accuracy) (scan_bounds_of query tables accuracy) known
   keys_give es scans known split are long told made kept = record {
     sets =
         made ∙ ap (λ (b : ℕ → EntryBounds). bounds_in_sets b es (length scans)) known_is

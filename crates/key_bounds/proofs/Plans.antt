@@ -11,12 +11,12 @@ use Rattle.planning.specs.Bounds.{scan_bounds_of}
 use Rattle.planning.specs.Standing.{BoundLevels}
 use Rattle.planning.proofs.FromLists.{levels_bound, plan_over_lists}
 use Rattle.planning.proofs.NeverUnder.{told_bound}
-use Rattle.key_carriers.specs.Keys.{KeysHold}
+use Rattle.key_carriers.specs.DeclaredKeys.{DeclaredKeysHold}
 use Rattle.key_bounds.specs.Bounds.{bounds_by_keys, set_bounds_by_keys}
 use Rattle.key_bounds.specs.Plans.{planned_by_keys}
 use Rattle.key_bounds.proofs.Standing.{stand_by_keys}
 
-module _ (schema : Schema) (query : Query) (tables : Tables) (accuracy : ℕ) (holds : KeysHold schema query tables) where
+module _ (schema : Schema) (query : Query) (tables : Tables) (accuracy : ℕ) (holds : DeclaredKeysHold schema query tables) where
   pub levels_by_keys : BoundLevels query tables (scans_of query tables) (set_bounds_by_keys schema query tables accuracy)
   levels_by_keys =
       let stand = stand_by_keys schema query tables accuracy holds in

@@ -20,7 +20,7 @@ use Rattle.join_graph.proofs.Comparing.{equality_literal, equality_two}
 use Rattle.tree_bounds.specs.TreeBounds.{EntryBounds}
 use Rattle.set_bounds.specs.AllSets.{bounds_in_sets}
 use Rattle.sql_meaning.specs.Tables.{Tables}
-use Rattle.filtered_lists.specs.Filters.{Answers, Conjunction, and_answer, conjunction_of, filtered, joined, own_conjuncts}
+use Rattle.filtered_lists.specs.Filters.{ComparisonAnswers, Conjunction, and_answer, conjunction_of, filtered, one_conjunction, own_conjuncts}
 use Rattle.filtered_lists.specs.Lists.{ColumnLists, RowCounts, count_answers, filtered_list, list_answers, row_bound}
 use Rattle.filtered_lists.proofs.Parts.{of_compare}
 use Rattle.query_bounds.specs.Bounds.{is_among}
@@ -41,9 +41,9 @@ abbrev own_of : ℕ → Option ℕ → List Cond
 own_of entry None = []
 own_of entry (Some column) = is_number entry column 3 ∷ []
 
-module _ {A : Type 0} (answers : Answers A) where
+module _ {A : Type 0} (answers : ComparisonAnswers A) where
   abbrev of_these : List Cond → A
-  of_these conjuncts = answers.both (and_answer answers (joined (map (λ c. conjunction_of answers c true) conjuncts))) answers.whole
+  of_these conjuncts = answers.both (and_answer answers (one_conjunction (map (λ c. conjunction_of answers c true) conjuncts))) answers.whole
 
   abbrev where_three : Option ℕ → A
   where_three None = answers.both answers.whole answers.whole
@@ -53,7 +53,7 @@ module _ {A : Type 0} (answers : Answers A) where
   of_own query entry None are = ap of_these are
   of_own query entry (Some column) are =
       ap of_these are
-      ∙ ap (λ (c : Conjunction A). answers.both (and_answer answers (joined (c ∷ []))) answers.whole)
+      ∙ ap (λ (c : Conjunction A). answers.both (and_answer answers (one_conjunction (c ∷ []))) answers.whole)
       (of_compare answers op.Eq (column_operand entry column) (operand.Int (pos 3)) true)
 
 -- of an entry its own conjunct is known, or nothing is

@@ -38,7 +38,7 @@ use Rattle.query_bounds.proofs.Sets.{both_among}
 use Rattle.gathered_stats.specs.Statistics.{statistics_of}
 use Rattle.planning.specs.Standing.{StandForLists, StandInSet}
 use Rattle.key_carriers.specs.Carriers.{carriers, carriers_to}
-use Rattle.key_carriers.specs.Keys.{KeysHold}
+use Rattle.key_carriers.specs.DeclaredKeys.{DeclaredKeysHold}
 use Rattle.key_carriers.specs.Widened.{refers_to_scanned}
 use Rattle.key_stats.specs.Lists.{carried_list, carried_rows}
 use Rattle.key_stats.proofs.CarriedLists.{carried_dominates, carried_falls, carried_fits, carried_sum}
@@ -201,7 +201,7 @@ module _ (schema : Schema) (query : Query) (tables : Tables) (accuracy subset : 
         columns = at_named (Dominates bounds (scanned (list_at (taking schema query tables subset fits)) key)) (λ entry column low has among. dominates_at entry column low among);
       }
 
-      pub stand_in_set : KeysHold schema query tables → StandInSet query tables (scans_of query tables) key bounds subset
+      pub stand_in_set : DeclaredKeysHold schema query tables → StandInSet query tables (scans_of query tables) key bounds subset
       stand_in_set holds = record {
         taking = taking schema query tables subset fits;
         are = of_scans schema query tables subset fits;
@@ -212,7 +212,7 @@ module _ (schema : Schema) (query : Query) (tables : Tables) (accuracy subset : 
 
 -- ---- in every set
 
-pub stand_by_keys : (schema : Schema) (query : Query) (tables : Tables) (accuracy : ℕ) → KeysHold schema query tables
+pub stand_by_keys : (schema : Schema) (query : Query) (tables : Tables) (accuracy : ℕ) → DeclaredKeysHold schema query tables
     → (key : Keys) × StandForLists query tables (scans_of query tables) key (bounds_by_keys schema query tables accuracy)
 stand_by_keys schema query tables accuracy holds =
     let keys = have_keys tables in (

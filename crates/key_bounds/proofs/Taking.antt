@@ -37,20 +37,20 @@ use Rattle.join_steps.specs.Lists.{list_at, scans_of, AreOfScans, IsAscending}
 use Rattle.join_steps.proofs.WholeScans.{count_of, filter_ascends, levels_of_scans, range_ascends, scan_at}
 use Rattle.reduced_scans.proofs.SameLevel.{filter_all}
 use Rattle.table_stats.proofs.EqualValues.{equal_back, equal_chain}
-use Rattle.key_carriers.specs.Carriers.{both_ways, carriers, carriers_to, carries, has_own, is_key, refers, refers_to_key, table_of, turned}
-use Rattle.key_carriers.specs.Keys.{AreApart, KeysHold}
-use Rattle.key_carriers.specs.Widened.{is_scanned, partner, refers_to_scanned}
+use Rattle.key_carriers.specs.Carriers.{both_ways, carriers, carriers_to, carries, has_own, is_declared_key, refers, refers_to_key, table_of, exchanged}
+use Rattle.key_carriers.specs.DeclaredKeys.{HaveUniqueValues, DeclaredKeysHold}
+use Rattle.key_carriers.specs.Widened.{is_scanned, referred_row, refers_to_scanned}
 
 -- ---- equalities in both directions
 
 abbrev pub IsEitherWay : List Edge → Edge → Type 0
-IsEitherWay es e = Contains es e ⊎ ((f : Edge) × Contains es f × (e ≡ turned f))
+IsEitherWay es e = Contains es e ⊎ ((f : Edge) × Contains es f × (e ≡ exchanged f))
 
 pub either_way : (es : List Edge) (e : Edge) → Contains (both_ways es) e → IsEitherWay es e
 either_way [] e here = absurd (in_none e here)
-either_way (f ∷ es) e here = elim (one_in f (turned f ∷ both_ways es) e here) [
+either_way (f ∷ es) e here = elim (one_in f (exchanged f ∷ both_ways es) e here) [
   | inr first ↦ inl (in_front f es e first)
-  | inl more ↦ elim (one_in (turned f) (both_ways es) e more) [
+  | inl more ↦ elim (one_in (exchanged f) (both_ways es) e more) [
     | inr second ↦ inr (f, in_front f es f refl, second)
     | inl rest ↦ elim (either_way es e rest) [
       | inl straight ↦ inl (in_rest f es e straight)
@@ -81,16 +81,16 @@ module _ (query : Query) (tables : Tables) (e : Edge) where
   abbrev equal_at : ℕ → ℕ → Bool
   equal_at row other = are_equal_at tables e row other
 
-  never : (row other : ℕ) → None ≡ partner tables e row → other < length others → equal_at row (get_or others other 0) ≡ true → ⊥
+  never : (row other : ℕ) → None ≡ referred_row tables e row → other < length others → equal_at row (get_or others other 0) ≡ true → ⊥
   never row other is low same =
       let first : ℕ = position_or_len (equal_at row) others in
       elim (cases_lt first (length others)) [
-        | inl there ↦ (let some : partner tables e row ≡ Some first = ap (λ (b : Bool). cond b (Some first) None) (lt-ltb first (length others) there) in absurd (cc))
+        | inl there ↦ (let some : referred_row tables e row ≡ Some first = ap (λ (b : Bool). cond b (Some first) None) (lt-ltb first (length others) there) in absurd (cc))
         | inr past ↦ true≢false (sym same ∙ fails_before_first (equal_at row) others other 0 (omega arith))
       ]
 
   -- it is there where some row has the value, and it has the value too
-  found : (row other : ℕ) (o : Option ℕ) → o ≡ partner tables e row → other < row_counts tables e.right.entry → equal_at row other ≡ true
+  found : (row other : ℕ) (o : Option ℕ) → o ≡ referred_row tables e row → other < row_counts tables e.right.entry → equal_at row other ≡ true
       → (first : ℕ) × (o ≡ Some first) × (first < row_counts tables e.right.entry) × (equal_at row first ≡ true)
   found row other (Some first) is low same =
       let facts = position-Some (equal_at row) others first 0 (sym is) in
@@ -102,10 +102,10 @@ module _ (query : Query) (tables : Tables) (e : Edge) where
       absurd (never row other is (omega (arith, low, length-range_with_len 0 (row_counts tables e.right.entry))) (ap (equal_at row) at ∙ same))
 
   -- where no two rows have one value in the right column, it is this row
-  it_refers : AreApart tables e.right.entry e.right.column → (row other : ℕ) → other < row_counts tables e.right.entry → equal_at row other ≡ true
+  it_refers : HaveUniqueValues tables e.right.entry e.right.column → (row other : ℕ) → other < row_counts tables e.right.entry → equal_at row other ≡ true
       → passes_own (conjuncts_of query tables) e.right.entry other ≡ true → refers_to_scanned query tables e row ≡ true
   it_refers apart row other low same passes =
-      let first = found row other (partner tables e row) refl low same in
+      let first = found row other (referred_row tables e row) refl low same in
       let left : Value = value_at tables e.left.entry e.left.column row in
       let right : ℕ → Value = value_at tables e.right.entry e.right.column in
       let one : first.0 ≡ other =
@@ -157,7 +157,7 @@ module _ (schema : Schema) (query : Query) (tables : Tables) (subset : ℕ) (fit
 
   -- ---- no choice has another row
 
-  module _ (keys : KeysHold schema query tables) (order : List ℕ) (o : IsOrderOfSet (entries_of_set subset) order) where
+  module _ (keys : DeclaredKeysHold schema query tables) (order : List ℕ) (o : IsOrderOfSet (entries_of_set subset) order) where
     low_in : (entry : ℕ) → Contains order entry → entry < length query.from
     low_in entry here = entry_below (length query.from) subset entry fits (set_entries subset entry (entry_of (entries_of_set subset) order o entry here))
 
@@ -201,8 +201,8 @@ module _ (schema : Schema) (query : Query) (tables : Tables) (subset : ℕ) (fit
       either_true e (inl straight) left right = equality_true e straight left right
       either_true e (inr back) left right =
           let f : Edge = back.0 in
-          let as_turned : has_entry subset (turned f).left.entry ≡ true → has_entry subset (turned f).right.entry ≡ true
-          → are_equal_at tables (turned f) (row_of f.right.entry) (row_of f.left.entry) ≡ true =
+          let as_turned : has_entry subset (exchanged f).left.entry ≡ true → has_entry subset (exchanged f).right.entry ≡ true
+          → are_equal_at tables (exchanged f) (row_of f.right.entry) (row_of f.left.entry) ≡ true =
           λ l r. equal_back (value_at tables f.left.entry f.left.column (row_of f.left.entry)) (value_at tables f.right.entry f.right.column (row_of f.right.entry)) (equality_true f back.1 r l) in
           subst (λ (g : Edge). has_entry subset g.left.entry ≡ true → has_entry subset g.right.entry ≡ true
           → are_equal_at tables g (row_of g.left.entry) (row_of g.right.entry) ≡ true) (sym back.2) as_turned left right
@@ -214,10 +214,10 @@ module _ (schema : Schema) (query : Query) (tables : Tables) (subset : ℕ) (fit
           let way : IsEitherWay (equalities_of query) e = either_way (equalities_of query) e made.0 in
           let both = and_parts (has_entry subset e.left.entry) (has_entry subset e.right.entry) joins in
           let declared = (and_parts (refers_to_key schema query e) (has_own query e.right.entry) made.1).0 in
-          let key : is_key schema (table_of query e.right.entry) e.right.column ≡ true =
-          (and_parts (refers schema (table_of query e.left.entry) e.left.column (table_of query e.right.entry) e.right.column) (is_key schema (table_of query e.right.entry) e.right.column) declared).1 in
-          let apart : AreApart tables e.right.entry e.right.column =
-          right_named (λ entry column. is_key schema (table_of query entry) column ≡ true → AreApart tables entry column) (equalities_of query) keys e way key in
+          let key : is_declared_key schema (table_of query e.right.entry) e.right.column ≡ true =
+          (and_parts (refers schema (table_of query e.left.entry) e.left.column (table_of query e.right.entry) e.right.column) (is_declared_key schema (table_of query e.right.entry) e.right.column) declared).1 in
+          let apart : HaveUniqueValues tables e.right.entry e.right.column =
+          right_named (λ entry column. is_declared_key schema (table_of query entry) column ≡ true → HaveUniqueValues tables entry column) (equalities_of query) keys e way key in
           it_refers query tables e apart (row_of e.left.entry) (row_of e.right.entry) (row_low e.right.entry both.1) (either_true e way both.0 both.1) (scanned_row e.right.entry both.1).1
 
       takes_row : (entry : ℕ) → Contains order entry → takes entry (row_of entry) ≡ true

@@ -65,7 +65,7 @@ CarriesLists es c = AllByRecursion (λ place. CarriesTo place c) (places_of es)
 
 -- each of the entries has its row bound, each column that these equalities name its list, and so has what is carried; and the set is of
 -- these entries
-pub record AreKeyed (keys : KeyLists) (es : List Edge) (subset : ℕ) : Type 0 where
+pub record HaveKeyLists (keys : KeyLists) (es : List Edge) (subset : ℕ) : Type 0 where
   pub few : keys.count ≤ most_entries
   pub fits : subset < 2 ^ keys.count
   pub rows : (entry : ℕ) → entry < keys.count → IsSome (rows_of keys.own entry)

@@ -4,7 +4,7 @@ ghost use Rattle.std.specs.List.{sum};
 ghost use Rattle.bound_fold.specs.Lists.{list_of, rows_of};
 ghost use Rattle.bound_fold.specs.Sets.{HaveLists};
 ghost use Rattle.tree_bounds.specs.Columns.{EachNamedColumn};
-ghost use Rattle.key_bounds.specs.InSets.{AreKeyed, CarriesLists, CarriesTo, IsPartOf, fewer_by, is_carried, known_by_keys, list_within, narrowed_by, rows_within};
+ghost use Rattle.key_bounds.specs.InSets.{HaveKeyLists, CarriesLists, CarriesTo, IsPartOf, fewer_by, is_carried, known_by_keys, list_within, narrowed_by, rows_within};
 
 use crate::key_lists::KeyLists;
 use base_io::NoMemory;
@@ -182,7 +182,7 @@ fn lists_in(
 impl KnownInSets for KeyLists {
     ghost known = { known_by_keys };
 
-    ghost is_listed = { AreKeyed };
+    ghost is_listed = { HaveKeyLists };
 
     fn folded(
         &self,

@@ -14,7 +14,7 @@ ghost use Rattle.join_steps.specs.Lists.{scans_of};
 ghost use Rattle.join_steps.specs.Plans.{IsPlanOf};
 ghost use Rattle.planning.specs.Bounds.{set_bounds_of};
 ghost use Rattle.planning.specs.Standing.{BoundLevels, StandForLists};
-ghost use Rattle.key_carriers.specs.Keys.{KeysHold};
+ghost use Rattle.key_carriers.specs.DeclaredKeys.{DeclaredKeysHold};
 ghost use Rattle.key_bounds.specs.Bounds.{bounds_by_keys, set_bounds_by_keys};
 ghost use Rattle.key_bounds.specs.Plans.{planned_by_keys};
 
@@ -28,11 +28,11 @@ pub fn keys_only_lower()
 /// that may take part in a choice, no level over the scans of a set's entries has more rows than the bound of the set, and a plan by these
 /// bounds is one over the scans. A row that refers to nothing is no exception: it takes part in no choice.
 pub fn keys_are_never_under()
-    ensures stand { (schema : Schema) (query : Query) (tables : Tables) (accuracy : ℕ) → KeysHold schema query tables
+    ensures stand { (schema : Schema) (query : Query) (tables : Tables) (accuracy : ℕ) → DeclaredKeysHold schema query tables
         → (key : Keys) × StandForLists query tables (scans_of query tables) key (bounds_by_keys schema query tables accuracy) }
-    ensures sets { (schema : Schema) (query : Query) (tables : Tables) (accuracy : ℕ) → KeysHold schema query tables
+    ensures sets { (schema : Schema) (query : Query) (tables : Tables) (accuracy : ℕ) → DeclaredKeysHold schema query tables
         → BoundLevels query tables (scans_of query tables) (set_bounds_by_keys schema query tables accuracy) }
-    ensures plans { (schema : Schema) (query : Query) (tables : Tables) (accuracy budget : ℕ) (plan : Plan) → KeysHold schema query tables
+    ensures plans { (schema : Schema) (query : Query) (tables : Tables) (accuracy budget : ℕ) (plan : Plan) → DeclaredKeysHold schema query tables
         → length query.from ≤ most_entries → budget ≤ most_budget → planned_by_keys schema query tables accuracy budget ≡ Ok plan
         → IsPlanOf query tables (scans_of query tables) plan }
     ensures no_memory { (schema : Schema) (query : Query) (tables : Tables) (accuracy budget : ℕ)

@@ -5,7 +5,7 @@
 //! conjuncts leave. Out: row bounds and lists of each entry in each set (`KeyLists`, which is a `KnownInSets`), and the bounds of all sets
 //! (`from_keys`). The bounds of scans are those of each table by itself.
 //!
-//! Callers cite `bounds_by_keys` for what is known in a set, `planned_by_keys` for the plan, and `KeysHold` of key_carriers for the keys that
+//! Callers cite `bounds_by_keys` for what is known in a set, `planned_by_keys` for the plan, and `DeclaredKeysHold` of key_carriers for the keys that
 //! have to hold in the tables. The laws say that no bound is too low, and that no bound is above the one without carried conjuncts.
 #![tactic(auto)]
 

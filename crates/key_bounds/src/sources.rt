@@ -7,7 +7,7 @@ ghost use Rattle.tree_bounds.specs.Columns.{EachNamedColumn};
 ghost use Rattle.sql_meaning.specs.Databases.{IsDatabaseOf};
 ghost use Rattle.sql_meaning.specs.Tables.{Tables, tables_of};
 ghost use Rattle.planning.specs.Bounds.{scan_bounds_of};
-ghost use Rattle.planning.specs.Gives.{Gives};
+ghost use Rattle.planning.specs.HasBounds.{HasBounds};
 ghost use Rattle.key_bounds.specs.Bounds.{set_bounds_by_keys};
 ghost use Rattle.key_bounds.specs.Told.{AreTold, TellByKeys};
 
@@ -42,7 +42,7 @@ pub fn from_carried(
     requires told { AreTold query.now stats.now carried }
     ensures { IfOk result (λ known. (schema : SchemaText) (tables : Tables) (accuracy : ℕ)
         → TellByKeys schema query.now tables accuracy stats.now carried
-        → Gives (set_bounds_by_keys schema query.now tables accuracy) (scan_bounds_of query.now tables accuracy) known) }
+        → HasBounds (set_bounds_by_keys schema query.now tables accuracy) (scan_bounds_of query.now tables accuracy) known) }
 {
     let own = entry_lists(alloc, query, parts, stats)?;
     let count = query.from.len() as u8;
@@ -71,7 +71,7 @@ pub fn from_keys(
     accuracy: Accuracy,
 ) -> Result<Known, NoMemory>
     requires database { IsDatabaseOf query.now db.now }
-    ensures { IfOk result (Gives (set_bounds_by_keys schema.now query.now (tables_of db.now) accuracy)
+    ensures { IfOk result (HasBounds (set_bounds_by_keys schema.now query.now (tables_of db.now) accuracy)
         (scan_bounds_of query.now (tables_of db.now) accuracy)) }
 {
     let parts = split(alloc, query)?;

@@ -12,7 +12,7 @@ use Rattle.berge_tree.specs.declared.edges.Edge.{Edge}
 use Rattle.schema_types.specs.declared.types.Kind.{Kind}
 use Rattle.schema_types.specs.declared.types.Kind.TheVariants as kind
 use Rattle.csv_tables.specs.Cells.{value_of_cell}
-use Rattle.csv_tables.specs.Pools.{AreDifferent}
+use Rattle.csv_tables.specs.Pools.{TextsAreDifferent}
 use Rattle.csv_tables.specs.Values.{Value, value_cmp}
 use Rattle.csv_tables.specs.declared.types.Database.{Database}
 use Rattle.link_index.specs.Places.{IsPlaceOf}
@@ -23,10 +23,10 @@ use Rattle.level_bounds.specs.Keys.{are_equal_at, value_at}
 use Rattle.join_steps.specs.Columns.{column_cells}
 use Rattle.join_steps.proofs.Cells.{cell_count, cell_of_row, kind_at, same_cells, value_by_cell}
 use Rattle.key_carriers.specs.Cells.{AreOfOneKind, column_of, widened_to, with_found, with_other}
-use Rattle.key_carriers.specs.Widened.{partner, widened_row, with_row}
+use Rattle.key_carriers.specs.Widened.{referred_row, widened_row, with_row}
 use Rattle.key_carriers.proofs.Ascending.{range_more}
 
-module _ (db : Database) (e : Edge) (tables : AreTables db) (different : AreDifferent db.pool) (utf8 : All IsUtf8 db.pool) (one : AreOfOneKind db e) where
+module _ (db : Database) (e : Edge) (tables : AreTables db) (different : TextsAreDifferent db.pool) (utf8 : All IsUtf8 db.pool) (one : AreOfOneKind db e) where
   abbrev left_cells : List ℕ
   left_cells = column_cells db (column_of e.left)
 
@@ -70,7 +70,7 @@ module _ (db : Database) (e : Edge) (tables : AreTables db) (different : AreDiff
     passes_at k low = ap passes (get_or-range_with_len 0 (row_counts (tables_of db) e.right.entry) k 0 low ∙ omega arith) ∙ cells_tell k low
 
     -- the first place with the row's cell is its partner
-    pub first_is : (o : Option ℕ) → IsPlaceOf right_cells cell 0 o → o ≡ partner (tables_of db) e row
+    pub first_is : (o : Option ℕ) → IsPlaceOf right_cells cell 0 o → o ≡ referred_row (tables_of db) e row
     first_is (Some place) is =
         let below : place < row_counts (tables_of db) e.right.entry = omega (arith, is.below_end, right_count) in
         let long : length others ≡ row_counts (tables_of db) e.right.entry = length-range_with_len 0 (row_counts (tables_of db) e.right.entry) in
@@ -95,7 +95,7 @@ module _ (db : Database) (e : Edge) where
   to_more row =
       ap (filter_map (widened_row (tables_of db) e)) (range_more 0 row row (omega arith)) ∙ filter_map-append (widened_row (tables_of db) e) (range_with_len 0 row) (row ∷ [])
 
-  module _ (row : ℕ) (other : Option ℕ) (is : other ≡ partner (tables_of db) e row) (old new : List ℕ) where
+  module _ (row : ℕ) (other : Option ℕ) (is : other ≡ referred_row (tables_of db) e row) (old new : List ℕ) where
     pub row_added : old ≡ map (λ pair. pair.0) (widened_to (tables_of db) e row) → new ≡ with_found old row other → new ≡ map (λ pair. pair.0) (widened_to (tables_of db) e (row + 1))
     row_added before added =
         added ∙ found_is other ∙ ap (λ (s : List ℕ). s ++ map (λ pair. pair.0) (cons_option (option_map (with_row row) other) [])) before

@@ -9,7 +9,7 @@ use Rattle.berge_tree.specs.declared.edges.Edge.{Edge}
 use Rattle.sql_meaning.specs.Tables.{Tables, row_counts}
 use Rattle.level_bounds.specs.Keys.{are_equal_at}
 use Rattle.level_bounds.proofs.Lists.{from_filter_map, from_map, range_within}
-use Rattle.key_carriers.specs.Widened.{partner, referred, referring, widened, widened_row, with_row}
+use Rattle.key_carriers.specs.Widened.{referred_row, referred, referring, widened, widened_row, with_row}
 
 module _ (tables : Tables) (e : Edge) where
   abbrev pairs : List (ℕ × ℕ)
@@ -17,7 +17,7 @@ module _ (tables : Tables) (e : Edge) where
 
   -- a pair is a row with its partner
   abbrev IsPairOf : ℕ → ℕ × ℕ → Type 0
-  IsPairOf row pair = (pair.0 ≡ row) × (partner tables e row ≡ Some pair.1)
+  IsPairOf row pair = (pair.0 ≡ row) × (referred_row tables e row ≡ Some pair.1)
 
   pair_of : (row : ℕ) (o : Option ℕ) (pair : ℕ × ℕ) → option_map (with_row row) o ≡ Some pair → (pair.0 ≡ row) × (o ≡ Some pair.1)
   pair_of row None pair is = absurd (cc)
@@ -25,11 +25,11 @@ module _ (tables : Tables) (e : Edge) where
       let same : with_row row other ≡ pair = cc in
       (sym (ap (λ (p : ℕ × ℕ). p.0) same), ap (λ (p : ℕ × ℕ). Some p.1) same)
 
-  found : (pair : ℕ × ℕ) → Contains pairs pair → (row : ℕ) × (row < row_counts tables e.left.entry) × (pair.0 ≡ row) × (partner tables e row ≡ Some pair.1)
+  found : (pair : ℕ × ℕ) → Contains pairs pair → (row : ℕ) × (row < row_counts tables e.left.entry) × (pair.0 ≡ row) × (referred_row tables e row ≡ Some pair.1)
   found pair has =
       let made = from_filter_map (widened_row tables e) (range_with_len 0 (row_counts tables e.left.entry)) pair has in
       let within = (range_within 0 (row_counts tables e.left.entry) made.0 made.1).1 in
-      let is = pair_of made.0 (partner tables e made.0) pair made.2 in
+      let is = pair_of made.0 (referred_row tables e made.0) pair made.2 in
       (made.0, omega (arith, within), is.0, is.1)
 
   -- a row that refers is one of the left entry's table
@@ -39,7 +39,7 @@ module _ (tables : Tables) (e : Edge) where
       let pair = found at.0 at.1 in
       omega (arith, at.2, pair.1, pair.2)
 
-  partner_low : (row other : ℕ) → partner tables e row ≡ Some other → other < row_counts tables e.right.entry
+  partner_low : (row other : ℕ) → referred_row tables e row ≡ Some other → other < row_counts tables e.right.entry
   partner_low row other is =
       let at = position-Some (are_equal_at tables e row) (range_with_len 0 (row_counts tables e.right.entry)) other 0 is in
       omega (arith, at.0, length-range_with_len 0 (row_counts tables e.right.entry))

@@ -25,8 +25,8 @@ is_just column (first ∷ []) = first == column
 is_just column (first ∷ (second ∷ columns)) = false
 
 -- the column alone is a PRIMARY KEY or UNIQUE of the table
-abbrev pub is_key : Schema → ℕ → ℕ → Bool
-is_key schema table column = list_any (is_just column) (table_at schema table).keys
+abbrev pub is_declared_key : Schema → ℕ → ℕ → Bool
+is_declared_key schema table column = list_any (is_just column) (table_at schema table).keys
 
 -- a reference from this column alone to this column alone of a table
 abbrev pub leads : ℕ → ℕ → ℕ → Reference → Bool
@@ -49,7 +49,7 @@ table_of query entry = (slice_index_or query.from entry no_source).table
 abbrev pub refers_to_key : Schema → Query → Edge → Bool
 refers_to_key schema query e =
     refers schema (table_of query e.left.entry) e.left.column (table_of query e.right.entry) e.right.column
-    && is_key schema (table_of query e.right.entry) e.right.column
+    && is_declared_key schema (table_of query e.right.entry) e.right.column
 
 -- some conjunct names this entry and no other one
 abbrev pub has_own : Query → ℕ → Bool
@@ -60,13 +60,13 @@ abbrev pub carries : Schema → Query → Edge → Bool
 carries schema query e = refers_to_key schema query e && has_own query e.right.entry
 
 -- an equality with its sides exchanged
-abbrev pub turned : Edge → Edge
-turned e = record { left = e.right; right = e.left }
+abbrev pub exchanged : Edge → Edge
+exchanged e = record { left = e.right; right = e.left }
 
 -- each equality, and behind it the same with its sides exchanged
 abbrev pub both_ways : List Edge → List Edge
 both_ways [] = []
-both_ways (e ∷ es) = e ∷ (turned e ∷ both_ways es)
+both_ways (e ∷ es) = e ∷ (exchanged e ∷ both_ways es)
 
 -- the equalities along which conjuncts are carried, each with the entry to which they are carried on its left
 abbrev pub carriers : Schema → Query → List Edge

@@ -1,5 +1,5 @@
 pub mod Carriers
 pub mod Widened
-pub mod Keys
+pub mod DeclaredKeys
 pub mod Cells
 pub mod Examples

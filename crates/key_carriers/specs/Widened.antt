@@ -10,15 +10,15 @@ use Rattle.sql_meaning.specs.Tables.{Tables, row_counts}
 use Rattle.level_bounds.specs.Keys.{are_equal_at, value_at}
 
 -- the row of the right entry to which a row of the left entry refers: the first with the same value
-abbrev pub partner : Tables → Edge → ℕ → Option ℕ
-partner tables e row = position (are_equal_at tables e row) (range_with_len 0 (row_counts tables e.right.entry))
+abbrev pub referred_row : Tables → Edge → ℕ → Option ℕ
+referred_row tables e row = position (are_equal_at tables e row) (range_with_len 0 (row_counts tables e.right.entry))
 
 abbrev pub with_row : ℕ → ℕ → ℕ × ℕ
 with_row row other = (row, other)
 
 -- a row with the row to which it refers
 abbrev pub widened_row : Tables → Edge → ℕ → Option (ℕ × ℕ)
-widened_row tables e row = option_map (with_row row) (partner tables e row)
+widened_row tables e row = option_map (with_row row) (referred_row tables e row)
 
 -- all of these rows in file order. A row that refers to nothing is left out
 abbrev pub widened : Tables → Edge → List (ℕ × ℕ)
@@ -49,7 +49,7 @@ is_scanned query tables entry None = false
 is_scanned query tables entry (Some row) = passes_own (conjuncts_of query tables) entry row
 
 abbrev pub refers_to_scanned : Query → Tables → Edge → ℕ → Bool
-refers_to_scanned query tables e row = is_scanned query tables e.right.entry (partner tables e row)
+refers_to_scanned query tables e row = is_scanned query tables e.right.entry (referred_row tables e row)
 
 -- in file order
 abbrev pub rows_referring : Query → Tables → Edge → List ℕ

@@ -6,7 +6,7 @@
 //! A row that refers to nothing is left out. So nothing here assumes that every reference has its row.
 //!
 //! Callers cite `carriers` and `carriers_to` for who carries, `widened`, `referring` and `referred` for the widened table,
-//! `rows_referring` for the rows that refer to a row of the carrier's scan, and `KeysHold` for tables whose keys hold.
+//! `rows_referring` for the rows that refer to a row of the carrier's scan, and `DeclaredKeysHold` for tables whose keys hold.
 #![tactic(auto)]
 
 mod key_rows;

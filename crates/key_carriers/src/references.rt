@@ -3,7 +3,7 @@ ghost use Rattle.std.specs.Prelude.{◌≡◌, ◌++◌, ◌∷◌, [], ◌<◌,
 ghost use Rattle.std.specs.List.{list_any};
 ghost use Rattle.join_graph.specs.Conjuncts.{equalities_of, local_of};
 ghost use Rattle.tree_bounds.specs.Columns.{EachNamedColumn};
-ghost use Rattle.key_carriers.specs.Carriers.{carriers, carries, has_own, is_just, is_key, leads, refers, refers_to_key, table_of, turned};
+ghost use Rattle.key_carriers.specs.Carriers.{carriers, carries, has_own, is_just, is_declared_key, leads, refers, refers_to_key, table_of, exchanged};
 
 use base_io::{NoMemory, Seq};
 use berge_tree::Edge;
@@ -71,7 +71,7 @@ fn refers(schema: &Schema, table: u32, column: u32, other: u32, target: u32) -> 
 
 // Whether a column alone is a key of its table.
 fn is_key(schema: &Schema, table: u32, column: u32) -> bool
-    ensures { result ≡ is_key schema.now table column }
+    ensures { result ≡ is_declared_key schema.now table column }
 {
     let at = table as usize;
     if at < schema.tables.len() {
@@ -134,7 +134,7 @@ fn add_carrier(
 }
 
 fn turned(edge: Edge) -> Edge
-    ensures { result ≡ turned edge }
+    ensures { result ≡ exchanged edge }
 {
     Edge {
         left: edge.right,

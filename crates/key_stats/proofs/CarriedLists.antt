@@ -28,7 +28,7 @@ use Rattle.table_stats.specs.Columns.{value_of_row}
 use Rattle.table_stats.specs.Keys.{TellsListed, TellsValues}
 use Rattle.table_stats.proofs.Dominating.{listed_stand}
 use Rattle.table_stats.proofs.Summing.{counts_stand, listed_fall, listed_sum}
-use Rattle.key_carriers.specs.Widened.{is_scanned, partner, referred, referring, refers_to_scanned, rows_referring, tables_at, values_at, widened, widened_row, with_row}
+use Rattle.key_carriers.specs.Widened.{is_scanned, referred_row, referred, referring, refers_to_scanned, rows_referring, tables_at, values_at, widened, widened_row, with_row}
 use Rattle.key_stats.specs.Lists.{carried_counts, carried_list, carried_lists, carried_rows}
 use Rattle.key_carriers.proofs.Referring.{referring_low}
 use Rattle.key_stats.proofs.RowsThere.{own_there}
@@ -86,7 +86,7 @@ module _ (query : Query) (tables : Tables) (e : Edge) where
 
     of_pairs : (rows : List ℕ) → map (λ pair. key pair.0) (filter (λ pair. passes pair.1) (filter_map (widened_row tables e) rows)) ≡ map key (filter refers rows)
     of_pairs [] = refl
-    of_pairs (row ∷ rows) = one_pair row rows (partner tables e row) (of_pairs rows)
+    of_pairs (row ∷ rows) = one_pair row rows (referred_row tables e row) (of_pairs rows)
 
   -- ---- the scan of the widened table
 

@@ -18,7 +18,7 @@ use Rattle.schema_types.specs.declared.types.Kind.{Kind}
 use Rattle.schema_types.specs.declared.types.Kind.TheVariants as kind
 use Rattle.csv_tables.specs.Cells.{IsCell, IsColumn, value_of_cell}
 use Rattle.csv_tables.specs.Numbers.{bits_of, number_in}
-use Rattle.csv_tables.specs.Pools.{AreDifferent}
+use Rattle.csv_tables.specs.Pools.{TextsAreDifferent}
 use Rattle.csv_tables.specs.Values.{Value, Int, value_cmp}
 use Rattle.csv_tables.specs.declared.types.Cells.{Cells}
 use Rattle.csv_tables.specs.declared.types.Database.{Database}
@@ -134,7 +134,7 @@ keys_are_cells query db ref of exists =
 
 -- ---- texts
 
-pub characters_differ : (texts : List (List ℕ)) → All IsUtf8 texts → AreDifferent texts → HaveDifferentCharacters texts
+pub characters_differ : (texts : List (List ℕ)) → All IsUtf8 texts → TextsAreDifferent texts → HaveDifferentCharacters texts
 characters_differ texts utf8 differ i j d less within same =
     differ i j d less within
     (sym (encodes-chars (get_or texts i d) (utf8 i d (omega arith))) ∙ ap encode_utf8_all same ∙ encodes-chars (get_or texts j d) (utf8 j d within))

@@ -19,7 +19,7 @@ use Rattle.join_graph.specs.Conjuncts.{column_of, compared, equalities_of, equal
 use Rattle.sql_meaning.specs.Answers.{conjunct_of, conjuncts_of}
 use Rattle.sql_meaning.specs.Conditions.{cond_holds, holds_step}
 use Rattle.sql_meaning.specs.Tables.{Tables, row_counts}
-use Rattle.level_bounds.specs.Equalities.{IsAsked}
+use Rattle.level_bounds.specs.Equalities.{IsImplied}
 use Rattle.level_bounds.specs.Keys.{JoinsEqualKeys, Keys, are_equal_at}
 use Rattle.level_bounds.proofs.Lists.{all_from, each_of, from_filter_map, in_filter_map, in_map}
 
@@ -99,7 +99,7 @@ module _ (query : Query) (tables : Tables) (key : Keys) where
       any true = refl
       any false = refl
 
-  pub is_asked : (e : Edge) → Contains (equalities_of query) e → JoinsEqualKeys tables key e → IsAsked (conjuncts_of query tables) (row_counts tables) key e
+  pub is_asked : (e : Edge) → Contains (equalities_of query) e → JoinsEqualKeys tables key e → IsImplied (conjuncts_of query tables) (row_counts tables) key e
   is_asked e there keys =
       let found : (cond : Cond) × Contains query.conjuncts cond × (equality_of cond ≡ Some e) = from_filter_map equality_of query.conjuncts e there in
       record {
@@ -110,7 +110,7 @@ module _ (query : Query) (tables : Tables) (key : Keys) where
       }
 
   pub are_asked : (es : List Edge) → ((e : Edge) → Contains es e → Contains (equalities_of query) e) → AllByRecursion (JoinsEqualKeys tables key) es
-      → AllByRecursion (IsAsked (conjuncts_of query tables) (row_counts tables) key) es
+      → AllByRecursion (IsImplied (conjuncts_of query tables) (row_counts tables) key) es
   are_asked es inside keys =
-      all_from (IsAsked (conjuncts_of query tables) (row_counts tables) key) es
+      all_from (IsImplied (conjuncts_of query tables) (row_counts tables) key) es
       (λ e there. is_asked e (inside e there) (each_of (JoinsEqualKeys tables key) es keys e there))

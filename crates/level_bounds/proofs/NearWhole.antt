@@ -5,7 +5,7 @@ use Rattle.std.proofs.lemmas.List.FromFn.{length-map-range_with_len, length-rang
 use Rattle.degree_sequences.specs.Compression.{compressed}
 use Rattle.degree_sequences.specs.Degrees.{degree_list}
 use Rattle.degree_sequences.specs.Domination.{DominatesKeys}
-use Rattle.degree_sequences.specs.Families.{IsWithin}
+use Rattle.degree_sequences.specs.Families.{SumsAreWithin}
 use Rattle.degree_sequences.proofs.CompressedLists.{IsFalling-compressed, compressed-near, compressed_dominates, sum-compressed}
 use Rattle.degree_sequences.proofs.DegreeLists.{IsFalling-degree_list, sum-degree_list}
 use Rattle.berge_tree.specs.declared.edges.Edge.{Edge}
@@ -88,7 +88,7 @@ module _ (tables : Tables) (key : Keys) where
       rows = all_from (RowsAreNear accuracy b (uncompressed tables key)) (entries_of_set subset) (λ entry k. rw (rows_at entry k) (omega arith));
       columns = all_from (λ (p : Place). ListIsNear accuracy b (uncompressed tables key) p.entry p.column) named (λ p k.
           let falls = IsFalling-degree_list (keys_of tables key p.entry p.column) in
-          subst (λ (s : List ℕ). IsWithin accuracy (accuracy + 1) s (degree_list (keys_of tables key p.entry p.column))) (sym (list_at p k))
+          subst (λ (s : List ℕ). SumsAreWithin accuracy (accuracy + 1) s (degree_list (keys_of tables key p.entry p.column))) (sym (list_at p k))
           (within_by_elements accuracy (accuracy + 1) (list_of p.entry p.column) (degree_list (keys_of tables key p.entry p.column))
           (compressed-near accuracy (degree_list (keys_of tables key p.entry p.column)) falls)));
     }

@@ -11,13 +11,13 @@ use Rattle.join_graph.specs.Conjuncts.{equalities_of}
 use Rattle.join_graph.specs.Kept.{equalities_within, joins_within}
 use Rattle.tree_bounds.specs.Scans.{SatisfiesScanned, scanned}
 use Rattle.tree_bounds.specs.SetBounds.{bound_of_set}
-use Rattle.tree_bounds.specs.Tables.{AreDifferent, Dominates, SetDominates}
+use Rattle.tree_bounds.specs.Tables.{ChoicesAreDifferent, Dominates, SetDominates}
 use Rattle.tree_bounds.specs.TreeBounds.{EntryBounds}
 use Rattle.sql_meaning.specs.Answers.{conjuncts_of}
 use Rattle.sql_meaning.specs.Levels.{AsksOnly, row_in}
 use Rattle.sql_meaning.specs.Tables.{Tables, row_counts}
 use Rattle.sql_meaning.proofs.AskFacts.{asks_only}
-use Rattle.level_bounds.specs.Equalities.{IsAsked}
+use Rattle.level_bounds.specs.Equalities.{IsImplied}
 use Rattle.level_bounds.specs.Keys.{JoinsEqualKeys, Keys}
 use Rattle.level_bounds.specs.Orders.{IsOrderOfSet}
 use Rattle.level_bounds.specs.Scans.{BoundsScans, query_level, query_scan}
@@ -30,7 +30,7 @@ module _ (query : Query) (tables : Tables) where
   asks = asks_only tables query.conjuncts
 
   asked : (key : Keys) (subset : ℕ) → AllByRecursion (JoinsEqualKeys tables key) (equalities_within subset (equalities_of query))
-      → AllByRecursion (IsAsked (conjuncts_of query tables) (row_counts tables) key) (equalities_within subset (equalities_of query))
+      → AllByRecursion (IsImplied (conjuncts_of query tables) (row_counts tables) key) (equalities_within subset (equalities_of query))
   asked key subset keys = are_asked query tables key (equalities_within subset (equalities_of query)) (λ e there. (from_filter (joins_within subset) (equalities_of query) e there).0) keys
 
   -- what bounds know of the scans, as the scans' own tables have it
@@ -49,7 +49,7 @@ module _ (query : Query) (tables : Tables) where
       → AllByRecursion (SatisfiesScanned (query_scan query tables) key (entries_of_set subset) (equalities_within subset (equalities_of query))) (map (row_in order) (query_level query tables order))
   satisfies key subset order keys o = level_satisfies (conjuncts_of query tables) (row_counts tables) key (equalities_of query) subset order asks (asked key subset keys) o
 
-  pub differ : (subset : ℕ) (order : List ℕ) → IsOrderOfSet (entries_of_set subset) order → AreDifferent (entries_of_set subset) (map (row_in order) (query_level query tables order))
+  pub differ : (subset : ℕ) (order : List ℕ) → IsOrderOfSet (entries_of_set subset) order → ChoicesAreDifferent (entries_of_set subset) (map (row_in order) (query_level query tables order))
   differ subset order o = choices_differ (conjuncts_of query tables) (row_counts tables) (entries_of_set subset) order o
 
   pub within : (key : Keys) (b : EntryBounds) (subset : ℕ) (order : List ℕ) → AllByRecursion (JoinsEqualKeys tables key) (equalities_within subset (equalities_of query))

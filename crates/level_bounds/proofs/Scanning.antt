@@ -10,12 +10,12 @@ use Rattle.entry_sets.specs.Sets.{entries_of_set}
 use Rattle.join_graph.specs.Kept.{equalities_within}
 use Rattle.tree_bounds.specs.Scans.{SatisfiesScanned, scanned}
 use Rattle.tree_bounds.specs.SetBounds.{SetHasLists, bound_of_set}
-use Rattle.tree_bounds.specs.Tables.{AreDifferent, SetDominates}
+use Rattle.tree_bounds.specs.Tables.{ChoicesAreDifferent, SetDominates}
 use Rattle.tree_bounds.specs.TreeBounds.{EntryBounds}
 use Rattle.tree_bounds.proofs.Scanned.{equalities_inside, scanned_within}
 use Rattle.sql_meaning.specs.Levels.{AsksOnly, Conjunct, level_of, names_just, names_only, row_in, scan}
 use Rattle.sql_meaning.proofs.LevelFacts.{names_at}
-use Rattle.level_bounds.specs.Equalities.{IsAsked}
+use Rattle.level_bounds.specs.Equalities.{IsImplied}
 use Rattle.level_bounds.specs.Keys.{Keys}
 use Rattle.level_bounds.specs.Orders.{IsOrderOfSet}
 use Rattle.level_bounds.proofs.Lists.{all_from, all_true, each_of, from_map, in_filter, in_range, in_true, is_in, map_alike, same_at, true_for_all, true_in}
@@ -74,7 +74,7 @@ module _ (conjuncts : List Conjunct) (rows : ℕ → ℕ) (set order : List ℕ)
             asks_row c there entry (row_in order choice) alone ∙ holds_within choice k c there (names_more c.entries (entry ∷ []) order one_entry alone)
 
   -- an equality that is asked holds of the chosen rows
-  keys_equal : (key : Keys) (e : Edge) → IsAsked conjuncts rows key e → Contains set e.left.entry → Contains set e.right.entry
+  keys_equal : (key : Keys) (e : Edge) → IsImplied conjuncts rows key e → Contains set e.left.entry → Contains set e.right.entry
       → (choice : List ℕ) → Contains (level_of conjuncts rows order) choice
       → key e.left.entry e.left.column (row_in order choice e.left.entry) ≡ key e.right.entry e.right.column (row_in order choice e.right.entry)
   keys_equal key e asked left right choice k =
@@ -91,7 +91,7 @@ module _ (conjuncts : List Conjunct) (rows : ℕ → ℕ) (set order : List ℕ)
       ]
 
   -- different choices differ at an entry of the set
-  pub choices_differ : AreDifferent set (map (row_in order) (level_of conjuncts rows order))
+  pub choices_differ : ChoicesAreDifferent set (map (row_in order) (level_of conjuncts rows order))
   choices_differ i j d less within same =
       let cs : List (List ℕ) = level_of conjuncts rows order in
       let j_in : j < length cs = omega (arith, within, length-map cs (row_in order)) in
@@ -110,8 +110,8 @@ module _ (conjuncts : List Conjunct) (rows : ℕ → ℕ) (set order : List ℕ)
           ∙ back conjuncts rows set order order o o y l
 
 module _ (conjuncts : List Conjunct) (rows : ℕ → ℕ) (key : Keys) (es : List Edge) (subset : ℕ) (order : List ℕ)
-    (asks : AllByRecursion AsksOnly conjuncts) (asked : AllByRecursion (IsAsked conjuncts rows key) (equalities_within subset es)) (o : IsOrderOfSet (entries_of_set subset) order) where
-  all_equal : (choice : List ℕ) → Contains (level_of conjuncts rows order) choice → (edges : List Edge) → AreWithin (entries_of_set subset) edges → AllByRecursion (IsAsked conjuncts rows key) edges
+    (asks : AllByRecursion AsksOnly conjuncts) (asked : AllByRecursion (IsImplied conjuncts rows key) (equalities_within subset es)) (o : IsOrderOfSet (entries_of_set subset) order) where
+  all_equal : (choice : List ℕ) → Contains (level_of conjuncts rows order) choice → (edges : List Edge) → AreWithin (entries_of_set subset) edges → AllByRecursion (IsImplied conjuncts rows key) edges
       → AllByRecursion (λ e. key e.left.entry e.left.column (row_in order choice e.left.entry) ≡ key e.right.entry e.right.column (row_in order choice e.right.entry)) edges
   all_equal choice k [] inside asked' = tt
   all_equal choice k (e ∷ edges) inside asked' = (

@@ -6,7 +6,7 @@ use Rattle.sql_meaning.specs.Levels.{Conjunct, names_only}
 use Rattle.level_bounds.specs.Keys.{Keys}
 
 -- one of the conjuncts names only the two entries of the equality, and where it holds of rows, these have one key in its columns
-pub record IsAsked (conjuncts : List Conjunct) (rows : ℕ → ℕ) (key : Keys) (e : Edge) : Type 0 where
+pub record IsImplied (conjuncts : List Conjunct) (rows : ℕ → ℕ) (key : Keys) (e : Edge) : Type 0 where
   pub conjunct : Conjunct
   pub one_of_them : Contains conjuncts conjunct
   pub names : names_only conjunct (e.left.entry ∷ e.right.entry ∷ []) ≡ true

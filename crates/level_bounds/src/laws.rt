@@ -13,16 +13,16 @@ ghost use Rattle.join_graph.specs.Conjuncts.{equalities_of, equality_of, local_o
 ghost use Rattle.join_graph.specs.Kept.{equalities_within};
 ghost use Rattle.tree_bounds.specs.Scans.{SatisfiesScanned, scanned};
 ghost use Rattle.tree_bounds.specs.SetBounds.{SetHasLists, bound_of_set};
-ghost use Rattle.tree_bounds.specs.Tables.{AreDifferent, SetDominates};
+ghost use Rattle.tree_bounds.specs.Tables.{ChoicesAreDifferent, SetDominates};
 ghost use Rattle.tree_bounds.specs.TreeBounds.{EntryBounds};
 ghost use Rattle.csv_tables.specs.declared.types.Database.{Database};
-ghost use Rattle.csv_tables.specs.Pools.{AreDifferent as AreDifferentTexts};
+ghost use Rattle.csv_tables.specs.Pools.{TextsAreDifferent as AreDifferentTexts};
 ghost use Rattle.sql_meaning.specs.Answers.{answer, conjunct_of, conjuncts_of, entries_of, selected};
 ghost use Rattle.sql_meaning.specs.Conditions.{cond_holds};
 ghost use Rattle.sql_meaning.specs.Databases.{IsColumnOf, IsDatabaseOf};
 ghost use Rattle.sql_meaning.specs.Levels.{AsksOnly, Conjunct, level, level_of, names_just as names_just_it, row_in, scan};
 ghost use Rattle.sql_meaning.specs.Tables.{Tables, cells_of, row_counts, tables_of};
-ghost use Rattle.level_bounds.specs.Equalities.{IsAsked};
+ghost use Rattle.level_bounds.specs.Equalities.{IsImplied};
 ghost use Rattle.level_bounds.specs.Keys.{AreKeys, HaveDifferentCharacters, Keys, are_equal_at, cell_at};
 ghost use Rattle.level_bounds.specs.Orders.{IsOrderOfSet, reordered};
 ghost use Rattle.level_bounds.specs.Scans.{BoundsEachScan, BoundsScans, equalities_in, filters_of, query_level, query_scan};
@@ -77,7 +77,7 @@ pub fn levels_are_choices_of_scanned_rows()
         → AllByRecursion (SatisfiesScanned (query_scan query tables) key (entries_of_set subset) (equalities_in query subset))
         (map (row_in order) (query_level query tables order)) }
     ensures different { (query : Query) (tables : Tables) (subset : ℕ) (order : List ℕ) → IsOrderOfSet (entries_of_set subset) order
-        → AreDifferent (entries_of_set subset) (map (row_in order) (query_level query tables order)) }
+        → ChoicesAreDifferent (entries_of_set subset) (map (row_in order) (query_level query tables order)) }
 {}
 
 /// Never under: a level over the entries of a set, in any order, has at most as many rows as the bound of the set says,
@@ -100,7 +100,7 @@ pub fn levels_are_never_under()
         → length (query_level query tables order) ≤ bound_of_set b (equalities_of query) subset }
     // over any conjuncts
     ensures conjuncts { (conjuncts : List Conjunct) (rows : ℕ → ℕ) (key : Keys) (es : List Edge) (b : EntryBounds) (subset : ℕ)
-        (order : List ℕ) → AllByRecursion AsksOnly conjuncts → AllByRecursion (IsAsked conjuncts rows key) (equalities_within subset es)
+        (order : List ℕ) → AllByRecursion AsksOnly conjuncts → AllByRecursion (IsImplied conjuncts rows key) (equalities_within subset es)
         → SetHasLists b es subset → SetDominates b (scanned (scan conjuncts rows) key) es subset
         → IsOrderOfSet (entries_of_set subset) order → length (level_of conjuncts rows order) ≤ bound_of_set b es subset }
 {}

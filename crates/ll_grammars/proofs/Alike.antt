@@ -4,7 +4,7 @@ use Rattle.ll_grammars.specs.declared.lexeme.Lexeme.{Lexeme}
 use Rattle.ll_grammars.specs.declared.terminal.Terminal.{Terminal}
 use Rattle.ll_grammars.specs.Language.{Language}
 use Rattle.ll_grammars.specs.Reading.{Parser, Answer, next, ◌>>=◌, starts, give, read_second, read_then, read_made, read_maybe, read_others, read_up_to, read_many}
-use Rattle.ll_grammars.specs.Reads.{Shape, Splits, Reads}
+use Rattle.ll_grammars.specs.Reads.{FirstAndFollow, Splits, Reads}
 
 -- p and q do the same on the lists that P holds of
 abbrev pub AreAlikeOn : {A : Type 0} → (List Lexeme → Type 0) → Parser A → Parser A → Type 0
@@ -19,7 +19,7 @@ module _ (P : List Lexeme → Type 0) where
   itself_alike p text holds = refl
 
   -- it is enough that P holds behind each text of the language of which it holds together with what follows
-  pub stays : {A : Type 0} {L : Language A} {s : Shape} {p : Parser A} → Reads L s p → ((front rest : List Lexeme) (value : A) → L front value → P (front ++ rest) → P rest) → StaysIn P p
+  pub stays : {A : Type 0} {L : Language A} {s : FirstAndFollow} {p : Parser A} → Reads L s p → ((front rest : List Lexeme) (value : A) → L front value → P (front ++ rest) → P rest) → StaysIn P p
   stays {A = A} {L = L} {p = p} reads h text value rest e holds = at (p text).0 (p text).1 e (reads.splits text) where
     at : (o : Option A) (r : List Lexeme) → ◌≡◌ {A = Answer A} (o, r) (Some value, rest) → Splits L text o r → P rest
     at None r e d = absurd (let k : ◌≡◌ {A = Option A} None (Some value) = ap (λ x. x.0) e in cc)

@@ -6,9 +6,9 @@ use Rattle.ll_grammars.specs.declared.stop.Stop.{Stop}
 use Rattle.ll_grammars.specs.declared.stop.Stop.TheVariants as stop
 use Rattle.ll_grammars.specs.Language.{Language}
 use Rattle.ll_grammars.specs.Reading.{Parser, Answer, next, ◌>>=◌, starts, give, read_then, read_made, read_others, read_many, with_front}
-use Rattle.ll_grammars.specs.Rules.{Gives}
+use Rattle.ll_grammars.specs.Rules.{IsReadAs}
 use Rattle.ll_grammars.specs.Rules.{all}
-use Rattle.ll_grammars.specs.Reads.{Shape, Splits, Reads}
+use Rattle.ll_grammars.specs.Reads.{FirstAndFollow, Splits, Reads}
 use Rattle.ll_grammars.proofs.Repeats.{many_step, many_stop, begins_length}
 
 pub front_others : {A : Type 0} → (front : List A) (a : A) (o : Option (List A)) (end : List Lexeme) → with_front front (next o end (λ others. give (a ∷ others))) ≡ with_front (front ++ a ∷ []) (o, end)
@@ -28,7 +28,7 @@ many_start answer = at answer.0 answer.1 where
   at None end = refl
   at (Some others) end = refl
 
-module _ {A : Type 0} (L : Language A) (s : Shape) (p : Parser A) (reads : Reads L s p) (full : s.nullable ≡ false) where
+module _ {A : Type 0} (L : Language A) (s : FirstAndFollow) (p : Parser A) (reads : Reads L s p) (full : s.nullable ≡ false) where
   pub shorter : (text : List Lexeme) (a : A) (rest : List Lexeme) → p text ≡ (Some a, rest) → length rest < length text
   shorter text a rest e = at (p text).0 (p text).1 e (reads.splits text) where
     at : (o : Option A) (r : List Lexeme) → ◌≡◌ {A = Answer A} (o, r) (Some a, rest) → Splits L text o r → length rest < length text
@@ -44,8 +44,8 @@ module _ {A : Type 0} (L : Language A) (s : Shape) (p : Parser A) (reads : Reads
       let step : read_many s.first p text ≡ read_others (read_many s.first p) a rest = many_step L s p reads full text h ∙ ap (λ x. x >>= read_others (read_many s.first p)) e in
       rw step (front_others front a (read_many s.first p rest).0 (read_many s.first p rest).1)
 
-  pub loop_stops : (e : Stop) (front : List A) (text rest : List Lexeme) (total : Answer (List A)) → starts s.first text ≡ true → Gives {A = A} (Err e) rest (p text)
-      → with_front front (read_many s.first p text) ≡ total → Gives {A = List A} (Err e) rest total
+  pub loop_stops : (e : Stop) (front : List A) (text rest : List Lexeme) (total : Answer (List A)) → starts s.first text ≡ true → IsReadAs {A = A} (Err e) rest (p text)
+      → with_front front (read_many s.first p text) ≡ total → IsReadAs {A = List A} (Err e) rest total
   loop_stops stop.NoMemory front text rest total h g so_far = tt
   loop_stops stop.Syntax front text rest total h g so_far =
       let step : read_many s.first p text ≡ (None, rest) = many_step L s p reads full text h ∙ ap (λ x. x >>= read_others (read_many s.first p)) g in

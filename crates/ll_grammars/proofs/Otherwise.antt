@@ -4,13 +4,13 @@ use Rattle.ll_grammars.specs.declared.lexeme.Lexeme.{Lexeme}
 use Rattle.ll_grammars.specs.Terminals.{apart}
 use Rattle.ll_grammars.specs.Language.{Language, ◌∪◌}
 use Rattle.ll_grammars.specs.Reading.{Parser, starts, read_either}
-use Rattle.ll_grammars.specs.Reads.{Shape, BeginsIn, Stops, SameHead, Splits, Reads}
+use Rattle.ll_grammars.specs.Reads.{FirstAndFollow, BeginsIn, Stops, SameHead, Splits, Reads}
 use Rattle.ll_grammars.proofs.Sets.{apart_false, among_left, among_right, Stops-left, Stops-right, Stops-starts, starts_same, starts_front}
 
-abbrev pub otherwise_shape : Shape → Shape → Shape
+abbrev pub otherwise_shape : FirstAndFollow → FirstAndFollow → FirstAndFollow
 otherwise_shape s t = record { first = s.first ++ t.first; nullable = t.nullable; more = s.first ++ (s.more ++ t.more) }
 
-module _ {A : Type 0} {L M : Language A} {s t : Shape} {p q : Parser A} (first : Reads L s p) (second : Reads M t q) (full : s.nullable ≡ false) (apart_ : apart s.first t.first ≡ true) where
+module _ {A : Type 0} {L M : Language A} {s t : FirstAndFollow} {p q : Parser A} (first : Reads L s p) (second : Reads M t q) (full : s.nullable ≡ false) (apart_ : apart s.first t.first ≡ true) where
   left_splits : (text : List Lexeme) (o : Option A) (r : List Lexeme) → Splits L text o r → Splits (L ∪ M) text o r
   left_splits text None r d = record { front = d.front; whole = d.whole; spelled = record { more = d.spelled.more; value = d.spelled.value; spelled = inl d.spelled.spelled } }
   left_splits text (Some a) r d = record { front = d.front; whole = d.whole; spelled = inl d.spelled }

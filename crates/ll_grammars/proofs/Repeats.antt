@@ -6,18 +6,18 @@ use Rattle.ll_grammars.specs.declared.terminal.Terminal.{Terminal}
 use Rattle.ll_grammars.specs.Terminals.{apart}
 use Rattle.ll_grammars.specs.Language.{Language, many}
 use Rattle.ll_grammars.specs.Reading.{Parser, Answer, next, ◌>>=◌, starts, give, read_others, read_many, read_up_to}
-use Rattle.ll_grammars.specs.Reads.{Shape, BeginsIn, Stops, SameHead, Spelled, Splits, Reads}
+use Rattle.ll_grammars.specs.Reads.{FirstAndFollow, BeginsIn, Stops, SameHead, Spelled, Splits, Reads}
 use Rattle.ll_grammars.proofs.Sets.{Stops-left, Stops-right, Stops-next, Stops-starts, starts_same, SameHead-append, self_append, starts_front}
 use Rattle.ll_grammars.proofs.Steps.{next_give_rest}
 
-abbrev pub many_shape : Shape → Shape
+abbrev pub many_shape : FirstAndFollow → FirstAndFollow
 many_shape s = record { first = s.first; nullable = true; more = s.first ++ s.more }
 
-begins_append : (s : Shape) (f g : List Lexeme) → s.nullable ≡ false → BeginsIn s f → BeginsIn s (f ++ g)
+begins_append : (s : FirstAndFollow) (f g : List Lexeme) → s.nullable ≡ false → BeginsIn s f → BeginsIn s (f ++ g)
 begins_append s [] g full b = absurd cc
 begins_append s (x ∷ f) g full b = b
 
-pub begins_length : (s : Shape) (f : List Lexeme) → s.nullable ≡ false → BeginsIn s f → 0 < length f
+pub begins_length : (s : FirstAndFollow) (f : List Lexeme) → s.nullable ≡ false → BeginsIn s f → 0 < length f
 begins_length s [] full b = absurd cc
 begins_length s (x ∷ f) full b = omega arith
 
@@ -25,7 +25,7 @@ pub starts_none : (cs : List Terminal) (text : List Lexeme) → length text ≤ 
 starts_none cs [] h = refl
 starts_none cs (x ∷ text) h = absurd (omega arith)
 
-module _ {A : Type 0} (L : Language A) (s : Shape) (p : Parser A) (reads : Reads L s p) (full : s.nullable ≡ false) where
+module _ {A : Type 0} (L : Language A) (s : FirstAndFollow) (p : Parser A) (reads : Reads L s p) (full : s.nullable ≡ false) where
   many_splits_others : (text f r : List Lexeme) (a : A) → text ≡ f ++ r → L f a → (o : Option (List A)) (end : List Lexeme) → Splits (many L) r o end
       → Splits (many L) text (next {B = List A} o end (λ others. give (a ∷ others))).0 (next {B = List A} o end (λ others. give (a ∷ others))).1
   many_splits_others text f r a whole l None end split = record {
@@ -169,7 +169,7 @@ module _ {A : Type 0} (L : Language A) (s : Shape) (p : Parser A) (reads : Reads
   unfolding read_many
   many_stop text h = up_stops (length text) text h
 
-pub reads_many : {A : Type 0} → (L : Language A) (s : Shape) (p : Parser A) → Reads L s p → s.nullable ≡ false → apart s.more s.first ≡ true → Reads (many L) (many_shape s) (read_many s.first p)
+pub reads_many : {A : Type 0} → (L : Language A) (s : FirstAndFollow) (p : Parser A) → Reads L s p → s.nullable ≡ false → apart s.more s.first ≡ true → Reads (many L) (many_shape s) (read_many s.first p)
 unfolding read_many
 reads_many L s p reads full apart_ = record {
   some = record { more = []; value = []; spelled = refl };

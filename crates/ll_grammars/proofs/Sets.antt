@@ -6,7 +6,7 @@ use Rattle.ll_grammars.specs.declared.lexeme.Lexeme.{Lexeme}
 use Rattle.ll_grammars.specs.declared.terminal.Terminal.{Terminal}
 use Rattle.ll_grammars.specs.Terminals.{code, among, apart}
 use Rattle.ll_grammars.specs.Reading.{starts}
-use Rattle.ll_grammars.specs.Reads.{Shape, BeginsIn, Stops, SameHead}
+use Rattle.ll_grammars.specs.Reads.{FirstAndFollow, BeginsIn, Stops, SameHead}
 use Rattle.ll_grammars.specs.Reads.SameHead.{nothing, token}
 
 pub same_code : (ds : List Terminal) (c d : Terminal) → code c ≡ code d → among ds c ≡ among ds d
@@ -53,7 +53,7 @@ Stops-starts cs [] h = refl
 Stops-starts cs (t ∷ ts) h = h
 
 -- a parser does not go on where what follows begins in terminals apart from these
-pub Stops-next : (more : List Terminal) (s : Shape) (text rest : List Lexeme) → apart more s.first ≡ true → BeginsIn s text → Stops (cond s.nullable more []) rest → Stops more (text ++ rest)
+pub Stops-next : (more : List Terminal) (s : FirstAndFollow) (text rest : List Lexeme) → apart more s.first ≡ true → BeginsIn s text → Stops (cond s.nullable more []) rest → Stops more (text ++ rest)
 Stops-next more s [] rest h b stop = let k : Stops (cond true more []) rest = subst (λ (e : Bool). Stops (cond e more []) rest) b stop in k
 Stops-next more s (t ∷ ts) rest h b stop = apart_false more s.first t.terminal h b
 
@@ -71,6 +71,6 @@ SameHead-append (f ∷ fs) rest other h = token f (fs ++ rest) (fs ++ other)
 pub self_append : (fs rest : List Lexeme) → fs ++ rest ≡ rest → fs ≡ []
 self_append fs rest e = append_cancel_right fs [] rest e
 
-pub starts_front : (s : Shape) (front rest : List Lexeme) → s.nullable ≡ false → BeginsIn s front → starts s.first (front ++ rest) ≡ true
+pub starts_front : (s : FirstAndFollow) (front rest : List Lexeme) → s.nullable ≡ false → BeginsIn s front → starts s.first (front ++ rest) ≡ true
 starts_front s [] rest e b = absurd cc
 starts_front s (f ∷ fs) rest e b = b

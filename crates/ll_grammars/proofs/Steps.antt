@@ -6,7 +6,7 @@ use Rattle.ll_grammars.specs.declared.terminal.Terminal.{Terminal}
 use Rattle.ll_grammars.specs.Terminals.{among, apart}
 use Rattle.ll_grammars.specs.Language.{Language, ◌▸◌, one, made, maybe, ◌∪◌, IsViablePrefix}
 use Rattle.ll_grammars.specs.Reading.{Parser, Answer, next, ◌>>=◌, starts, give, read_second, read_one, read_then, read_made, read_either, read_maybe}
-use Rattle.ll_grammars.specs.Reads.{Shape, BeginsIn, Stops, SameHead, Splits, Reads}
+use Rattle.ll_grammars.specs.Reads.{FirstAndFollow, BeginsIn, Stops, SameHead, Splits, Reads}
 use Rattle.ll_grammars.specs.Reads.SameHead.{nothing, token}
 use Rattle.ll_grammars.proofs.Sets.{apart_false, among_left, among_right, Stops-left, Stops-right, Stops-next, Stops-starts, starts_same, SameHead-append, self_append, starts_front}
 
@@ -18,7 +18,7 @@ next_give_rest (Some a) end f = refl
 
 -- ---- one token
 
-abbrev pub one_shape : List Terminal → Shape
+abbrev pub one_shape : List Terminal → FirstAndFollow
 one_shape terminals = record { first = terminals; nullable = false; more = [] }
 
 one_splits : (terminals : List Terminal) (t : Lexeme) (rest : List Lexeme) → IsViablePrefix (one terminals) [] → (b : Bool) → among terminals t.terminal ≡ b
@@ -67,10 +67,10 @@ reads_one terminals t e =
 
 -- ---- one after the other
 
-abbrev pub then_shape : Shape → Shape → Shape
+abbrev pub then_shape : FirstAndFollow → FirstAndFollow → FirstAndFollow
 then_shape s t = record { first = s.first ++ cond s.nullable t.first []; nullable = s.nullable && t.nullable; more = t.more ++ cond t.nullable s.more [] }
 
-module _ {A B : Type 0} (L : Language A) (M : Language B) (s t : Shape) (p : Parser A) (q : Parser B) (first : Reads L s p) (second : Reads M t q) where
+module _ {A B : Type 0} (L : Language A) (M : Language B) (s t : FirstAndFollow) (p : Parser A) (q : Parser B) (first : Reads L s p) (second : Reads M t q) where
   then_splits_second : (text f r : List Lexeme) (a : A) → text ≡ f ++ r → L f a → (o : Option B) (end : List Lexeme) → Splits M r o end
       → Splits (L ▸ M) text (next {B = A × B} o end (λ b. give (a, b))).0 (next {B = A × B} o end (λ b. give (a, b))).1
   then_splits_second text f r a whole l None end split =
@@ -146,7 +146,7 @@ module _ {A B : Type 0} (L : Language A) (M : Language B) (s t : Shape) (p : Par
       let right : ◌≡◌ {A = Answer (A × B)} ((read_second q a (two.front ++ rest)).0, other) ((read_second q a r).0, other) = ap (λ x. ((read_second q a x).0, other)) (sym whole_r) in
       left ∙ done ∙ right
 
-pub reads_then : {A B : Type 0} → (L : Language A) (M : Language B) (s t : Shape) (p : Parser A) (q : Parser B) → Reads L s p → Reads M t q → apart s.more t.first ≡ true → Reads (L ▸ M) (then_shape s t) (read_then p q)
+pub reads_then : {A B : Type 0} → (L : Language A) (M : Language B) (s t : FirstAndFollow) (p : Parser A) (q : Parser B) → Reads L s p → Reads M t q → apart s.more t.first ≡ true → Reads (L ▸ M) (then_shape s t) (read_then p q)
 reads_then L M s t p q first second apart_ = record {
   some = record {
     more = first.some.more ++ second.some.more;
@@ -161,7 +161,7 @@ reads_then L M s t p q first second apart_ = record {
 
 -- ---- a value made of another
 
-module _ {A B : Type 0} (L : Language A) (f : A → B) (s : Shape) (p : Parser A) (reads : Reads L s p) where
+module _ {A B : Type 0} (L : Language A) (f : A → B) (s : FirstAndFollow) (p : Parser A) (reads : Reads L s p) where
   made_splits : (text : List Lexeme) (o : Option A) (r : List Lexeme) → Splits L text o r → Splits (made f L) text (next o r (λ a. give (f a))).0 (next o r (λ a. give (f a))).1
   made_splits text None r split = record { front = split.front; whole = split.whole; spelled = record { more = split.spelled.more; value = f split.spelled.value; spelled = (split.spelled.value, refl, split.spelled.spelled) } }
   made_splits text (Some a) r split = record { front = split.front; whole = split.whole; spelled = (a, refl, split.spelled) }
@@ -171,7 +171,7 @@ module _ {A B : Type 0} (L : Language A) (f : A → B) (s : Shape) (p : Parser A
   made_looks front rest other same None r e stop = rw (reads.looks front rest other same (ap (λ x. x.1) e ∙ stop), e) refl
   made_looks front rest other same (Some a) r e stop = rw (reads.looks front rest other same (ap (λ x. x.1) e ∙ stop), e) refl
 
-pub reads_made : {A B : Type 0} → (L : Language A) (f : A → B) (s : Shape) (p : Parser A) → Reads L s p → Reads (made f L) s (read_made f p)
+pub reads_made : {A B : Type 0} → (L : Language A) (f : A → B) (s : FirstAndFollow) (p : Parser A) → Reads L s p → Reads (made f L) s (read_made f p)
 reads_made L f s p reads = record {
   some = record { more = reads.some.more; value = f reads.some.value; spelled = (reads.some.value, refl, reads.some.spelled) };
   begins = λ text value l. reads.begins text l.0 l.2;
@@ -182,14 +182,14 @@ reads_made L f s p reads = record {
 
 -- ---- one or the other
 
-starts_not : (cs : List Terminal) (t : Shape) (front rest : List Lexeme) → t.nullable ≡ false → apart cs t.first ≡ true → BeginsIn t front → starts cs (front ++ rest) ≡ false
+starts_not : (cs : List Terminal) (t : FirstAndFollow) (front rest : List Lexeme) → t.nullable ≡ false → apart cs t.first ≡ true → BeginsIn t front → starts cs (front ++ rest) ≡ false
 starts_not cs t [] rest full h b = absurd cc
 starts_not cs t (x ∷ front) rest full h b = apart_false cs t.first x.terminal h b
 
-abbrev pub either_shape : Shape → Shape → Shape
+abbrev pub either_shape : FirstAndFollow → FirstAndFollow → FirstAndFollow
 either_shape s t = record { first = s.first ++ t.first; nullable = false; more = s.more ++ t.more }
 
-module _ {A : Type 0} (L M : Language A) (s t : Shape) (p q : Parser A) (first : Reads L s p) (second : Reads M t q) (full : s.nullable ≡ false) (full' : t.nullable ≡ false) (apart_ : apart s.first t.first ≡ true) where
+module _ {A : Type 0} (L M : Language A) (s t : FirstAndFollow) (p q : Parser A) (first : Reads L s p) (second : Reads M t q) (full : s.nullable ≡ false) (full' : t.nullable ≡ false) (apart_ : apart s.first t.first ≡ true) where
   left_viable : (front : List Lexeme) → IsViablePrefix L front → IsViablePrefix (L ∪ M) front
   left_viable front v = record { more = v.more; value = v.value; spelled = inl v.spelled }
 
@@ -223,7 +223,7 @@ module _ {A : Type 0} (L M : Language A) (s t : Shape) (p q : Parser A) (first :
   either_looks front rest other same true stop = first.looks front rest other same stop
   either_looks front rest other same false stop = second.looks front rest other same stop
 
-pub reads_either : {A : Type 0} → (L M : Language A) (s t : Shape) (p q : Parser A) → Reads L s p → Reads M t q → s.nullable ≡ false → t.nullable ≡ false → apart s.first t.first ≡ true → Reads (L ∪ M) (either_shape s t) (read_either s.first p q)
+pub reads_either : {A : Type 0} → (L M : Language A) (s t : FirstAndFollow) (p q : Parser A) → Reads L s p → Reads M t q → s.nullable ≡ false → t.nullable ≡ false → apart s.first t.first ≡ true → Reads (L ∪ M) (either_shape s t) (read_either s.first p q)
 reads_either L M s t p q first second full full' apart_ = record {
   some = left_viable L M s t p q first second full full' apart_ [] first.some;
   begins = either_begins L M s t p q first second full full' apart_;
@@ -234,10 +234,10 @@ reads_either L M s t p q first second full full' apart_ = record {
 
 -- ---- something or nothing
 
-abbrev pub maybe_shape : Shape → Shape
+abbrev pub maybe_shape : FirstAndFollow → FirstAndFollow
 maybe_shape s = record { first = s.first; nullable = true; more = s.first ++ s.more }
 
-module _ {A : Type 0} (L : Language A) (s : Shape) (p : Parser A) (reads : Reads L s p) (full : s.nullable ≡ false) where
+module _ {A : Type 0} (L : Language A) (s : FirstAndFollow) (p : Parser A) (reads : Reads L s p) (full : s.nullable ≡ false) where
   maybe_splits_some : (text : List Lexeme) (o : Option A) (r : List Lexeme) → Splits L text o r → Splits (maybe L) text (next {B = Option A} o r (λ a. give (Some a))).0 (next {B = Option A} o r (λ a. give (Some a))).1
   maybe_splits_some text None r split = record { front = split.front; whole = split.whole; spelled = record { more = split.spelled.more; value = Some split.spelled.value; spelled = split.spelled.spelled } }
   maybe_splits_some text (Some a) r split = record { front = split.front; whole = split.whole; spelled = split.spelled }
@@ -265,7 +265,7 @@ module _ {A : Type 0} (L : Language A) (s : Shape) (p : Parser A) (reads : Reads
   maybe_looks front rest other same true stop = maybe_looks_some front rest other same (p (front ++ rest)).0 (p (front ++ rest)).1 refl stop
   maybe_looks front rest other same false stop = let k : front ≡ [] = self_append front rest stop in rw k refl
 
-pub reads_maybe : {A : Type 0} → (L : Language A) (s : Shape) (p : Parser A) → Reads L s p → s.nullable ≡ false → Reads (maybe L) (maybe_shape s) (read_maybe s.first p)
+pub reads_maybe : {A : Type 0} → (L : Language A) (s : FirstAndFollow) (p : Parser A) → Reads L s p → s.nullable ≡ false → Reads (maybe L) (maybe_shape s) (read_maybe s.first p)
 reads_maybe L s p reads full = record {
   some = record { more = []; value = None; spelled = refl };
   begins = maybe_begins L s p reads full;

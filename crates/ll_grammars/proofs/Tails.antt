@@ -7,7 +7,7 @@ use Rattle.ll_grammars.specs.Terminals.{among, apart}
 use Rattle.ll_grammars.specs.Language.{Language, one, ◌▸◌, made, maybe, many}
 use Rattle.ll_grammars.specs.Rules.{second}
 use Rattle.ll_grammars.specs.Reading.{Parser, Answer, next, ◌>>=◌, starts, give, read_others, read_tails, read_tails_up_to}
-use Rattle.ll_grammars.specs.Reads.{Shape, BeginsIn, Stops, SameHead, Splits, Reads}
+use Rattle.ll_grammars.specs.Reads.{FirstAndFollow, BeginsIn, Stops, SameHead, Splits, Reads}
 use Rattle.ll_grammars.proofs.Sets.{Stops-left, Stops-right, Stops-next, Stops-starts, starts_same, SameHead-append, self_append, starts_front}
 use Rattle.ll_grammars.proofs.Steps.{next_give_rest}
 
@@ -48,13 +48,13 @@ are_tails separators L (v ∷ values) text l =
       },
     )
 
-abbrev pub tails_shape : List Terminal → Shape → Shape
+abbrev pub tails_shape : List Terminal → FirstAndFollow → FirstAndFollow
 tails_shape separators s = record { first = separators; nullable = true; more = (separators ++ s.first) ++ s.more }
 
 none_goes : (cs : List Terminal) (rest other : List Lexeme) → SameHead rest other → starts cs rest ≡ false → starts cs other ≡ false
 none_goes cs rest other same h = sym (starts_same cs [] rest other same) ∙ h
 
-module _ {A : Type 0} (separators : List Terminal) (L : Language A) (s : Shape) (p : Parser A) (reads : Reads L s p) (full : s.nullable ≡ false) where
+module _ {A : Type 0} (separators : List Terminal) (L : Language A) (s : FirstAndFollow) (p : Parser A) (reads : Reads L s p) (full : s.nullable ≡ false) where
   abbrev tail : ℕ → Parser (List A)
   tail n = read_tails_up_to n separators s.first p
 
@@ -193,7 +193,7 @@ module _ {A : Type 0} (separators : List Terminal) (L : Language A) (s : Shape) 
   tails_looks (suc n) m [] (t ∷ r) other same le le' stop = looks_here n m t r other same (among separators t.terminal) refl stop
   tails_looks (suc n) m (f ∷ fs) rest other same le le' stop = looks_at n m (tails_looks n) f fs rest other same le le' (among separators f.terminal) refl stop
 
-pub reads_tails : {A : Type 0} (separators : List Terminal) {L : Language A} {s : Shape} {p : Parser A} → Reads L s p → s.nullable ≡ false → apart s.more separators ≡ true → Reads (tails separators L) (tails_shape separators s) (read_tails separators s.first p)
+pub reads_tails : {A : Type 0} (separators : List Terminal) {L : Language A} {s : FirstAndFollow} {p : Parser A} → Reads L s p → s.nullable ≡ false → apart s.more separators ≡ true → Reads (tails separators L) (tails_shape separators s) (read_tails separators s.first p)
 unfolding read_tails
 reads_tails separators {L = L} {s = s} {p = p} reads full apart_ = record {
   some = record { more = []; value = []; spelled = inl refl };
@@ -205,7 +205,7 @@ reads_tails separators {L = L} {s = s} {p = p} reads full apart_ = record {
 
 -- ---- the steps of a loop
 
-module _ {A : Type 0} (separators : List Terminal) (L : Language A) (s : Shape) (p : Parser A) (reads : Reads L s p) (full : s.nullable ≡ false) where
+module _ {A : Type 0} (separators : List Terminal) (L : Language A) (s : FirstAndFollow) (p : Parser A) (reads : Reads L s p) (full : s.nullable ≡ false) where
   same_turn : (n m : ℕ) (rest : List Lexeme) → ((r : List Lexeme) → length r ≤ n → length r ≤ m → read_tails_up_to n separators s.first p r ≡ read_tails_up_to m separators s.first p r) → length rest ≤ n → length rest ≤ m
       → (o : Option A) (r : List Lexeme) → Splits L rest o r → next {B = List A} o r (read_others (read_tails_up_to n separators s.first p)) ≡ next {B = List A} o r (read_others (read_tails_up_to m separators s.first p))
   same_turn n m rest ih le le' None r d = refl

@@ -5,7 +5,7 @@ use Rattle.std.proofs.lemmas.List.{append-nil}
 use Rattle.ll_grammars.specs.declared.lexeme.Lexeme.{Lexeme}
 use Rattle.ll_grammars.specs.Language.{Language, IsViablePrefix, Fails, GoesWrong}
 use Rattle.ll_grammars.specs.Reading.{Parser}
-use Rattle.ll_grammars.specs.Reads.{Shape, Spelled, Reads}
+use Rattle.ll_grammars.specs.Reads.{FirstAndFollow, Spelled, Reads}
 use Rattle.ll_grammars.specs.Reads.SameHead.{token}
 
 not_empty : (t : Lexeme) (ys : List Lexeme) {A : Type 0} → (o q : Option A) → ◌≡◌ {A = Option A × List Lexeme} (o, t ∷ ys) (q, []) → ⊥
@@ -15,7 +15,7 @@ viable_front : {A : Type 0} (L : Language A) (front : List Lexeme) (o : Option A
 viable_front L front None v = v
 viable_front L front (Some a) l = record { more = []; value = a; spelled = rw append-nil l }
 
-fails_at : {A : Type 0} (L : Language A) (s : Shape) (p : Parser A) → Reads L s p → (front rest : List Lexeme) → (p (front ++ rest)).1 ≡ rest
+fails_at : {A : Type 0} (L : Language A) (s : FirstAndFollow) (p : Parser A) → Reads L s p → (front rest : List Lexeme) → (p (front ++ rest)).1 ≡ rest
     → (((value : A) → p (front ++ rest) ≡ (Some value, []) → ⊥)) → Fails L front rest
 fails_at L s p reads front [] stop no_value = λ value l. no_value value (reads.complete front [] value l tt)
 fails_at L s p reads front (t ∷ rest) stop no_value = λ viable.
@@ -26,7 +26,7 @@ fails_at L s p reads front (t ∷ rest) stop no_value = λ viable.
     not_empty t viable.more (p (front ++ t ∷ rest)).0 (Some viable.value) (sym whole ∙ done')
 
 -- where no value is found, the text goes wrong where the parser stopped
-pub goes_wrong : {A : Type 0} (L : Language A) (s : Shape) (p : Parser A) → Reads L s p → (text : List Lexeme)
+pub goes_wrong : {A : Type 0} (L : Language A) (s : FirstAndFollow) (p : Parser A) → Reads L s p → (text : List Lexeme)
     → ((value : A) → p text ≡ (Some value, []) → ⊥) → GoesWrong L text (p text).1
 goes_wrong L s p reads text no_value =
     let split = reads.splits text in
@@ -39,7 +39,7 @@ goes_wrong L s p reads text no_value =
     }
 
 -- what is found is spelled
-pub spells : {A : Type 0} (L : Language A) (s : Shape) (p : Parser A) → Reads L s p → (text : List Lexeme) (value : A) → p text ≡ (Some value, []) → L text value
+pub spells : {A : Type 0} (L : Language A) (s : FirstAndFollow) (p : Parser A) → Reads L s p → (text : List Lexeme) (value : A) → p text ≡ (Some value, []) → L text value
 spells L s p reads text value e =
     let split = reads.splits text in
     let rest_empty : (p text).1 ≡ [] = ap (λ x. x.1) e in
@@ -49,11 +49,11 @@ spells L s p reads text value e =
     subst (λ x. L x value) here l
 
 -- what is spelled is found
-pub found : {A : Type 0} (L : Language A) (s : Shape) (p : Parser A) → Reads L s p → (text : List Lexeme) (value : A) → L text value → p text ≡ (Some value, [])
+pub found : {A : Type 0} (L : Language A) (s : FirstAndFollow) (p : Parser A) → Reads L s p → (text : List Lexeme) (value : A) → L text value → p text ≡ (Some value, [])
 found L s p reads text value l = let done : p (text ++ []) ≡ (Some value, []) = reads.complete text [] value l tt in rw append-nil at done
 
 -- a text spells one value at most
-pub one_value : {A : Type 0} (L : Language A) (s : Shape) (p : Parser A) → Reads L s p → (text : List Lexeme) (a b : A) → L text a → L text b → a ≡ b
+pub one_value : {A : Type 0} (L : Language A) (s : FirstAndFollow) (p : Parser A) → Reads L s p → (text : List Lexeme) (a b : A) → L text a → L text b → a ≡ b
 one_value L s p reads text a b la lb =
     let e = sym (found L s p reads text a la) ∙ found L s p reads text b lb in
     let k : Some a ≡ Some b = ap (λ x. x.0) e in cc

@@ -8,13 +8,13 @@ use Rattle.ll_grammars.specs.Reading.{Parser}
 
 -- what LL(1) asks of a language and its parser: the FIRST set (the terminals with which its texts begin), whether it is
 -- nullable (the empty list is a text), and the terminals with which the parser goes on behind a text
-pub record Shape : Type 0 where
+pub record FirstAndFollow : Type 0 where
   pub first : List Terminal
   pub nullable : Bool
   pub more : List Terminal
 
 -- a text begins in the FIRST set, or is empty where the language is nullable
-abbrev pub BeginsIn : Shape → List Lexeme → Type 0
+abbrev pub BeginsIn : FirstAndFollow → List Lexeme → Type 0
 BeginsIn s [] = s.nullable ≡ true
 BeginsIn s (token ∷ rest) = among s.first token.terminal ≡ true
 
@@ -40,7 +40,7 @@ pub record Splits {A : Type 0} (L : Language A) (text : List Lexeme) (value : Op
   pub spelled : Spelled L front value
 
 -- the parser reads the language
-pub record Reads {A : Type 0} (L : Language A) (s : Shape) (p : Parser A) : Type 0 where
+pub record Reads {A : Type 0} (L : Language A) (s : FirstAndFollow) (p : Parser A) : Type 0 where
   -- the language has a text
   pub some : IsViablePrefix L []
   -- the shape is the language's

@@ -43,10 +43,10 @@ abbrev pub read_in_parentheses : {A : Type 0} → Parser A → Parser A
 read_in_parentheses p = read_made middle (read_then (read_word terminal.Open) (read_then p (read_word terminal.Close)))
 
 -- what a function gave, and the tokens that it left, is what reading gives, unless memory was wanting
-abbrev pub Gives : {A : Type 0} → Result A Stop → List Lexeme → Answer A → Type 0
-Gives (Ok a) rest answer = answer ≡ (Some a, rest)
-Gives (Err stop.Syntax) rest answer = answer ≡ (None, rest)
-Gives (Err stop.NoMemory) rest answer = ⊤
+abbrev pub IsReadAs : {A : Type 0} → Result A Stop → List Lexeme → Answer A → Type 0
+IsReadAs (Ok a) rest answer = answer ≡ (Some a, rest)
+IsReadAs (Err stop.Syntax) rest answer = answer ≡ (None, rest)
+IsReadAs (Err stop.NoMemory) rest answer = ⊤
 
 -- the start of the next token, or the text's end
 abbrev pub place : List Lexeme → ℕ → ℕ

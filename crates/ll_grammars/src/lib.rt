@@ -9,7 +9,7 @@
 //! A grammar's crate writes each rule four times: as a language; beside it as a parser of the same
 //! combinators (`read_then`, `read_either`, ..); as a proof that the one reads the other (`Reads`, from
 //! `proofs/Combined`), where the conditions of an LL(1) grammar compute; and as a function over `Reader`
-//! whose contract, `Gives`, cites the parser. `proofs/Loops` has the steps of its loops, and
+//! whose contract, `IsReadAs`, cites the parser. `proofs/Loops` has the steps of its loops, and
 //! `proofs/Ends` the clauses of its top call.
 //!
 //! ```text

@@ -1,7 +1,7 @@
 //! A reader of tokens from left to right.
 ghost use Rattle.std.specs.Prelude.{◌≡◌};
 ghost use Rattle.ll_grammars.specs.Reading.{starts, read_one};
-ghost use Rattle.ll_grammars.specs.Rules.{Gives, is_empty, place};
+ghost use Rattle.ll_grammars.specs.Rules.{IsReadAs, is_empty, place};
 
 use crate::terminal::is_among;
 use crate::{Lexeme, Stop, Terminal};
@@ -53,7 +53,7 @@ impl<'a> Reader<'a> {
     /// Reads the next token, which has to be one of these terminals. Where it isn't, that is `Stop::Syntax`,
     /// and nothing is read.
     pub fn one(&mut self, terminals: &[Terminal]) -> Result<Lexeme, Stop>
-        ensures { Gives result self.new (read_one terminals.now self.old) }
+        ensures { IsReadAs result self.new (read_one terminals.now self.old) }
     {
         match self.rest.split_first() {
             Some((token, rest)) => {

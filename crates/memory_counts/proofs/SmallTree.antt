@@ -4,7 +4,7 @@ use Rattle.std.specs.List.{count_by}
 use Rattle.limits.specs.Profile.{most_rows}
 use Rattle.tree_plans.specs.declared.bushy.BushyPlan.{BushyPlan}
 use Rattle.tree_plans.specs.declared.bushy.Join.{Join}
-use Rattle.tree_plans.specs.TreePlans.{joined_nodes, IsTreePlan, IsWithin}
+use Rattle.tree_plans.specs.TreePlans.{joined_nodes, IsTreePlan, BoundsAreWithin}
 
 abbrev pub join : Join
 join = record { left = 1; right = 0; bound = 12 }
@@ -23,7 +23,7 @@ each_once (suc (suc node)) low = absurd (omega (arith, low))
 is_plan : IsTreePlan 2 small_plan
 is_plan = record { few = omega arith; scans = refl; joins = refl; behind = (omega arith, omega arith, tt); once = each_once }
 
-is_small : IsWithin most_rows small_plan
+is_small : BoundsAreWithin most_rows small_plan
 is_small = record { scans = (omega arith, (omega arith, tt)); joins = (omega arith, tt) }
 
 module _ (joins : List Join) (scans : List ℕ) (joined : joins ≡ join ∷ []) (scanned : scans ≡ 6 ∷ 5 ∷ []) where
@@ -31,5 +31,5 @@ module _ (joins : List Join) (scans : List ℕ) (joined : joins ≡ join ∷ [])
   its_plan = subst (λ (js : List Join). IsTreePlan (length scans) (plan_of js scans)) (sym joined)
       (subst (λ (s : List ℕ). IsTreePlan (length s) (plan_of (join ∷ []) s)) (sym scanned) is_plan)
 
-  pub its_size : IsWithin most_rows (plan_of joins scans)
-  its_size = subst (λ (js : List Join). IsWithin most_rows (plan_of js scans)) (sym joined) (subst (λ (s : List ℕ). IsWithin most_rows (plan_of (join ∷ []) s)) (sym scanned) is_small)
+  pub its_size : BoundsAreWithin most_rows (plan_of joins scans)
+  its_size = subst (λ (js : List Join). BoundsAreWithin most_rows (plan_of js scans)) (sym joined) (subst (λ (s : List ℕ). BoundsAreWithin most_rows (plan_of (join ∷ []) s)) (sym scanned) is_small)

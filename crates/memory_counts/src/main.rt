@@ -7,7 +7,7 @@
 
 ghost use Rattle.std.specs.Prelude.{IfOk, length};
 ghost use Rattle.limits.specs.Profile.{most_rows};
-ghost use Rattle.tree_plans.specs.TreePlans.{IsTreePlan, IsWithin};
+ghost use Rattle.tree_plans.specs.TreePlans.{IsTreePlan, BoundsAreWithin};
 
 use base_io::{NoMemory, Seq};
 use reserve_plan::{plan_memory, reserve, row_buffers};
@@ -36,7 +36,7 @@ fn reserved_order(alloc: Global) -> Result<usize, NoMemory> {
 // The two entries, joined as a tree.
 fn tree_of_two(alloc: Global) -> Result<BushyPlan, NoMemory>
     ensures plan { IfOk result (λ plan. IsTreePlan (length plan.scans) plan) }
-    ensures small { IfOk result (IsWithin most_rows) }
+    ensures small { IfOk result (BoundsAreWithin most_rows) }
 {
     let mut joins = Seq::new(alloc);
     joins.push(JOIN)?;
@@ -53,7 +53,7 @@ fn tree_of_two(alloc: Global) -> Result<BushyPlan, NoMemory>
 // How many lists and chains were reserved for the tree.
 fn reserved_tree(alloc: Global, plan: &BushyPlan) -> Result<usize, NoMemory>
     requires plan { IsTreePlan (length plan.now.scans) plan.now }
-    requires small { IsWithin most_rows plan.now }
+    requires small { BoundsAreWithin most_rows plan.now }
 {
     let lists = row_buffers(alloc, plan.scans.as_slice())?;
     let reserved = reserve_bushy(alloc, plan)?;
@@ -67,7 +67,7 @@ fn is_asked(rt: &HostRuntime, word: &str) -> io::Result<bool> {
 // Tells the bytes of both plans, and reserves the one that is asked for.
 fn tell(rt: &HostRuntime, plan: &BushyPlan) -> io::Result<()>
     requires plan { IsTreePlan (length plan.now.scans) plan.now }
-    requires small { IsWithin most_rows plan.now }
+    requires small { BoundsAreWithin most_rows plan.now }
 {
     let order = plan_memory(&[1, 0], &[6, 5], &[5, 12]);
     println!(rt; "order {order}")?;

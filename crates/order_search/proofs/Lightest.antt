@@ -5,17 +5,17 @@ use Rattle.std.specs.Int.{bit_at}
 use Rattle.std.proofs.lemmas.Bool.{cases_lt, cases_eq, le-leb, lt-leb}
 use Rattle.order_search.specs.declared.weight.Weight.{Weight}
 use Rattle.order_search.specs.declared.weight.Weight.TheVariants as weight
-use Rattle.order_search.specs.Ways.{IsWay, IsLeastWeight, IsTable, bound_with, joined, weight_of, weight_through}
+use Rattle.order_search.specs.Ways.{IsWay, IsLeastWeight, IsTable, bound_with, combined, weight_of, weight_through}
 use Rattle.order_search.proofs.Bits.{set_has_entry}
 use Rattle.entry_sets.proofs.Bits.{entry_below, less_without}
 
-pub joined-within : (most bound behind : ℕ) → bound ≤ most → joined (weight.SumWithin most) bound behind ≡ min (bound + behind) (2 ^ 128 - 1)
+pub joined-within : (most bound behind : ℕ) → bound ≤ most → combined (weight.SumWithin most) bound behind ≡ min (bound + behind) (2 ^ 128 - 1)
 joined-within most bound behind h = rw (le-leb bound most h) refl
 
-pub joined-beyond : (most bound behind : ℕ) → most < bound → joined (weight.SumWithin most) bound behind ≡ 2 ^ 128 - 1
+pub joined-beyond : (most bound behind : ℕ) → most < bound → combined (weight.SumWithin most) bound behind ≡ 2 ^ 128 - 1
 joined-beyond most bound behind h = rw (lt-leb bound most h) refl
 
-pub joined-mono : (w : Weight) (bound a b : ℕ) → a ≤ b → joined w bound a ≤ joined w bound b
+pub joined-mono : (w : Weight) (bound a b : ℕ) → a ≤ b → combined w bound a ≤ combined w bound b
 joined-mono weight.Greatest bound a b h = omega arith
 joined-mono (weight.SumWithin most) bound a b h = elim (cases_lt most bound) [
   | inl beyond ↦ omega (arith, joined-beyond most bound a beyond, joined-beyond most bound b beyond)
@@ -63,7 +63,7 @@ pub way_through : (w : Weight) (bounds table : List ℕ) (all left entry : ℕ) 
 way_through w bounds table all left entry has behind = record {
   way = entry ∷ behind.way;
   is_way = (has, behind.is_way);
-  weighs = ap (joined w (bound_with bounds all left entry)) behind.weighs;
+  weighs = ap (combined w (bound_with bounds all left entry)) behind.weighs;
 }
 
 -- no way that the entry begins is lighter than through the table

@@ -5,7 +5,7 @@ use Rattle.std.proofs.lemmas.List.{append_assoc, append-nil}
 use Rattle.order_search.specs.declared.weight.Weight.{Weight}
 use Rattle.order_search.specs.declared.weight.Weight.TheVariants as weight
 use Rattle.order_search.specs.Orders.{IsNotAfter}
-use Rattle.order_search.specs.Ways.{IsWay, IsLeastWeight, IsTable, IsFirstLightest, BeginsLightest, bound_with, joined, weight_of}
+use Rattle.order_search.specs.Ways.{IsWay, IsLeastWeight, IsTable, IsFirstLightest, BeginsLightest, bound_with, combined, weight_of}
 use Rattle.entry_sets.proofs.Bits.{entry_below, less_without}
 use Rattle.order_search.proofs.Lightest.{Through, joined-beyond, joined-within, through_is_least, way_through}
 
@@ -69,7 +69,7 @@ first_none w bounds all left none = record {
 }
 
 -- a sum that isn't the heaviest tells what is behind its first bound
-behind_is : (most bound a b : ℕ) → joined (weight.SumWithin most) bound a ≡ joined (weight.SumWithin most) bound b → joined (weight.SumWithin most) bound a < 2 ^ 128 - 1 → a ≡ b
+behind_is : (most bound a b : ℕ) → combined (weight.SumWithin most) bound a ≡ combined (weight.SumWithin most) bound b → combined (weight.SumWithin most) bound a < 2 ^ 128 - 1 → a ≡ b
 behind_is most bound a b same light = elim (cases_lt most bound) [
   | inl beyond ↦ absurd (omega (arith, joined-beyond most bound a beyond))
   | inr within ↦ omega (arith, joined-within most bound a within, joined-within most bound b within)
@@ -98,7 +98,7 @@ first_more most bounds table all left end entry entries h is_table light is firs
     weighs_behind = omega (arith, behind.none_lighter entries rest.is_way, rest.none_lighter behind.way behind.is_way, behind.weighs)
 
     weighs : weight_of (weight.SumWithin most) bounds all left (entry ∷ entries) ≡ get_or table left 0
-    weighs = ap (joined (weight.SumWithin most) (bound_with bounds all left entry)) weighs_behind ∙ is.is_least
+    weighs = ap (combined (weight.SumWithin most) (bound_with bounds all left entry)) weighs_behind ∙ is.is_least
 
     none_earlier : (other : List ℕ) → IsWay left other → weight_of (weight.SumWithin most) bounds all left other ≡ weight_of (weight.SumWithin most) bounds all left (entry ∷ entries)
         → IsNotAfter (entry ∷ entries) other

@@ -12,9 +12,9 @@ IsWay left [] = left ≡ 0
 IsWay left (entry ∷ entries) = (bit_at left entry ≡ 1) × IsWay (left - 2 ^ entry) entries
 
 -- a bound and the weight of what comes behind it. Where the bound is above what a sum may have, nothing is heavier
-abbrev pub joined : Weight → ℕ → ℕ → ℕ
-joined weight.Greatest bound behind = max bound behind
-joined (weight.SumWithin most) bound behind = if nat_le bound most then (min (bound + behind) top_bound) else top_bound
+abbrev pub combined : Weight → ℕ → ℕ → ℕ
+combined weight.Greatest bound behind = max bound behind
+combined (weight.SumWithin most) bound behind = if nat_le bound most then (min (bound + behind) top_bound) else top_bound
 
 -- the bound of the set that is placed, all but those left, when the entry comes next
 abbrev pub bound_with : List ℕ → ℕ → ℕ → ℕ → ℕ
@@ -23,7 +23,7 @@ bound_with bounds all left entry = slice_index bounds (all - (left - 2 ^ entry))
 -- the weight of a way: the bounds of the sets on it, joined
 abbrev pub weight_of : Weight → List ℕ → ℕ → ℕ → List ℕ → ℕ
 weight_of w bounds all left [] = 0
-weight_of w bounds all left (entry ∷ entries) = joined w (bound_with bounds all left entry)
+weight_of w bounds all left (entry ∷ entries) = combined w (bound_with bounds all left entry)
     (weight_of w bounds all (left - 2 ^ entry) entries)
 
 -- a way has this weight, and none is lighter
@@ -39,7 +39,7 @@ IsTable w bounds all table end = (left : ℕ) → left < end → IsLeastWeight w
 
 -- the weight of the lightest way on which the entry comes next, by the table
 abbrev pub weight_through : Weight → List ℕ → List ℕ → ℕ → ℕ → ℕ → ℕ
-weight_through w bounds table all left entry = joined w (bound_with bounds all left entry) (slice_index table (left - 2 ^ entry))
+weight_through w bounds table all left entry = combined w (bound_with bounds all left entry) (slice_index table (left - 2 ^ entry))
 
 -- the entry begins a lightest way
 pub record BeginsLightest (w : Weight) (bounds table : List ℕ) (all left entry : ℕ) : Type 0 where

@@ -1,6 +1,6 @@
 //! Weights: what the search makes least, the greatest bound on a way or the sum of its bounds.
 ghost use Rattle.std.specs.Prelude.{◌≡◌};
-ghost use Rattle.order_search.specs.Ways.{joined as joined_of};
+ghost use Rattle.order_search.specs.Ways.{combined as joined_of};
 
 use limits::TOP_BOUND;
 

@@ -6,7 +6,7 @@ use Rattle.degree_sequences.specs.Composition.{ChildLists, composed, root_total}
 use Rattle.degree_sequences.specs.Degrees.{degree, degree_list}
 use Rattle.degree_sequences.specs.Domination.{DominatesWeights}
 use Rattle.degree_sequences.specs.Falling.{IsFalling}
-use Rattle.degree_sequences.specs.Families.{ChildIsAbove, IsChildOf, IsNear, IsWithin, MatchedChild}
+use Rattle.degree_sequences.specs.Families.{ChildIsAbove, IsChildOf, IsNear, SumsAreWithin, MatchedChild}
 use Rattle.degree_sequences.specs.KeyedRows.{ChildKeys, DominatesChild, weight_of_row, weight_of_key}
 use Rattle.degree_sequences.specs.RunningSums.{IsAbove, running_sum}
 use Rattle.degree_sequences.proofs.DegreeLists.{degree_list_dominates, degrees_dominated, IsFalling-degree_list}
@@ -121,7 +121,7 @@ near_is_child = record { class_falls = falls_two 6 1 (omega arith); column_sum =
 pub exact_is_child : IsChildOf 6 matched.exact
 exact_is_child = record { class_falls = falls_two 4 1 (omega arith); column_sum = refl }
 
-pub scaled_composition : IsWithin 2 6 (composed (3 ∷ 3 ∷ []) (matched.near ∷ [])) (composed (3 ∷ 2 ∷ 1 ∷ []) (matched.exact ∷ []))
+pub scaled_composition : SumsAreWithin 2 6 (composed (3 ∷ 3 ∷ []) (matched.near ∷ [])) (composed (3 ∷ 2 ∷ 1 ∷ []) (matched.exact ∷ []))
 scaled_composition =
     composed-near 1 (3 ∷ 3 ∷ []) (3 ∷ 2 ∷ 1 ∷ []) (matched ∷ []) near_three (matched_is_near, tt) (near_is_child, tt) (exact_is_child, tt)
     (falls_two 3 3 (omega arith), tt)

@@ -10,7 +10,7 @@ ghost use Rattle.degree_sequences.specs.Composition.{ChildLists, composed, root_
 ghost use Rattle.degree_sequences.specs.Degrees.{degree};
 ghost use Rattle.degree_sequences.specs.Domination.{DominatesKeys, DominatesWeights};
 ghost use Rattle.degree_sequences.specs.Falling.{IsFalling};
-ghost use Rattle.degree_sequences.specs.Families.{IsChildOf, ColumnFalls, ChildIsAbove, IsWithin, MatchedChild, IsNear, scales, factors};
+ghost use Rattle.degree_sequences.specs.Families.{IsChildOf, ColumnFalls, ChildIsAbove, SumsAreWithin, MatchedChild, IsNear, scales, factors};
 ghost use Rattle.degree_sequences.specs.KeyedRows.{ChildKeys, DominatesChild, weight_of_row, weight_of_key};
 ghost use Rattle.degree_sequences.specs.RunningSums.{IsAbove};
 
@@ -56,11 +56,11 @@ pub fn compose_is_monotone()
 /// those that are near need to fall.
 pub fn compose_scales()
     ensures { (accuracy : ℕ) (parent exact_parent : List ℕ) (children : List MatchedChild)
-        → IsWithin accuracy (accuracy + 1) parent exact_parent → AllByRecursion (IsNear accuracy) children
+        → SumsAreWithin accuracy (accuracy + 1) parent exact_parent → AllByRecursion (IsNear accuracy) children
         → AllByRecursion (IsChildOf (sum parent)) (map (λ child. child.near) children)
         → AllByRecursion (IsChildOf (sum exact_parent)) (map (λ child. child.exact) children)
         → AllByRecursion ColumnFalls (map (λ child. child.near) children)
-        → IsWithin (accuracy * scales children) ((accuracy + 1) * factors children)
+        → SumsAreWithin (accuracy * scales children) ((accuracy + 1) * factors children)
         (composed parent (map (λ child. child.near) children)) (composed exact_parent (map (λ child. child.exact) children)) }
 {}
 
@@ -103,10 +103,10 @@ pub fn instances()
     ensures compose_scales { let near : ChildLists = record { column = 3 ∷ 3 ∷ []; class = 6 ∷ 1 ∷ [] } in
         let exact : ChildLists = record { column = 3 ∷ 2 ∷ 1 ∷ []; class = 4 ∷ 1 ∷ [] } in
         let child : MatchedChild = record { near = near; exact = exact; scale = 2; factor = 3 } in
-        IsWithin 1 2 (3 ∷ 3 ∷ []) (3 ∷ 2 ∷ 1 ∷ [])
+        SumsAreWithin 1 2 (3 ∷ 3 ∷ []) (3 ∷ 2 ∷ 1 ∷ [])
         × AllByRecursion (IsNear 1) (child ∷ [])
         × AllByRecursion (IsChildOf (sum (3 ∷ 3 ∷ []))) (near ∷ [])
         × AllByRecursion (IsChildOf (sum (3 ∷ 2 ∷ 1 ∷ []))) (exact ∷ [])
         × AllByRecursion ColumnFalls (near ∷ [])
-        × IsWithin 2 6 (composed (3 ∷ 3 ∷ []) (near ∷ [])) (composed (3 ∷ 2 ∷ 1 ∷ []) (exact ∷ [])) }
+        × SumsAreWithin 2 6 (composed (3 ∷ 3 ∷ []) (near ∷ [])) (composed (3 ∷ 2 ∷ 1 ∷ []) (exact ∷ [])) }
 {}

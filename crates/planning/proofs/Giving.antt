@@ -21,18 +21,18 @@ use Rattle.set_bounds.proofs.Listing.{first_listed}
 use Rattle.sql_meaning.specs.Tables.{tables_of}
 use Rattle.join_steps.specs.Lists.{list_sizes}
 use Rattle.predicate_bounds.specs.declared.columns.QueryStats.{QueryStats}
-use Rattle.query_bounds.specs.Bounds.{Holds, entry_bounds, is_among, joined_columns, scan_bounds, scan_list, scan_rows, set_bounds}
-use Rattle.query_bounds.specs.Statistics.{IsTold, Statistics, Tells}
+use Rattle.query_bounds.specs.Bounds.{HoldsKnown, entry_bounds, is_among, joined_columns, scan_bounds, scan_list, scan_rows, set_bounds}
+use Rattle.query_bounds.specs.Statistics.{StatsAreTold, Statistics, Tells}
 use Rattle.query_bounds.proofs.Sets as told
 use Rattle.planning.specs.declared.known.Known.{Known}
-use Rattle.planning.specs.Gives.{Gives}
+use Rattle.planning.specs.HasBounds.{HasBounds}
 use Rattle.planning.specs.Known.{IsKnown}
 use Rattle.planning.specs.ListedBounds.{entry_bounds_over, set_bounds_over}
 use Rattle.planning.specs.Standing.{JoinedHaveLists}
 use Rattle.planning.proofs.Knowing as listed
 use Rattle.planning.proofs.ScanBounds.{named_all}
 
-pub is_told : {query : Query} {stats : QueryStats} {known : Statistics} → Tells query stats known → IsTold query stats
+pub is_told : {query : Query} {stats : QueryStats} {known : Statistics} → Tells query stats known → StatsAreTold query stats
 is_told {known = known} tells = record { known = known; tells = tells }
 
 -- ---- from statistics
@@ -57,7 +57,7 @@ list_there lists entry column list is = record {
   total = ap (λ (o : Option (List ℕ)). sum (unwrap_or o [])) is ∙ sym (ap (λ (o : Option ℕ). unwrap_or o 0) (lists.sums entry column list is).1);
 }
 
-pub told_lists : (query : Query) (stats : Statistics) (lists : EntryLists) → Holds query stats (length query.from) (joined_columns query) lists
+pub told_lists : (query : Query) (stats : Statistics) (lists : EntryLists) → HoldsKnown query stats (length query.from) (joined_columns query) lists
     → bounds_of lists ≡ entry_bounds query stats → JoinedHaveLists query (entry_bounds query stats)
 told_lists query stats lists held are =
     named_all (λ entry column. entry < length query.from → HasList (entry_bounds query stats) entry column) (equalities_of query) (λ k d low.
@@ -86,7 +86,7 @@ module _ (query : Query) (es : List Edge) (split : es ≡ equalities_of query) (
 
   bounds_give : (b : EntryBounds) (each : List ℕ) (known : Known) → known.sets ≡ bounds_of_sets (bounds_of lists) es (length scans) → known.scans ≡ scans
       → bounds_of_sets (bounds_of lists) (equalities_of query) (length query.from) ≡ bounds_of_sets b (equalities_of query) (length query.from)
-      → map (bounds_of lists).rows (range_with_len 0 (length query.from)) ≡ each → Gives (bounds_of_sets b (equalities_of query) (length query.from)) each known
+      → map (bounds_of lists).rows (range_with_len 0 (length query.from)) ≡ each → HasBounds (bounds_of_sets b (equalities_of query) (length query.from)) each known
   bounds_give b each known made kept same like = record {
     sets =
         made ∙ ap (λ (s : List Edge). bounds_of_sets (bounds_of lists) s (length scans)) split
@@ -95,14 +95,14 @@ module _ (query : Query) (es : List Edge) (split : es ≡ equalities_of query) (
   }
 
   pub told_give : (stats : Statistics) (known : Known) → known.sets ≡ bounds_of_sets (bounds_of lists) es (length scans) → known.scans ≡ scans
-      → bounds_of lists ≡ entry_bounds query stats → Gives (set_bounds query stats) (scan_bounds query stats) known
+      → bounds_of lists ≡ entry_bounds query stats → HasBounds (set_bounds query stats) (scan_bounds query stats) known
   told_give stats known made kept same =
       bounds_give (entry_bounds query stats) (scan_bounds query stats) known made kept
       (ap (λ (b : EntryBounds). bounds_of_sets b (equalities_of query) (length query.from)) same) (told_scans query stats lists same)
 
   pub rows_give : (db : Database) (rows : List (List ℕ)) (accuracy : ℕ) (known : Known) → known.sets ≡ bounds_of_sets (bounds_of lists) es (length scans) → known.scans ≡ scans
       → IsKnown db rows accuracy lists → All (HaveLists lists) (equalities_of query)
-      → Gives (set_bounds_over query (tables_of db) rows accuracy) (list_sizes query rows) known
+      → HasBounds (set_bounds_over query (tables_of db) rows accuracy) (list_sizes query rows) known
   rows_give db rows accuracy known made kept is joined =
       bounds_give (entry_bounds_over (tables_of db) rows accuracy) (list_sizes query rows) known made kept
       (listed.sets_are db rows accuracy lists is (equalities_of query) joined (length query.from))
@@ -111,7 +111,7 @@ module _ (query : Query) (es : List Edge) (split : es ≡ equalities_of query) (
 -- ---- how many
 
 -- as many scans as entries, and as many bounds as sets of them
-module _ (query : Query) (bounds : ℕ → EntryBounds) (scans : List ℕ) (known : Known) (gives : Gives (bounds_in_sets bounds (equalities_of query) (length query.from)) scans known)
+module _ (query : Query) (bounds : ℕ → EntryBounds) (scans : List ℕ) (known : Known) (gives : HasBounds (bounds_in_sets bounds (equalities_of query) (length query.from)) scans known)
     (one_scan : length scans ≡ length query.from) where
   pub known_long : length known.scans ≡ length query.from
   known_long = ap (λ (s : List ℕ). length s) gives.scans ∙ one_scan

@@ -33,7 +33,7 @@
 --   are listed by `all_pass`. So tree_bounds' law over scanned rows (`scanned_within`) takes the lists in place of the scans, and no
 --   further conjunct is made.
 -- - A value is the first listed row that has it (`ListBounds`): numbers and keys are equal alike (table_stats' `FirstRows`), and
---   renamed_lists carries domination over to keys that all tables share.
+--   relabelling_laws carries domination over to keys that all tables share.
 -- - Each reduced row takes part (`Components`, `Extending`): connection is defined in join_graph, and is proved with a number for each
 --   component, by one induction on the equalities in their order, like `ClosesNoCycleAfter`: the earlier ones come after the rest, in
 --   reverse order (`onto` of set_bounds), so no lemma reverses the list. One more equality joins a component with another (a partner,
@@ -49,7 +49,7 @@
 -- - Bounds are a function of what equalities name (`SameBounds`): `entry_bounds_over` has a list for every column, and the code those of
 --   joined columns alone. That both give all sets the same bounds is one induction over trees, with `named_in_turn` and `tree_columns` of
 --   tree_bounds.
--- - Cells and values (`SameDegrees`): a row's cell and the first row with its value are equal alike, so renamed_lists gives one degree
+-- - Cells and values (`SameDegrees`): a row's cell and the first row with its value are equal alike, so relabelling_laws gives one degree
 --   list.
 -- - A list in file order of rows below n has at most n rows (`short`), so `AreListsOf` follows from being a family of the scans, and
 --   nothing about the removal of rows is needed.

@@ -15,8 +15,8 @@ use Rattle.sql_meaning.specs.Tables.{Tables, row_counts}
 use Rattle.filtered_lists.specs.Standing.{value_in_row}
 use Rattle.level_bounds.specs.Keys.{AreKeys, Keys}
 use Rattle.level_bounds.proofs.Lists.{map_both}
-use Rattle.renamed_lists.specs.Renaming.{AreEqualAlike}
-use Rattle.renamed_lists.proofs.Dominated.{rows_dominated}
+use Rattle.relabelling_laws.specs.Relabelling.{AreEqualAlike}
+use Rattle.relabelling_laws.proofs.Dominated.{rows_dominated}
 use Rattle.table_stats.specs.Columns.{first_row, numbered}
 use Rattle.table_stats.specs.Keys.{TellsValues}
 use Rattle.table_stats.proofs.EqualValues.{equal_itself, is_equal}

@@ -10,7 +10,7 @@ use Rattle.query_types.specs.declared.types.Query.{Query}
 use Rattle.join_graph.specs.Conjuncts.{equalities_of}
 use Rattle.tree_bounds.specs.Scans.{SatisfiesScanned, scanned}
 use Rattle.tree_bounds.specs.SetBounds.{SetHasLists, bound_of_set}
-use Rattle.tree_bounds.specs.Tables.{AreDifferent, SetDominates}
+use Rattle.tree_bounds.specs.Tables.{ChoicesAreDifferent, SetDominates}
 use Rattle.tree_bounds.specs.TreeBounds.{EntryBounds}
 use Rattle.tree_bounds.proofs.Scanned.{scanned_within}
 use Rattle.sql_meaning.specs.Answers.{conjuncts_of}
@@ -77,7 +77,7 @@ module _ (query : Query) (tables : Tables) (lists : List (List ℕ)) (are : AreO
       (pass_at listed (row_counts tables) order choice (stands (conjuncts_of query tables) (row_counts tables) order choice parts.0).chosen parts.1 entry
       (in_true order entry (entry_in set order o entry here)))
 
-  kept_differ : AreDifferent set (map (row_in order) kept)
+  kept_differ : ChoicesAreDifferent set (map (row_in order) kept)
   kept_differ =
       let apart : (ℕ → ℕ) → (ℕ → ℕ) → Type 0 = λ x y. map x set ≢ map y set in
       pairs_mapped apart (row_in order) kept

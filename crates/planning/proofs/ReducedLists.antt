@@ -11,7 +11,7 @@ use Rattle.sql_meaning.specs.Databases.{IsDatabaseOf}
 use Rattle.sql_meaning.specs.Tables.{row_counts, tables_of}
 use Rattle.sql_meaning.proofs.LoopFacts.{rows_are}
 use Rattle.join_steps.specs.Lists.{IsAscending, IsFamily, list_at, lists_of, scans_of}
-use Rattle.reduced_scans.specs.Lists.{AreListsOf}
+use Rattle.reduced_scans.specs.Lists.{AreRowLists}
 use Rattle.reduced_scans.proofs.Members.{all_has, behind, in_front}
 use Rattle.join_steps.proofs.WholeScans.{length-lists_of, count_of, scan_at}
 use Rattle.reduced_scans.proofs.QueryScans.{scanned_low}
@@ -33,7 +33,7 @@ module _ (query : Query) (db : Database) (lists : List (Rows ℕ)) (of : IsDatab
   row_low entry row low has =
       scanned_low query (tables_of db) entry row (subst (λ (l : List ℕ). Contains l row) (scan_at query (tables_of db) entry low) (family.scanned entry row has))
 
-  pub lists_of_db : AreListsOf db lists
+  pub lists_of_db : AreRowLists db lists
   lists_of_db = record {
     tables = of.tables;
     count = as_many ∙ sym of.entries;

@@ -8,7 +8,7 @@ use Rattle.degree_sequences.specs.ByRank.{rank_product}
 use Rattle.degree_sequences.specs.Saturation.{saturated}
 use Rattle.berge_tree.specs.declared.edges.Edge.{Edge}
 use Rattle.berge_tree.specs.Rooted.{IsTreeOf, AreAllTreesOf}
-use Rattle.berge_tree.specs.Trees.{Classes, no_class, and_class, Members, one_member, and_member, JoinTree}
+use Rattle.berge_tree.specs.Trees.{Classes, no_class, and_class, Members, one_member, and_member, BergeTree}
 use Rattle.entry_sets.specs.Sets.{entries_of_set}
 use Rattle.join_graph.specs.Kept.{kept_of, turn_count}
 use Rattle.tree_bounds.specs.Columns.{EachColumn, EachColumnBelow, EachColumnWithin}
@@ -43,12 +43,12 @@ module _ (b c : EntryBounds) (rows : (entry : ℕ) → b.rows entry ≡ c.rows e
         ap (λ (list : List ℕ). rank_product list (class_list b rest)) (composed_same entry column below same.0 (below_same entry below same.1))
         ∙ ap (rank_product (composed (c.list entry column) (child_lists c entry below))) (within_same rest same.2)
 
-  tree_same : (t : JoinTree) → EachColumn IsSame t → bound_of_tree b t ≡ bound_of_tree c t
+  tree_same : (t : BergeTree) → EachColumn IsSame t → bound_of_tree b t ≡ bound_of_tree c t
   tree_same t same =
       ap (λ (children : List ChildLists). root_total children (b.rows t.root)) (below_same t.root t.below same)
       ∙ ap (root_total (child_lists c t.root t.below)) (rows t.root)
 
-  trees_same : (es : List Edge) (ts : List JoinTree) → ((t : JoinTree) → IsTreeOf es t → EachColumn IsSame t) → AllByRecursion (IsTreeOf es) ts
+  trees_same : (es : List Edge) (ts : List BergeTree) → ((t : BergeTree) → IsTreeOf es t → EachColumn IsSame t) → AllByRecursion (IsTreeOf es) ts
       → bound_of_trees b ts ≡ bound_of_trees c ts
   trees_same es [] columns trees = refl
   trees_same es (t ∷ ts) columns trees =

@@ -17,8 +17,8 @@ use Rattle.filtered_lists.specs.Standing.{value_in_row}
 use Rattle.level_bounds.specs.Keys.{HaveDifferentCharacters}
 use Rattle.level_bounds.proofs.CellKeys.{equal_cells}
 use Rattle.level_bounds.proofs.Lists.{map_both}
-use Rattle.renamed_lists.specs.Renaming.{AreEqualAlike}
-use Rattle.renamed_lists.proofs.Dominated.{same_degrees}
+use Rattle.relabelling_laws.specs.Relabelling.{AreEqualAlike}
+use Rattle.relabelling_laws.proofs.Dominated.{same_degrees}
 use Rattle.sql_meaning.specs.Databases.{AreTables, IsColumnOf}
 use Rattle.sql_meaning.specs.Tables.{cells_of, tables_of}
 use Rattle.join_steps.specs.Columns.{column_cells}

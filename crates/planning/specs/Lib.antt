@@ -2,7 +2,7 @@ pub mod Bounds
 pub mod ListedBounds
 pub mod Standing
 pub mod Plans
-pub mod Gives
+pub mod HasBounds
 pub mod Known
 pub mod TakingPart
 pub mod Examples

@@ -6,7 +6,7 @@
 //! `bounds_from` makes the bounds of all sets of entries, a `Known`, and `plan_from` chooses the order of least cost. Out: the plan, or why no
 //! plan is within the budget. `from_reduced` answers the reduced scans too, since the plan's levels are joined from them.
 //!
-//! Callers cite `Gives` for the bounds in a `Known`, and `planned_from` (in `specs/Plans.antt`) for the answer. `planned`, `planned_over` and
+//! Callers cite `HasBounds` for the bounds in a `Known`, and `planned_from` (in `specs/Plans.antt`) for the answer. `planned`, `planned_over` and
 //! `planned_reduced` are this answer for bounds from different sources; each is a function of the query, its plain tables, the accuracy and the
 //! budget. The laws say that no bound of a plan is too low.
 //!

@@ -10,7 +10,7 @@ ghost use Rattle.sql_meaning.specs.Databases.{AreTables, IsColumnOf};
 ghost use Rattle.sql_meaning.specs.Tables.{cells_of, tables_of};
 ghost use Rattle.table_stats.specs.Columns.{numbered};
 ghost use Rattle.join_steps.specs.Lists.{lists_of};
-ghost use Rattle.reduced_scans.specs.Lists.{AreListsOf, JoinsColumns, column_of};
+ghost use Rattle.reduced_scans.specs.Lists.{AreRowLists, JoinsColumns, column_of};
 ghost use Rattle.planning.specs.Known.{IsKnown};
 
 use crate::rows::row_bounds;
@@ -65,7 +65,7 @@ fn add_new(
     accuracy: Accuracy,
     known: &mut EntryLists,
 ) -> Result<(), NoMemory>
-    requires lists { AreListsOf db.now lists.now }
+    requires lists { AreRowLists db.now lists.now }
     requires column { IsColumnOf db.now (column_of place) }
     requires known { IsKnown db.now (lists_of lists.now) accuracy known.old }
     requires new { list_known known.old place.entry place.column ≡ None }
@@ -96,7 +96,7 @@ fn add_list(
     accuracy: Accuracy,
     known: &mut EntryLists,
 ) -> Result<(), NoMemory>
-    requires lists { AreListsOf db.now lists.now }
+    requires lists { AreRowLists db.now lists.now }
     requires column { IsColumnOf db.now (column_of place) }
     requires known { IsKnown db.now (lists_of lists.now) accuracy known.old }
     ensures known { OnOk result (IsKnown db.now (lists_of lists.now) accuracy known.new) }
@@ -118,7 +118,7 @@ pub(crate) fn lists_over_rows(
     equalities: &[Edge],
     accuracy: Accuracy,
 ) -> Result<EntryLists, NoMemory>
-    requires lists { AreListsOf db.now lists.now }
+    requires lists { AreRowLists db.now lists.now }
     requires columns { All (JoinsColumns db.now) equalities.now }
     ensures known { IfOk result (IsKnown db.now (lists_of lists.now) accuracy) }
     ensures joined { IfOk result (λ known. All (HaveLists known) equalities.now) }

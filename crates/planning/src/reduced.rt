@@ -4,9 +4,9 @@ ghost use Rattle.join_graph.specs.Conjuncts.{equalities_of};
 ghost use Rattle.sql_meaning.specs.Databases.{IsDatabaseOf};
 ghost use Rattle.sql_meaning.specs.Tables.{tables_of};
 ghost use Rattle.join_steps.specs.Lists.{list_sizes, lists_of};
-ghost use Rattle.reduced_scans.specs.Lists.{AreListsOf, HaveNoSpare};
+ghost use Rattle.reduced_scans.specs.Lists.{AreRowLists, HaveNoSpare};
 ghost use Rattle.reduced_scans.specs.Rounds.{reduced_of};
-ghost use Rattle.planning.specs.Gives.{Gives};
+ghost use Rattle.planning.specs.HasBounds.{HasBounds};
 ghost use Rattle.planning.specs.ListedBounds.{set_bounds_over};
 
 use crate::known::Known;
@@ -39,7 +39,7 @@ pub fn reduced_lists(
     requires equalities { equalities.now ≡ equalities_of query.now }
     requires database { IsDatabaseOf query.now db.now }
     ensures reduced { IfOk result (λ lists. lists_of lists.items ≡ reduced_of query.now (tables_of db.now)) }
-    ensures lists { IfOk result (λ lists. AreListsOf db.now lists.items) }
+    ensures lists { IfOk result (λ lists. AreRowLists db.now lists.items) }
     ensures no_spare { IfOk result (λ lists. HaveNoSpare lists.items) }
     ensures capacity { IfOk result (λ lists. vec_capacity lists ≡ length query.now.from) }
 {
@@ -63,7 +63,7 @@ pub fn from_reduced(
 ) -> Result<Reduced, NoMemory>
     requires database { IsDatabaseOf query.now db.now }
     ensures gives { IfOk result (λ made.
-        Gives (set_bounds_over query.now (tables_of db.now) (reduced_of query.now (tables_of db.now)) accuracy)
+        HasBounds (set_bounds_over query.now (tables_of db.now) (reduced_of query.now (tables_of db.now)) accuracy)
         (list_sizes query.now (reduced_of query.now (tables_of db.now))) made.known) }
     ensures lists { IfOk result (λ made. lists_of made.lists.items ≡ reduced_of query.now (tables_of db.now)) }
     ensures no_spare { IfOk result (λ made. HaveNoSpare made.lists.items) }

@@ -5,11 +5,11 @@ ghost use Rattle.join_graph.specs.Conjuncts.{equalities_of};
 ghost use Rattle.sql_meaning.specs.Databases.{IsDatabaseOf};
 ghost use Rattle.sql_meaning.specs.Tables.{tables_of};
 ghost use Rattle.join_steps.specs.Lists.{list_sizes, lists_of};
-ghost use Rattle.reduced_scans.specs.Lists.{AreListsOf};
+ghost use Rattle.reduced_scans.specs.Lists.{AreRowLists};
 ghost use Rattle.query_bounds.specs.Bounds.{entry_bounds, scan_bounds, set_bounds};
-ghost use Rattle.query_bounds.specs.Statistics.{IsTold, Statistics, Tells};
+ghost use Rattle.query_bounds.specs.Statistics.{StatsAreTold, Statistics, Tells};
 ghost use Rattle.planning.specs.Bounds.{scan_bounds_of, set_bounds_of};
-ghost use Rattle.planning.specs.Gives.{Gives};
+ghost use Rattle.planning.specs.HasBounds.{HasBounds};
 ghost use Rattle.planning.specs.ListedBounds.{set_bounds_over};
 ghost use Rattle.planning.specs.Standing.{JoinedHaveLists};
 
@@ -36,9 +36,9 @@ pub fn from_told(
 ) -> Result<Known, NoMemory>
     requires few { length query.now.from ≤ most_entries }
     requires equalities { parts.now.equalities ≡ equalities_of query.now }
-    requires told { IsTold query.now stats.now }
+    requires told { StatsAreTold query.now stats.now }
     ensures gives { IfOk result (λ made. (known : Statistics) → Tells query.now stats.now known
-        → Gives (set_bounds query.now known) (scan_bounds query.now known) made) }
+        → HasBounds (set_bounds query.now known) (scan_bounds query.now known) made) }
     ensures lists { IfOk result (λ made. (known : Statistics) → Tells query.now stats.now known
         → JoinedHaveLists query.now (entry_bounds query.now known)) }
 {
@@ -59,7 +59,7 @@ pub fn from_statistics(
     accuracy: Accuracy,
 ) -> Result<Known, NoMemory>
     requires database { IsDatabaseOf query.now db.now }
-    ensures { IfOk result (Gives (set_bounds_of query.now (tables_of db.now) accuracy) (scan_bounds_of query.now (tables_of db.now) accuracy)) }
+    ensures { IfOk result (HasBounds (set_bounds_of query.now (tables_of db.now) accuracy) (scan_bounds_of query.now (tables_of db.now) accuracy)) }
 {
     let parts = split(alloc, query)?;
     let stats = gather_query(alloc, query, &parts, db, accuracy)?;
@@ -80,8 +80,8 @@ pub fn from_rows(
 ) -> Result<Known, NoMemory>
     requires equalities { parts.now.equalities ≡ equalities_of query.now }
     requires database { IsDatabaseOf query.now db.now }
-    requires rows { AreListsOf db.now rows.now }
-    ensures { IfOk result (Gives (set_bounds_over query.now (tables_of db.now) (lists_of rows.now) accuracy)
+    requires rows { AreRowLists db.now rows.now }
+    ensures { IfOk result (HasBounds (set_bounds_over query.now (tables_of db.now) (lists_of rows.now) accuracy)
         (list_sizes query.now (lists_of rows.now))) }
 {
     let lists = lists_over_rows(alloc, db, rows, parts.equalities.as_slice(), accuracy)?;

@@ -3,7 +3,7 @@ use Rattle.std.proofs.Common.{◌≡◌, ℕ, ◌+◌, ◌<◌, Bool, true, fals
 use Rattle.std.proofs.lemmas.List.{take_more, map-append}
 use Rattle.std.proofs.Math.Bool.{or-true, or-false}
 use Rattle.query_types.specs.declared.types.Cond.{Cond}
-use Rattle.filtered_lists.specs.Filters.{Conjunction, and_answer, and_more, all_of, or_more, or_answer, joined, of_answer}
+use Rattle.filtered_lists.specs.Filters.{Conjunction, and_answer, and_more, all_of, or_more, or_answer, one_conjunction, of_answer}
 use Rattle.filtered_lists.specs.Ranges as ranges
 use Rattle.filtered_lists.specs.Ranges.{range_for_each_column}
 use Rattle.predicate_bounds.specs.declared.steps.Range.{Range}
@@ -69,7 +69,7 @@ both_added before between after old mid new x y h k = record {
   some = k.some ∙ ap (λ (b : Bool). b || is_some_of y.others) h.some ∙ or_assoc before.some (is_some_of x.others) (is_some_of y.others) ∙ ap (λ (b : Bool). before.some || b) (sym (is_some_of-append x.others y.others));
 }
 
-pub joined_more : (cs : List (Conjunction (List Step))) (c : Conjunction (List Step)) → joined (cs ++ c ∷ []) ≡ two (joined cs) c
+pub joined_more : (cs : List (Conjunction (List Step))) (c : Conjunction (List Step)) → one_conjunction (cs ++ c ∷ []) ≡ two (one_conjunction cs) c
 joined_more [] c = ap (λ (s : List ranges.Range). record { ranges = s; others = c.others ++ [] }) (nil c.ranges) ∙ ap (λ (s : List (List Step)). record { ranges = c.ranges; others = s }) (nils c.others)
   where
     nil : (s : List ranges.Range) → s ++ [] ≡ s
@@ -81,18 +81,18 @@ joined_more [] c = ap (λ (s : List ranges.Range). record { ranges = s; others =
     nils (x ∷ s) = ap (λ (t : List (List Step)). x ∷ t) (nils s)
 joined_more (d ∷ cs) c =
     rw (joined_more cs c)
-    (ap (λ (s : List ranges.Range). record { ranges = s; others = d.others ++ ((joined cs).others ++ c.others) }) (sym (append_assoc d.ranges (joined cs).ranges c.ranges))
-    ∙ ap (λ (s : List (List Step)). record { ranges = (d.ranges ++ (joined cs).ranges) ++ c.ranges; others = s }) (sym (append_assoc d.others (joined cs).others c.others)))
+    (ap (λ (s : List ranges.Range). record { ranges = s; others = d.others ++ ((one_conjunction cs).others ++ c.others) }) (sym (append_assoc d.ranges (one_conjunction cs).ranges c.ranges))
+    ∙ ap (λ (s : List (List Step)). record { ranges = (d.ranges ++ (one_conjunction cs).ranges) ++ c.ranges; others = s }) (sym (append_assoc d.others (one_conjunction cs).others c.others)))
 
 -- one condition more
 pub each_more : (f : Cond → Conjunction (List Step)) (conds : List Cond) (i : ℕ) (cond : Cond) (before between after : Members) (old mid new : List Step)
     → i < length conds → cond ≡ get_or conds i cond
-    → AreAdded before old between mid (joined (map f (take i conds))) → AreAdded between mid after new (f cond) → AreAdded before old after new (joined (map f (take (i + 1) conds)))
+    → AreAdded before old between mid (one_conjunction (map f (take i conds))) → AreAdded between mid after new (f cond) → AreAdded before old after new (one_conjunction (map f (take (i + 1) conds)))
 each_more f conds i cond before between after old mid new low is h k =
     let front : take (i + 1) conds ≡ take i conds ++ cond ∷ [] = take_more conds i cond low ∙ ap (λ (c : Cond). take i conds ++ c ∷ []) (sym is) in
     subst (AreAdded before old after new)
-    (sym (joined_more (map f (take i conds)) (f cond)) ∙ ap joined (sym (map-append f (take i conds) (cond ∷ [])) ∙ ap (map f) (sym front)))
-    (both_added before between after old mid new (joined (map f (take i conds))) (f cond) h k)
+    (sym (joined_more (map f (take i conds)) (f cond)) ∙ ap one_conjunction (sym (map-append f (take i conds) (cond ∷ [])) ∙ ap (map f) (sym front)))
+    (both_added before between after old mid new (one_conjunction (map f (take i conds))) (f cond) h k)
 
 -- one answer more
 pub answer_added : (before after : Members) (old mid new x : List Step) → mid ≡ old ++ x → new ≡ mid ++ closing before.some → after.some ≡ true → after.ranges ≡ before.ranges

@@ -3,7 +3,7 @@ use Rattle.std.proofs.Common.{◌≡◌, ℕ, List, [], ◌∷◌, ◌++◌, map
 use Rattle.std.proofs.lemmas.List.{append-nil}
 use Rattle.csv_tables.specs.Values.{Value}
 use Rattle.query_types.specs.declared.types.Cond.{Cond}
-use Rattle.filtered_lists.specs.Filters.{Answers, filtered}
+use Rattle.filtered_lists.specs.Filters.{ComparisonAnswers, filtered}
 use Rattle.filtered_lists.specs.Lists.{ColumnLists, list_answers}
 use Rattle.filtered_lists.specs.Ranges as ranges
 use Rattle.filtered_lists.proofs.Related.{filtered_related}
@@ -15,10 +15,10 @@ use Rattle.predicate_bounds.specs.Steps.{step_answers, steps_of}
 use Rattle.predicate_bounds.proofs.Literals.{value_again, range_of_in}
 
 -- the steps put the answer on the stack
-abbrev Puts : (A : Type 0) → Answers A → List Step → A → Type 0
+abbrev Puts : (A : Type 0) → ComparisonAnswers A → List Step → A → Type 0
 Puts A answers steps answer = (rest : List Step) (stack : List A) → after_steps answers (steps ++ rest) stack ≡ after_steps answers rest (answer ∷ stack)
 
-puts_filtered : (A : Type 0) (answers : Answers A) (entry : ℕ) (conjuncts : List Cond) → Puts A answers (steps_of entry conjuncts) (filtered answers entry conjuncts)
+puts_filtered : (A : Type 0) (answers : ComparisonAnswers A) (entry : ℕ) (conjuncts : List Cond) → Puts A answers (steps_of entry conjuncts) (filtered answers entry conjuncts)
 puts_filtered A answers =
     filtered_related (List Step) A (Puts A answers) step_answers answers (record {
       whole = λ rest stack. refl;
@@ -31,7 +31,7 @@ puts_filtered A answers =
           ∙ h (y ++ (step.Or ∷ rest)) stack ∙ k (step.Or ∷ rest) (a ∷ stack);
     })
 
-steps_answer : (A : Type 0) (answers : Answers A) (entry : ℕ) (conjuncts : List Cond) → after_steps answers (steps_of entry conjuncts) [] ≡ filtered answers entry conjuncts ∷ []
+steps_answer : (A : Type 0) (answers : ComparisonAnswers A) (entry : ℕ) (conjuncts : List Cond) → after_steps answers (steps_of entry conjuncts) [] ≡ filtered answers entry conjuncts ∷ []
 steps_answer A answers entry conjuncts =
     ap (λ (s : List Step). after_steps answers s []) (sym (append-nil (steps_of entry conjuncts))) ∙ puts_filtered A answers entry conjuncts [] []
 

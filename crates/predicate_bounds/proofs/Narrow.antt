@@ -9,7 +9,7 @@ use Rattle.std.proofs.lemmas.List.Elements.{filter-append}
 use Rattle.csv_tables.specs.Values.{Value}
 use Rattle.degree_sequences.specs.Degrees.{different}
 use Rattle.filtered_lists.specs.Ranges as ranges
-use Rattle.filtered_lists.specs.Ranges.{greatest, least, one_range, ranges_of, range_for_each_column}
+use Rattle.filtered_lists.specs.Ranges.{greatest_value, least, one_range, ranges_of, range_for_each_column}
 use Rattle.predicate_bounds.specs.declared.steps.Range.{Range}
 use Rattle.predicate_bounds.specs.declared.steps.Step.{Step}
 use Rattle.predicate_bounds.specs.Narrowing.{more_high, more_low, narrowed}
@@ -17,7 +17,7 @@ use Rattle.predicate_bounds.specs.Steps.{range_of, step_answers}
 
 -- ---- the ends
 
-low_more : (low : Option Value) (lows : List Value) → greatest (cons_option low lows) ≡ more_low low (greatest lows)
+low_more : (low : Option Value) (lows : List Value) → greatest_value (cons_option low lows) ≡ more_low low (greatest_value lows)
 low_more None lows = refl
 low_more (Some v) lows = refl
 
@@ -28,7 +28,7 @@ high_more (Some v) highs = refl
 range_more : (r : ranges.Range) (rs : List ranges.Range) (column : ℕ) → eqb r.column column ≡ true → one_range (r ∷ rs) column ≡ narrowed r (one_range rs column)
 range_more r rs column t =
     rw t (ap (λ (low : Option Value). record { column = column; low = low; high = least (cons_option r.high (filter_map (λ range. range.high) (ranges_of column rs))) }) (low_more r.low (filter_map (λ range. range.low) (ranges_of column rs)))
-    ∙ ap (λ (high : Option Value). record { column = column; low = more_low r.low (greatest (filter_map (λ range. range.low) (ranges_of column rs))); high = high }) (high_more r.high (filter_map (λ range. range.high) (ranges_of column rs))))
+    ∙ ap (λ (high : Option Value). record { column = column; low = more_low r.low (greatest_value (filter_map (λ range. range.low) (ranges_of column rs))); high = high }) (high_more r.high (filter_map (λ range. range.high) (ranges_of column rs))))
 
 range_other : (r : ranges.Range) (rs : List ranges.Range) (column : ℕ) → eqb r.column column ≡ false → one_range (r ∷ rs) column ≡ one_range rs column
 range_other r rs column n = rw n refl

@@ -6,7 +6,7 @@ use Rattle.std.proofs.lemmas.List.{take_more, take_all, length-map}
 use Rattle.std.proofs.lemmas.List.Elements.{filter_map-append, All-from_recursion}
 use Rattle.std.proofs.lemmas.List.FromFn.{length-range_with_len}
 use Rattle.query_types.specs.declared.types.Cond.{Cond}
-use Rattle.filtered_lists.specs.Filters.{Conjunction, and_answer, joined, own_conjuncts}
+use Rattle.filtered_lists.specs.Filters.{Conjunction, and_answer, one_conjunction, own_conjuncts}
 use Rattle.query_types.specs.declared.types.Query.{Query}
 use Rattle.join_graph.specs.Conjuncts.{local_of, names_just, numbers_where}
 use Rattle.predicate_bounds.specs.declared.steps.Step.{Step}
@@ -64,7 +64,7 @@ abbrev pub conds_at : List Cond → List ℕ → List Cond
 conds_at conds numbers = filter_map (slice_get conds) numbers
 
 abbrev pub AreRead : List Cond → List ℕ → Members → List Step → Members → List Step → Type 0
-AreRead conds numbers before old now new = AreAdded before old now new (joined (map (λ cond. read cond true) (conds_at conds numbers)))
+AreRead conds numbers before old now new = AreAdded before old now new (one_conjunction (map (λ cond. read cond true) (conds_at conds numbers)))
 
 pub one_read : (conds : List Cond) (numbers : List ℕ) (i n : ℕ) (c : Cond) (before now after : Members) (old mid new : List Step) → i < length numbers → n ≡ get_or numbers i 0 → slice_get conds n ≡ Some c
     → AreRead conds (take i numbers) before old now mid → AreAdded now mid after new (read c true) → AreRead conds (take (i + 1) numbers) before old after new
@@ -75,8 +75,8 @@ one_read conds numbers i n c before now after old mid new low at is h k =
     ap (conds_at conds) front ∙ filter_map-append (slice_get conds) (take i numbers) (n ∷ []) ∙ ap (λ (s : List Cond). conds_at conds (take i numbers) ++ s) one in
     subst (AreAdded before old after new)
     (sym (joined_more (map (λ cond. read cond true) (conds_at conds (take i numbers))) (read c true))
-    ∙ ap joined (sym (map_more (conds_at conds (take i numbers)))) ∙ ap (λ (s : List Cond). joined (map (λ cond. read cond true) s)) (sym more))
-    (both_added before now after old mid new (joined (map (λ cond. read cond true) (conds_at conds (take i numbers)))) (read c true) h k)
+    ∙ ap one_conjunction (sym (map_more (conds_at conds (take i numbers)))) ∙ ap (λ (s : List Cond). one_conjunction (map (λ cond. read cond true) s)) (sym more))
+    (both_added before now after old mid new (one_conjunction (map (λ cond. read cond true) (conds_at conds (take i numbers)))) (read c true) h k)
   where
     map_more : (s : List Cond) → map (λ cond. read cond true) (s ++ c ∷ []) ≡ map (λ cond. read cond true) s ++ read c true ∷ []
     map_more [] = refl
@@ -88,8 +88,8 @@ pub all_read : (from : ℕ) (conds : List Cond) (numbers : List ℕ) (i : ℕ) (
     → whole ≡ ended ++ step.Whole ∷ [] → last ≡ whole ++ step.And ∷ [] → last ≡ steps_of from conds
 all_read from conds numbers i before now old mid ended whole last same end fresh empty nothing h closed first second =
     let own : conds_at conds (take i numbers) ≡ own_conjuncts from conds = ap (conds_at conds) (take_all i numbers end ∙ same) ∙ numbers_give (names_just from) conds in
-    let c : Conjunction (List Step) = joined (map (λ cond. read cond true) (own_conjuncts from conds)) in
-    let added : AreAdded before old now mid c = subst (λ (s : List Cond). AreAdded before old now mid (joined (map (λ cond. read cond true) s))) own h in
+    let c : Conjunction (List Step) = one_conjunction (map (λ cond. read cond true) (own_conjuncts from conds)) in
+    let added : AreAdded before old now mid c = subst (λ (s : List Cond). AreAdded before old now mid (one_conjunction (map (λ cond. read cond true) s))) own h in
     let all : ended ≡ old ++ and_answer step_answers c = answer_steps before now old mid ended c fresh empty added closed in
     second ∙ ap (λ (s : List Step). s ++ step.And ∷ []) (first ∙ ap (λ (s : List Step). s ++ step.Whole ∷ []) (all ∙ ap (λ (s : List Step). s ++ and_answer step_answers c) nothing))
     ∙ append_assoc (and_answer step_answers c) (step.Whole ∷ []) (step.And ∷ [])

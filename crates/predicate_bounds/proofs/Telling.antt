@@ -7,7 +7,7 @@ use Rattle.std.proofs.lemmas.Result.{IfOk-weaker}
 use Rattle.degree_sequences.specs.Domination.{DominatesKeys}
 use Rattle.query_types.specs.declared.types.Query.{Query}
 use Rattle.sql_meaning.specs.Tables.{Tables}
-use Rattle.filtered_lists.specs.Filters.{and_answer, joined, conjunction_of, own_conjuncts}
+use Rattle.filtered_lists.specs.Filters.{and_answer, one_conjunction, conjunction_of, own_conjuncts}
 use Rattle.filtered_lists.specs.Lists.{ColumnLists, RowCounts, list_answers, filtered_list, row_bound}
 use Rattle.filtered_lists.specs.Standing.{ListsStandFor, SumTo, scan_of}
 use Rattle.filtered_lists.proofs.Counting.{list_dominates, sum_is_enough}
@@ -69,13 +69,13 @@ whole_in lists (x ∷ xs) h = whole_in lists xs (and_parts (is_small (listed lis
 
 whole_is_small : (query : Query) (from : ℕ) (lists : ColumnLists) (steps : List ListStep) → steps ≡ asked_lists query from lists → list_all is_small steps ≡ true → sum lists.whole ≤ 2 ^ 32
 whole_is_small query from lists steps is h =
-    whole_in lists (and_answer step_answers (joined (map (λ c. conjunction_of step_answers c true) (own_conjuncts from query.conjuncts)))) (ap (list_all is_small) (sym is) ∙ h)
+    whole_in lists (and_answer step_answers (one_conjunction (map (λ c. conjunction_of step_answers c true) (own_conjuncts from query.conjuncts)))) (ap (list_all is_small) (sym is) ∙ h)
 
 -- as many rows as 64 bits hold are all
 rows_fit : (query : Query) (from : ℕ) (lists : ColumnLists) (steps : List ListStep) → steps ≡ asked_lists query from lists → list_all is_small steps ≡ true
     → sum (filtered_list lists from query.conjuncts) ≤ 2 ^ 32
 rows_fit query from lists steps is small =
-    omega (arith, whole_is_small query from lists steps is small, sum-lesser (and_answer (list_answers lists) (joined (map (λ c. conjunction_of (list_answers lists) c true) (own_conjuncts from query.conjuncts)))) lists.whole)
+    omega (arith, whole_is_small query from lists steps is small, sum-lesser (and_answer (list_answers lists) (one_conjunction (map (λ c. conjunction_of (list_answers lists) c true) (own_conjuncts from query.conjuncts)))) lists.whole)
 
 pub told_rows : (query : Query) (stats : QueryStats) (from : ℕ) (lists : ColumnLists) (steps : List ListStep) (list : List ℕ) (rows : ℕ) → first_steps stats from ≡ Some steps → TellsRows query stats from lists
     → list_all is_small steps ≡ true → list ≡ top_of (after_list_steps steps []) → rows ≡ min (sum list) (2 ^ 64 - 1) → rows ≡ sum (filtered_list lists from query.conjuncts)

@@ -1,6 +1,6 @@
 -- What steps make of a stack of answers, whose top stands first.
 use Rattle.std.specs.Prelude.{List, [], ◌∷◌}
-use Rattle.filtered_lists.specs.Filters.{Answers}
+use Rattle.filtered_lists.specs.Filters.{ComparisonAnswers}
 use Rattle.predicate_bounds.specs.declared.steps.Step.{Step}
 use Rattle.predicate_bounds.specs.declared.steps.Step.TheVariants as step
 use Rattle.predicate_bounds.specs.Steps.{value_of, range_of}
@@ -11,7 +11,7 @@ put_together f [] = []
 put_together f (y ∷ []) = y ∷ []
 put_together f (y ∷ (x ∷ stack)) = f x y ∷ stack
 
-abbrev pub after_step : {A : Type 0} → Answers A → Step → List A → List A
+abbrev pub after_step : {A : Type 0} → ComparisonAnswers A → Step → List A → List A
 after_step answers step.Whole stack = answers.whole ∷ stack
 after_step answers (step.Equal column literal) stack = answers.equal column (value_of literal) ∷ stack
 after_step answers (step.Within range) stack = answers.range (range_of range) ∷ stack
@@ -19,6 +19,6 @@ after_step answers step.And stack = put_together answers.both stack
 after_step answers step.Nothing stack = answers.none ∷ stack
 after_step answers step.Or stack = put_together answers.either stack
 
-abbrev pub after_steps : {A : Type 0} → Answers A → List Step → List A → List A
+abbrev pub after_steps : {A : Type 0} → ComparisonAnswers A → List Step → List A → List A
 after_steps answers [] stack = stack
 after_steps answers (step ∷ steps) stack = after_steps answers steps (after_step answers step stack)

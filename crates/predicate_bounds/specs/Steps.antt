@@ -4,7 +4,7 @@ use Rattle.std.specs.Prelude.{ℕ, List, [], ◌∷◌, ◌++◌, option_map}
 use Rattle.csv_tables.specs.Values as values
 use Rattle.csv_tables.specs.Values.{Value}
 use Rattle.query_types.specs.declared.types.Cond.{Cond}
-use Rattle.filtered_lists.specs.Filters.{Answers, filtered}
+use Rattle.filtered_lists.specs.Filters.{ComparisonAnswers, filtered}
 use Rattle.filtered_lists.specs.Ranges as ranges
 use Rattle.predicate_bounds.specs.declared.steps.Literal.{Literal}
 use Rattle.predicate_bounds.specs.declared.steps.Literal.TheVariants as literal
@@ -28,7 +28,7 @@ abbrev pub range_in : ranges.Range → Range
 range_in range = record { column = range.column; low = option_map literal_of range.low; high = option_map literal_of range.high }
 
 -- the steps that put an answer on the stack
-abbrev pub step_answers : Answers (List Step)
+abbrev pub step_answers : ComparisonAnswers (List Step)
 step_answers = record {
   whole = step.Whole ∷ [];
   equal = λ column value. step.Equal column (literal_of value) ∷ [];

@@ -1,6 +1,6 @@
 //! Comparisons of a column with a literal, the literal on the right.
 ghost use Rattle.std.specs.Prelude.{◌≡◌, IfOk, option_map};
-ghost use Rattle.filtered_lists.specs.Comparisons.{comparison_of, opposite, turned};
+ghost use Rattle.filtered_lists.specs.Comparisons.{comparison_of, opposite, mirrored};
 ghost use Rattle.predicate_bounds.specs.Comparing.{compared_of, literal_in};
 
 use crate::steps::Literal;
@@ -33,7 +33,7 @@ pub(crate) fn opposite(op: Op) -> Op
 
 // The same comparison with its sides changed.
 fn turned(op: Op) -> Op
-    ensures { result ≡ turned op }
+    ensures { result ≡ mirrored op }
 {
     match op {
         Op::Eq => Op::Eq,

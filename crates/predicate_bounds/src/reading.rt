@@ -2,7 +2,7 @@
 //! a condition is read. The recursion is as deep as the condition.
 ghost use Rattle.std.specs.Prelude.{◌≡◌, ◌<◌, ◌++◌, ◌∷◌, [], false, true, map, length, IfOk, OnOk};
 ghost use Rattle.filtered_lists.specs.Comparisons.{comparison_of};
-ghost use Rattle.filtered_lists.specs.Filters.{and_answer, conjunction_of, joined, or_answer};
+ghost use Rattle.filtered_lists.specs.Filters.{and_answer, conjunction_of, one_conjunction, or_answer};
 ghost use Rattle.filtered_lists.specs.Filters.{of_answer, of_comparison, of_comparison_or_whole};
 ghost use Rattle.predicate_bounds.specs.Added.{AreAdded, closing, ending};
 ghost use Rattle.predicate_bounds.specs.Steps.{range_of, step_answers, steps_of, value_of};
@@ -182,7 +182,7 @@ impl Members {
         steps: &mut Seq<Step>,
     ) -> Result<(), NoMemory>
         ensures { OnOk result (AreAdded self.old steps.old self.new steps.new
-            (joined (map (λ cond. conjunction_of step_answers cond holds) conds.now))) }
+            (one_conjunction (map (λ cond. conjunction_of step_answers cond holds) conds.now))) }
     {
         for cond in conds {
             self.add_condition(alloc, cond, holds, steps)?;

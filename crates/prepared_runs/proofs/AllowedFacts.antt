@@ -16,7 +16,7 @@ use Rattle.sql_meaning.specs.Tables.{Tables}
 use Rattle.prepared_runs.specs.Allowed.{shape_cost}
 use Rattle.prepared_runs.specs.Shapes.{answer_of, planned_by}
 use Rattle.prepared_runs.specs.Sources.{Sourced}
-use Rattle.prepared_runs.specs.declared.shapes.Shaped.{Shaped}
+use Rattle.prepared_runs.specs.declared.shapes.AnyPlan.{AnyPlan}
 use Rattle.safebound_words.specs.declared.command.Shape.{Shape}
 use Rattle.safebound_words.specs.declared.command.Shape.TheVariants as shapes
 use Rattle.prepared_runs.proofs.ShapeFacts.{along, over, seen_ok}
@@ -34,16 +34,16 @@ module _ (sets scans : List ℕ) (budget : ℕ) where
       let P : Result BushyPlan PlanError → Type 0 = trees.IsPromised sets scans budget in
       (subst P made (tree_choice.allowed sets scans budget some few)).within
 
-  answer_costs : (shape : Shape) (plan : Shaped) → 1 ≤ length scans → length scans ≤ 12 → answer_of shape sets scans budget ≡ Ok plan → shape_cost plan ≤ budget
+  answer_costs : (shape : Shape) (plan : AnyPlan) → 1 ≤ length scans → length scans ≤ 12 → answer_of shape sets scans budget ≡ Ok plan → shape_cost plan ≤ budget
   answer_costs shapes.Order plan some few made =
       let it = seen_ok along (plan_answer sets scans budget) plan made in
-      subst (λ (p : Shaped). shape_cost p ≤ budget) it.2 (order_costs it.0 it.1)
+      subst (λ (p : AnyPlan). shape_cost p ≤ budget) it.2 (order_costs it.0 it.1)
   answer_costs shapes.Tree plan some few made =
       let it = seen_ok over (tree_answer sets scans budget) plan made in
-      subst (λ (p : Shaped). shape_cost p ≤ budget) it.2 (tree_costs it.0 some few it.1)
+      subst (λ (p : AnyPlan). shape_cost p ≤ budget) it.2 (tree_costs it.0 some few it.1)
 
 pub plan_costs : (query : Query) (tables : Tables) (given : Sourced) (accuracy budget : ℕ) → BoundLists query tables given.lists (given.scans accuracy) → 1 ≤ length query.from → length query.from ≤ 12
-    → (shape : Shape) (plan : Shaped) → planned_by shape given accuracy budget ≡ Ok plan → shape_cost plan ≤ budget
+    → (shape : Shape) (plan : AnyPlan) → planned_by shape given accuracy budget ≡ Ok plan → shape_cost plan ≤ budget
 unfolding planned_by
 plan_costs query tables given accuracy budget bound some few shape plan made =
     answer_costs (given.sets accuracy) (given.scans accuracy) budget shape plan (omega (arith, some, bound.one_each)) (omega (arith, few, bound.one_each)) made

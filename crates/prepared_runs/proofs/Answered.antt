@@ -22,10 +22,10 @@ use Rattle.outcomes.specs.declared.refusal.Refusal.{Refusal}
 use Rattle.sql_meaning.specs.Tables.{Tables}
 use Rattle.table_files.specs.EntryTables.{tables_in}
 use Rattle.prepared_runs.specs.Limits.{limit_test, within_limit}
-use Rattle.prepared_runs.specs.Outcome.{Outcome, Planned}
+use Rattle.prepared_runs.specs.RunOutcome.{RunOutcome, Planned}
 use Rattle.prepared_runs.specs.Shapes.{shape_bytes}
 use Rattle.prepared_runs.specs.Verdict.{plan_asked, plan_stage, run_asked}
-use Rattle.prepared_runs.specs.declared.shapes.Shaped.{Shaped}
+use Rattle.prepared_runs.specs.declared.shapes.AnyPlan.{AnyPlan}
 use Rattle.safebound_words.specs.declared.command.PlanWork.{PlanWork}
 use Rattle.prepared_runs.proofs.LimitFacts.{kept, stops}
 
@@ -71,47 +71,47 @@ query_told s text e is = query_tells (query_answer s text) e (queries.only s tex
 -- ---- plans
 
 -- a plan that was made is the planned one
-pub was_made : (answer : Result Shaped PlanError) (p : Shaped) → (Ok p ≡ Err plan.NoMemory) ⊎ (Ok p ≡ answer) → answer ≡ Ok p
+pub was_made : (answer : Result AnyPlan PlanError) (p : AnyPlan) → (Ok p ≡ Err plan.NoMemory) ⊎ (Ok p ≡ answer) → answer ≡ Ok p
 was_made answer p h = same_value plan.NoMemory answer p h
 
-pub was_refused : (answer : Result Shaped PlanError) (e : PlanError) → (◌≡◌ {A = Result Shaped PlanError} (Err e) (Err plan.NoMemory)) ⊎ (Err e ≡ answer)
+pub was_refused : (answer : Result AnyPlan PlanError) (e : PlanError) → (◌≡◌ {A = Result AnyPlan PlanError} (Err e) (Err plan.NoMemory)) ⊎ (Err e ≡ answer)
     → (e ≡ plan.NoMemory) ⊎ (answer ≡ Err e)
 was_refused answer e (inl none) = inl cc
 was_refused answer e (inr is) = inr (sym is)
 
-module _ (next : Shaped → Result Outcome Refusal) where
-  plan_tells : (answer : Result Shaped PlanError) (e : PlanError) → (e ≡ plan.NoMemory) ⊎ (answer ≡ Err e)
+module _ (next : AnyPlan → Result RunOutcome Refusal) where
+  plan_tells : (answer : Result AnyPlan PlanError) (e : PlanError) → (e ≡ plan.NoMemory) ⊎ (answer ≡ Err e)
       → StopsBy (told plan_refusal answer >>= next) (plan_ending e)
   plan_tells answer plan.NoMemory h = tt
   plan_tells answer (plan.Budget least) (inl e) = cc
-  plan_tells answer (plan.Budget least) (inr e) = (ap (λ (r : Result Shaped PlanError). told plan_refusal r >>= next) e, (λ file h. cc), (λ h. cc))
+  plan_tells answer (plan.Budget least) (inr e) = (ap (λ (r : Result AnyPlan PlanError). told plan_refusal r >>= next) e, (λ file h. cc), (λ h. cc))
   plan_tells answer plan.PastBits (inl e) = cc
-  plan_tells answer plan.PastBits (inr e) = (ap (λ (r : Result Shaped PlanError). told plan_refusal r >>= next) e, (λ file h. cc), (λ h. cc))
+  plan_tells answer plan.PastBits (inr e) = (ap (λ (r : Result AnyPlan PlanError). told plan_refusal r >>= next) e, (λ file h. cc), (λ h. cc))
 
 module _ (task : PlanWork) (schema : Schema) (query : Query) (rows : List (List Row)) (t : Tables) (same : tables_in rows ≡ t) where
   -- over the tables that a database has
   over_rows : plan_asked task schema query (tables_in rows) ≡ plan_asked task schema query t
   over_rows = ap (plan_asked task schema query) same
 
-  abbrev limited : Shaped → Result Outcome Refusal
+  abbrev limited : AnyPlan → Result RunOutcome Refusal
   limited p = within_limit task.memory (shape_bytes p) (Planned (run_asked task query rows p))
 
-  plan_stage_at : (p : Shaped) → plan_asked task schema query t ≡ Ok p → plan_stage task schema query rows ≡ within_limit task.memory (shape_bytes p) (Planned (run_asked task query rows p))
+  plan_stage_at : (p : AnyPlan) → plan_asked task schema query t ≡ Ok p → plan_stage task schema query rows ≡ within_limit task.memory (shape_bytes p) (Planned (run_asked task query rows p))
   unfolding plan_stage
-  plan_stage_at p is = ap (λ (r : Result Shaped PlanError). told plan_refusal r >>= limited) (over_rows ∙ is)
+  plan_stage_at p is = ap (λ (r : Result AnyPlan PlanError). told plan_refusal r >>= limited) (over_rows ∙ is)
 
-  pub plan_stage_ok : (p : Shaped) → plan_asked task schema query t ≡ Ok p → limit_test task.memory (shape_bytes p) ≡ Ok tt
+  pub plan_stage_ok : (p : AnyPlan) → plan_asked task schema query t ≡ Ok p → limit_test task.memory (shape_bytes p) ≡ Ok tt
       → plan_stage task schema query rows ≡ Ok (Planned (run_asked task query rows p))
   plan_stage_ok p is fits = plan_stage_at p is ∙ kept task.memory (shape_bytes p) (Planned (run_asked task query rows p)) fits
 
-  pub limit_told : (p : Shaped) → plan_asked task schema query t ≡ Ok p → (r : Refusal) → limit_test task.memory (shape_bytes p) ≡ Err r
+  pub limit_told : (p : AnyPlan) → plan_asked task schema query t ≡ Ok p → (r : Refusal) → limit_test task.memory (shape_bytes p) ≡ Err r
       → StopsBy (plan_stage task schema query rows) (ending.Refused r)
   limit_told p is r above =
-      subst (λ (s : Result Outcome Refusal). StopsBy s (ending.Refused r)) (sym (plan_stage_at p is))
+      subst (λ (s : Result RunOutcome Refusal). StopsBy s (ending.Refused r)) (sym (plan_stage_at p is))
       (stops task.memory (shape_bytes p) (Planned (run_asked task query rows p)) r above)
 
   pub plan_told : (e : PlanError) → (e ≡ plan.NoMemory) ⊎ (plan_asked task schema query t ≡ Err e) → StopsBy (plan_stage task schema query rows) (plan_ending e)
   unfolding plan_stage
   plan_told e h =
       plan_tells limited (plan_asked task schema query (tables_in rows)) e
-      (subst (λ (r : Result Shaped PlanError). (e ≡ plan.NoMemory) ⊎ (r ≡ Err e)) (sym over_rows) h)
+      (subst (λ (r : Result AnyPlan PlanError). (e ≡ plan.NoMemory) ⊎ (r ≡ Err e)) (sym over_rows) h)

@@ -17,9 +17,9 @@ use Rattle.table_files.specs.Stage.{table_at}
 use Rattle.table_files.specs.TableFile.{rows_in}
 use Rattle.prepared_runs.specs.Appending.{append_run, grown_stage, rows_run, section_stage, stats_run}
 use Rattle.safebound_words.specs.declared.command.NewRows.{NewRows}
-use Rattle.prepared_runs.specs.Filed.{stats_stage}
-use Rattle.prepared_runs.specs.Outcome.{Appended, AppendedRows, NoBoundIsTooLow, Outcome, StandsForMore}
-use Rattle.prepared_runs.proofs.FiledRuns.{stats_keep}
+use Rattle.prepared_runs.specs.StatsFiles.{stats_stage}
+use Rattle.prepared_runs.specs.RunOutcome.{Appended, AppendedRows, NoBoundIsTooLow, RunOutcome, StandsForMore}
+use Rattle.prepared_runs.proofs.StatsFileRuns.{stats_keep}
 
 -- what holds of the first step's value, and then of the second's
 pub then_ok : {A B : Type 0} (P : A → Type 0) (Q : B → Type 0) (r : Result A Refusal) (f : A → Result B Refusal) → IfOk r P → ((x : A) → P x → IfOk (f x) Q) → IfOk (r >>= f) Q
@@ -30,7 +30,7 @@ pub any_ok : {A B : Type 0} (Q : B → Type 0) (r : Result A Refusal) (f : A →
 any_ok Q (Ok x) f next = next x
 any_ok Q (Err s) f next = tt
 
-module _ (append : NewRows) (schema : Schema) (Q : Outcome → Type 0) (so : (made : AppendedRows) → StandsForMore made → Q (Appended made)) where
+module _ (append : NewRows) (schema : Schema) (Q : RunOutcome → Type 0) (so : (made : AppendedRows) → StandsForMore made → Q (Appended made)) where
   abbrev with_rows : StatsFile → ℕ → List Row → AppendedRows
   with_rows stats table rows = record { schema = schema; table = table; rows = rows; file = file_after stats table rows }
 

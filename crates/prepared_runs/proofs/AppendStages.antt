@@ -9,7 +9,7 @@ use Rattle.appended_stats.specs.Appended.{file_after}
 use Rattle.base_io.specs.Devices.{Reading}
 use Rattle.base_io.specs.Files.{Files}
 use Rattle.csv_tables.specs.Rows.{Row}
-use Rattle.filed_stats.proofs.Finding.{found_in}
+use Rattle.stats_file_of_query.proofs.Finding.{found_in}
 use Rattle.limits.specs.Profile.{most_rows}
 use Rattle.outcomes.specs.Reads.{◌>>=◌, AtFile, IsOfWhatIsThere, Reads, StopsBy, seen}
 use Rattle.outcomes.specs.declared.ending.Ending.{Ending}
@@ -31,9 +31,9 @@ use Rattle.prepared_runs.specs.Appending.{append_run, grown_stage, is_of_table, 
 use Rattle.safebound_words.specs.declared.command.NewRows.{NewRows}
 use Rattle.safebound_words.specs.declared.command.Aim.TheVariants as aims
 use Rattle.prepared_runs.specs.Counted.{HasAsMany, counted}
-use Rattle.prepared_runs.specs.Filed.{stats_stage}
-use Rattle.prepared_runs.specs.Outcome.{Appended, Outcome}
-use Rattle.prepared_runs.specs.Ready.{appended_from}
+use Rattle.prepared_runs.specs.StatsFiles.{stats_stage}
+use Rattle.prepared_runs.specs.RunOutcome.{Appended, RunOutcome}
+use Rattle.prepared_runs.specs.PreparedRun.{appended_from}
 use Rattle.prepared_runs.specs.Verdict.{IsAimFile}
 use Rattle.prepared_runs.specs.declared.append.Counted.{Counted}
 use Rattle.prepared_runs.specs.declared.append.PreparedAppend.{PreparedAppend}
@@ -163,7 +163,7 @@ module _ (append : NewRows) (schema : Schema) (stats : StatsFile) where
       (λ files. (ap (λ (r : Result TableStats Refusal). r >>= λ section. rows_run append.rows_file schema stats section.table section.rows files) told.0, told.1, told.2))
       misses later same
 
-  pub section_ran : {store : Reading} (found : Counted) (answer : Result Outcome Ending) → seen counted (section_stage append.table schema stats) ≡ Ok found
+  pub section_ran : {store : Reading} (found : Counted) (answer : Result RunOutcome Ending) → seen counted (section_stage append.table schema stats) ≡ Ok found
       → Reads store (rows_run append.rows_file schema stats found.table found.rows) (AtFile (file.Table found.table)) answer → Reads store (stats_run append schema stats) AtRows answer
   unfolding stats_run
   section_ran {store} found answer is h =
@@ -189,7 +189,7 @@ module _ (append : NewRows) (schema : Schema) where
   reached stats files id is at' =
       inr (subst (λ (r : Result StatsFile Refusal). IsOkAnd (r >>= λ s. section_stage append.table schema s) (λ section. id ≡ file.Table section.table)) (sym is) at')
 
-  pub append_ran : (first second : Reading) (stats : StatsFile) (answer : Result Outcome Ending) → Meets first second
+  pub append_ran : (first second : Reading) (stats : StatsFile) (answer : Result RunOutcome Ending) → Meets first second
       → Reads first (stats_stage append.stats_file schema) (AtFile file.Stats) (Ok stats) → Reads second (stats_run append schema stats) (AtRows append schema stats) answer
       → Reads (joined first second) (append_run append schema) (IsAimFile (aims.Append append) schema) answer
   unfolding append_run

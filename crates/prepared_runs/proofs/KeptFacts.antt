@@ -27,19 +27,19 @@ use Rattle.outcomes.specs.declared.refusal.Refusal.{Refusal}
 use Rattle.table_files.specs.EntryTables.{entry_rows, tables_in}
 use Rattle.safebound_words.specs.declared.command.Command.{Command}
 use Rattle.prepared_runs.specs.Kept.{bytes_in, counts_in, plan_joined, rows_in, AreDone, HasParts, IsJoined, IsKept, IsLeft, KeepsItsBuffers}
-use Rattle.prepared_runs.specs.Outcome.{Outcome, Planned}
-use Rattle.prepared_runs.specs.Prepared.{bytes_held, plan_in, plan_left, text_left, AreListed, HoldsBytes}
+use Rattle.prepared_runs.specs.RunOutcome.{RunOutcome, Planned}
+use Rattle.prepared_runs.specs.PreparedQuery.{bytes_held, plan_in, plan_left, text_left, AreOverLists, HoldsBytes}
 use Rattle.prepared_runs.specs.Shapes.{answer_of, part_count, part_rows, part_sizes, parts_bytes, planned_by, scan_bounds, shape_bytes}
 use Rattle.prepared_runs.specs.Shops.{shop_of, store_read}
 use Rattle.prepared_runs.specs.Sources.{Sourced}
 use Rattle.prepared_runs.specs.Verdict.{aim_run, command_run, command_stage, schema_stage, verdict}
 use Rattle.prepared_runs.specs.declared.joined.Joined.{Joined}
 use Rattle.prepared_runs.specs.declared.joined.Joined.TheVariants as joined
-use Rattle.prepared_runs.specs.declared.prepare.Rest.{Rest}
-use Rattle.prepared_runs.specs.declared.prepare.Rest.TheVariants as rest
+use Rattle.prepared_runs.specs.declared.prepare.PendingOutput.{PendingOutput}
+use Rattle.prepared_runs.specs.declared.prepare.PendingOutput.TheVariants as rest
 use Rattle.prepared_runs.specs.declared.scans.Joins.{Joins}
-use Rattle.prepared_runs.specs.declared.shapes.Shaped.{Shaped}
-use Rattle.prepared_runs.specs.declared.shapes.Shaped.TheVariants as shaped
+use Rattle.prepared_runs.specs.declared.shapes.AnyPlan.{AnyPlan}
+use Rattle.prepared_runs.specs.declared.shapes.AnyPlan.TheVariants as shaped
 use Rattle.safebound_words.specs.declared.command.ListSource.{ListSource}
 use Rattle.safebound_words.specs.declared.command.Shape.{Shape}
 use Rattle.safebound_words.specs.declared.command.Shape.TheVariants as shapes
@@ -78,25 +78,25 @@ order_scans sets scans budget plan made =
     ext_get_or 0 plan.scans scans (is_plan_from sets scans (length scans) budget refl plan made).scans (λ k low. scan_kept sets scans (length scans) budget refl plan made k)
 
 module _ (query : Query) (tables : Tables) (lists : List (List ℕ)) (sets scans : List ℕ) (budget : ℕ) (bound : BoundLists query tables lists scans) (some : 1 ≤ length query.from) (few : length query.from ≤ 12) where
-  answer_scans : (shape : Shape) (plan : Shaped) → answer_of shape sets scans budget ≡ Ok plan → scan_bounds plan ≡ scans
+  answer_scans : (shape : Shape) (plan : AnyPlan) → answer_of shape sets scans budget ≡ Ok plan → scan_bounds plan ≡ scans
   answer_scans shapes.Order plan made =
       let it = seen_ok along (plan_answer sets scans budget) plan made in
-      subst (λ (p : Shaped). scan_bounds p ≡ scans) it.2 (order_scans sets scans budget it.0 it.1)
+      subst (λ (p : AnyPlan). scan_bounds p ≡ scans) it.2 (order_scans sets scans budget it.0 it.1)
   answer_scans shapes.Tree plan made =
       let it = seen_ok over (tree_answer sets scans budget) plan made in
-      subst (λ (p : Shaped). scan_bounds p ≡ scans) it.2 (stages.scans_kept query tables lists sets scans budget it.0 bound some few it.1)
+      subst (λ (p : AnyPlan). scan_bounds p ≡ scans) it.2 (stages.scans_kept query tables lists sets scans budget it.0 bound some few it.1)
 
 pub scans_given : (query : Query) (tables : Tables) (given : Sourced) (accuracy budget : ℕ) → BoundLists query tables given.lists (given.scans accuracy) → 1 ≤ length query.from → length query.from ≤ 12
-    → (shape : Shape) (plan : Shaped) → planned_by shape given accuracy budget ≡ Ok plan → scan_bounds plan ≡ given.scans accuracy
+    → (shape : Shape) (plan : AnyPlan) → planned_by shape given accuracy budget ≡ Ok plan → scan_bounds plan ≡ given.scans accuracy
 unfolding planned_by
 scans_given query tables given accuracy budget bound some few shape plan made =
     answer_scans query tables given.lists (given.sets accuracy) (given.scans accuracy) budget bound some few shape plan made
 
 -- ---- the bytes of a plan
 
-pub all_bytes : (plan : Shaped) → lists_bytes (scan_bounds plan) + parts_bytes plan ≡ shape_bytes plan
-all_bytes (shaped.Along plan) = refl
-all_bytes (shaped.Over plan) = refl
+pub all_bytes : (plan : AnyPlan) → lists_bytes (scan_bounds plan) + parts_bytes plan ≡ shape_bytes plan
+all_bytes (shaped.OrderPlan plan) = refl
+all_bytes (shaped.TreePlan plan) = refl
 
 -- ---- joins that are done
 
@@ -116,7 +116,7 @@ module _ (query : Query) (db : Database) (lists : List (List ℕ)) where
 pub are_done : (query : Query) (db : Database) (joins : Joins) (it : Joined) → plan_joined it ≡ plan_in joins.room → IsJoined query db (lists_of joins.lists.items) it → bytes_in it ≡ bytes_held joins → AreDone query db joins it
 are_done query db joins it same is bytes = record {
   plan = same;
-  parts = subst (λ (plan : Shaped). (k : ℕ) → k < part_count plan → rows_in it k ≡ part_rows query (tables_of db) (lists_of joins.lists.items) plan k) same
+  parts = subst (λ (plan : AnyPlan). (k : ℕ) → k < part_count plan → rows_in it k ≡ part_rows query (tables_of db) (lists_of joins.lists.items) plan k) same
       (parts_are query db (lists_of joins.lists.items) it is);
   bytes = bytes;
 }
@@ -130,7 +130,7 @@ module _ (query : Query) (db : Database) (source : ListSource) (lists : List (Li
       ∙ ap (λ (l : List (List ℕ)). part_rows query (tables_of db) l (plan_in joins.room) k) are
       ∙ ap (λ (t : Tables). part_rows query t lists (plan_in joins.room) k) (sym same)
 
-  pub kept_is : (bytes : ℕ) (left : Rest) (kept : Option Joined) → AreListed lists left → HoldsBytes bytes left → bytes ≡ shape_bytes (plan_left left) → IsLeft query db left kept
+  pub kept_is : (bytes : ℕ) (left : PendingOutput) (kept : Option Joined) → AreOverLists lists left → HoldsBytes bytes left → bytes ≡ shape_bytes (plan_left left) → IsLeft query db left kept
       → IsKept (Planned (record { query = query; rows = entry_rows db; plan = plan_left left; source = source; lists = lists; memory = memory; out = text_left left })) kept
   kept_is bytes (rest.Rows joins) (Some it) are holds is done =
       record { plan = done.plan; parts = kept_joins joins bytes it are holds is done; bytes = done.bytes ∙ holds ∙ is }
@@ -149,7 +149,7 @@ pub keeps_so : (ask : Command) {first : Reading} (after : Option Files) (schema 
 unfolding command_run
 keeps_so ask {first} after schema kept reads meets keeps files told =
     let stage : (schema_stage ask.schema_file files >>= (λ (s : Schema). aim_run ask.aim s files)) ≡ aim_run ask.aim schema files = rw (reads.gives files told) refl in
-    subst (λ (r : Result Outcome Refusal). IsOkAnd r (λ outcome. IsKept outcome kept)) (sym stage) (keeps files (sym meets ∙ reads.same ∙ told))
+    subst (λ (r : Result RunOutcome Refusal). IsOkAnd r (λ outcome. IsKept outcome kept)) (sym stage) (keeps files (sym meets ∙ reads.same ∙ told))
 
 -- and from the words on
 pub keeps_verdict : (words : List (List ℕ)) (ask : Command) → command_stage words ≡ Ok ask → (handed_in : Reading) (shop : Option ℕ) (kept : Option Joined) → shop_of words ≡ shop
@@ -157,5 +157,5 @@ pub keeps_verdict : (words : List (List ℕ)) (ask : Command) → command_stage 
 unfolding verdict
 keeps_verdict words ask command handed_in shop kept is keeps files told =
     let stage : (command_stage words >>= (λ (a : Command). command_run a files)) ≡ command_run ask files = rw command refl in
-    subst (λ (r : Result Outcome Refusal). IsOkAnd r (λ outcome. IsKept outcome kept)) (sym stage)
+    subst (λ (r : Result RunOutcome Refusal). IsOkAnd r (λ outcome. IsKept outcome kept)) (sym stage)
     (keeps files (ap (λ (s : Option ℕ). (store_read s handed_in).files) (sym is) ∙ told))

@@ -21,14 +21,14 @@ use Rattle.join_graph.specs.Conjuncts.{equalities_of}
 use Rattle.sql_meaning.specs.Tables.{Tables, row_counts}
 use Rattle.level_bounds.specs.Keys.{value_at}
 use Rattle.level_bounds.proofs.Lists.{all_from}
-use Rattle.key_carriers.specs.Carriers.{is_just, is_key, no_source, table_at, table_of}
-use Rattle.key_carriers.specs.Keys.{AreApart, KeysHold}
+use Rattle.key_carriers.specs.Carriers.{is_just, is_declared_key, no_source, table_at, table_of}
+use Rattle.key_carriers.specs.DeclaredKeys.{HaveUniqueValues, DeclaredKeysHold}
 use Rattle.table_files.specs.EntryTables.{AreOfAFile, AreOfFiles, tables_in}
 use Rattle.table_files.specs.Stage.{numbers_of, tables_stage}
 use Rattle.table_files.proofs.FileKeys.{KeepsKeys, file_keeps, rows_apart}
 use Rattle.table_files.proofs.StagedFiles.{staged_files}
 use Rattle.join_graph.proofs.FromEntries.{names_its_entries}
-use Rattle.filed_bounds.proofs.Telling.{place_low}
+use Rattle.stats_file_bounds.proofs.Telling.{place_low}
 use Rattle.prepared_runs.specs.Sources.{Needs}
 use Rattle.safebound_words.specs.declared.command.ListSource.{ListSource}
 use Rattle.safebound_words.specs.declared.command.ListSource.TheVariants as sources
@@ -52,25 +52,25 @@ module _ (schema : Schema) (query : Query) (tables : Tables) (own : NamesItsEntr
   table_is : (entry : ℕ) → entry < length query.from → get_or (numbers_of query.from) entry 0 ≡ table_of query entry
   table_is entry low = get_or-map (λ (source : Source). source.table) query.from entry no_source 0 low
 
-  apart_at : (entry column : ℕ) → entry < length query.from → is_key schema (table_of query entry) column ≡ true → AreApart tables entry column
+  apart_at : (entry column : ℕ) → entry < length query.from → is_declared_key schema (table_of query entry) column ≡ true → HaveUniqueValues tables entry column
   apart_at entry column low key =
       let table : Table = table_at schema (table_of query entry) in
       let file : AreOfAFile table (tables entry) = subst (λ (n : ℕ). AreOfAFile (table_at schema n) (tables entry)) (table_is entry low) (of_files entry low) in
       let keeps : KeepsKeys table (tables entry) = file_keeps table file.0 (tables entry) file.1 in
       rows_apart (tables entry) keeps.readable column (key_without column table.keys (tables entry) keeps.keys key)
 
-  pub keys_hold : KeysHold schema query tables
-  keys_hold = all_from (λ (p : Place). is_key schema (table_of query p.entry) p.column ≡ true → AreApart tables p.entry p.column) (places_of (equalities_of query))
+  pub keys_hold : DeclaredKeysHold schema query tables
+  keys_hold = all_from (λ (p : Place). is_declared_key schema (table_of query p.entry) p.column ≡ true → HaveUniqueValues tables p.entry p.column) (places_of (equalities_of query))
       (λ p there key. apart_at p.entry p.column (place_low query own p there) key)
 
 -- of a query's tables, as the stage reads them
 pub read_keys_hold : (schema : Schema) (query : Query) (files : Files) (rows : List (List Row)) → IsOf schema query → tables_stage schema query.from files ≡ Ok rows
-    → KeysHold schema query (tables_in rows)
+    → DeclaredKeysHold schema query (tables_in rows)
 read_keys_hold schema query files rows of staged = keys_hold schema query (tables_in rows) (names_its_entries schema query of) (staged_files schema query.from files rows staged)
 
 -- ---- what a source needs
 
-pub needs_met : (source : ListSource) (schema : Schema) (query : Query) (tables : Tables) → KeysHold schema query tables → Needs source schema query tables
+pub needs_met : (source : ListSource) (schema : Schema) (query : Query) (tables : Tables) → DeclaredKeysHold schema query tables → Needs source schema query tables
 needs_met sources.Columns schema query tables holds = tt
 needs_met sources.Keyed schema query tables holds = holds
 needs_met sources.Reduced schema query tables holds = tt

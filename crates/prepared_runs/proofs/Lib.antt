@@ -8,7 +8,7 @@
 --   other by `subst` and `ap`. No lemma is needed to say that a query asks only its own entries' tables.
 -- - What holds of an accepted verdict is one induction over its stages (`Runs`): each stage is a `>>=`, and `then_ok` carries a predicate
 --   through it. The two sentences on bounds and rows are then one line each, over plain tables, and need no code.
--- - What is left to do is an enum that owns its memory (`Rest`): it determines which text goes to out (`text_left`), so no invariant has to
+-- - What is left to do is an enum that owns its memory (`PendingOutput`): it determines which text goes to out (`text_left`), so no invariant has to
 --   connect a command with a reservation.
 -- - A function can be proved before the functions that it calls, over stand-ins with the same contracts. A planned query that is always
 --   refused makes each law of plans true (`absurd`), and a call with `requires ⊥` needs no body.
@@ -44,7 +44,7 @@
 --
 -- Shapes
 --
--- - What is said of a plan goes by one family of definitions over `Shaped` (specs/Shapes: its parts, their bounds and rows, its texts), so
+-- - What is said of a plan goes by one family of definitions over `AnyPlan` (specs/Shapes: its parts, their bounds and rows, its texts), so
 --   the eight sentences, the verdict and the texts have no case for a tree. Only ShapeFacts and RootFacts, and the functions of `shapes` and
 --   `texts`, go by cases on the shape.
 -- - The entries of a choice for all of them are an order of the query's entries in both shapes (`joined_entries`, `order_is`). So that the
@@ -59,8 +59,8 @@ pub mod Answered
 pub mod AppendRuns
 pub mod AppendStages
 pub mod CommandFacts
-pub mod FiledRuns
-pub mod FiledStages
+pub mod StatsFileRuns
+pub mod StatsFileStages
 pub mod Found
 pub mod KeptFacts
 pub mod KeyFacts

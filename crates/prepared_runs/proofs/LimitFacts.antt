@@ -6,7 +6,7 @@ use Rattle.outcomes.specs.Reads.{MissesNothing, StopsBy}
 use Rattle.outcomes.specs.declared.ending.Ending.TheVariants as ending
 use Rattle.outcomes.specs.declared.refusal.Refusal.{Refusal}
 use Rattle.outcomes.specs.declared.refusal.Refusal.TheVariants as refusal
-use Rattle.prepared_runs.specs.Limits.{AreWithin, limit_test, within_limit}
+use Rattle.prepared_runs.specs.Limits.{IsWithinLimit, limit_test, within_limit}
 
 -- ---- by one test
 
@@ -50,13 +50,13 @@ most_if most n is = grind (arith, nat_tests)
 
 module _ {A : Type 0} where
   -- what was let through
-  pub within_ok : (limit : Option ℕ) (bytes : ℕ) (x y : A) → within_limit limit bytes x ≡ Ok y → (x ≡ y) × AreWithin limit bytes
+  pub within_ok : (limit : Option ℕ) (bytes : ℕ) (x y : A) → within_limit limit bytes x ≡ Ok y → (x ≡ y) × IsWithinLimit limit bytes
   unfolding tested
   within_ok None bytes x y e = (cc, tt)
   within_ok (Some limit) bytes x y e = let its = test_ok (nat_le bytes limit) bytes x y e in (its.1, most_if limit bytes its.0)
 
   -- what holds of a value within the limit holds of what is let through
-  pub within_so : (P : A → Type 0) (limit : Option ℕ) (bytes : ℕ) (x : A) → (AreWithin limit bytes → P x) → IfOk (within_limit limit bytes x) P
+  pub within_so : (P : A → Type 0) (limit : Option ℕ) (bytes : ℕ) (x : A) → (IsWithinLimit limit bytes → P x) → IfOk (within_limit limit bytes x) P
   unfolding tested
   within_so P None bytes x h = h tt
   within_so P (Some limit) bytes x h = test_so P (nat_le bytes limit) bytes x (λ is. h (most_if limit bytes is))

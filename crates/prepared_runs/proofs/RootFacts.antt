@@ -28,7 +28,7 @@ use Rattle.joined_texts.specs.Printed.{node_counts, printed_rows, selected_rows}
 use Rattle.joined_texts.proofs.AuditLines.{node_count_at, node_count_long}
 use Rattle.prepared_runs.specs.Shapes.{part_sizes}
 use Rattle.prepared_runs.specs.Standing.{LoseNoRow}
-use Rattle.prepared_runs.specs.declared.shapes.Shaped.TheVariants as shaped
+use Rattle.prepared_runs.specs.declared.shapes.AnyPlan.TheVariants as shaped
 use Rattle.prepared_runs.proofs.ShapeFacts.{order_is, order_of}
 
 and_false : (b : Bool) → (b && false) ≡ false
@@ -62,11 +62,11 @@ module _ (query : Query) (db : Database) (plan : BushyPlan) (is : IsTreePlan (le
   root_rows =
       root_chosen query (tables_of db) plan is lists
       ∙ ap (λ (placed : List ℕ). level_over (conjuncts_of query (tables_of db)) (list_at lists) placed) (sym (take-length its))
-      ∙ rows.last (own_entries query db database) its (order_is query (shaped.Over plan) is)
+      ∙ rows.last (own_entries query db database) its (order_is query (shaped.TreePlan plan) is)
 
   root_choices : All (IsChoiceOf (row_counts (tables_of db)) its) (node_rows query (tables_of db) lists plan (node_count plan - 1))
   root_choices =
-      let order = order_of query (shaped.Over plan) is in
+      let order = order_of query (shaped.TreePlan plan) is in
       subst (All (IsChoiceOf (row_counts (tables_of db)) its)) (sym (root_chosen query (tables_of db) plan is lists))
       (All-from_recursion (IsChoiceOf (row_counts (tables_of db)) its) (chosen_rows query (tables_of db) lists its)
       (are_choices query db lists rows.scanned its order.entries))
@@ -92,7 +92,7 @@ module _ (query : Query) (db : Database) (plan : BushyPlan) (is : IsTreePlan (le
   root_listed = ap (λ (node : Node). node.rows) root_is ∙ listed (node_count plan - 1) there
 
   pub root_order : IsOrderOf query (root_of query done).entries
-  root_order = subst (IsOrderOf query) (sym root_entries) (order_of query (shaped.Over plan) is)
+  root_order = subst (IsOrderOf query) (sym root_entries) (order_of query (shaped.TreePlan plan) is)
 
   pub root_whole : All (IsChoiceOf (row_counts (tables_of db)) (root_of query done).entries) (root_of query done).rows
   root_whole =
@@ -109,7 +109,7 @@ module _ (query : Query) (tables : Tables) (plan : BushyPlan) (is : IsTreePlan (
   abbrev size : ℕ → ℕ
   size k = length (node_rows query tables lists plan (length plan.scans + k))
 
-  pub counts_of_nodes : node_counts (length plan.scans) done ≡ part_sizes query tables lists (shaped.Over plan)
+  pub counts_of_nodes : node_counts (length plan.scans) done ≡ part_sizes query tables lists (shaped.TreePlan plan)
   counts_of_nodes =
       let many : ℕ = length plan.joins in
       ext_get_or 0 (node_counts (length plan.scans) done) (map size (range_with_len 0 many))

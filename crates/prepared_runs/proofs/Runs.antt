@@ -29,16 +29,16 @@ use Rattle.table_files.specs.TableFile.{read}
 use Rattle.join_steps.specs.Lists.{list_at, scans_of, list_sizes}
 use Rattle.join_steps.proofs.WholeScans.{scan_at, size_at}
 use Rattle.reduced_scans.specs.Rounds.{reduced_of}
-use Rattle.prepared_runs.specs.Accepted.{Accepted, BoundsHold, IsOverReducedScans, IsOverWholeScans, RowsAreTheAnswer, tables}
+use Rattle.prepared_runs.specs.AcceptedQuery.{AcceptedQuery, BoundsHold, IsOverReducedScans, IsOverWholeScans, RowsAreTheAnswer, tables}
 use Rattle.safebound_words.specs.InRange.{HasRanges, IsInRange, WorkHasRanges}
 use Rattle.safebound_words.specs.declared.command.Aim.{Aim}
 use Rattle.safebound_words.specs.declared.command.Command.{Command}
 use Rattle.safebound_words.specs.declared.command.Work.{Work}
 use Rattle.safebound_words.specs.declared.command.Aim.TheVariants as aims
 use Rattle.safebound_words.specs.declared.command.Work.TheVariants as works
-use Rattle.prepared_runs.specs.Filed.{stats_stage}
-use Rattle.prepared_runs.specs.Limits.{AreWithin}
-use Rattle.prepared_runs.specs.Outcome.{Appended, Filed, KeepsItsLimit, NoBoundIsTooLow, Outcome, Planned, PlannedByFile, PrintsTheAnswer}
+use Rattle.prepared_runs.specs.StatsFiles.{stats_stage}
+use Rattle.prepared_runs.specs.Limits.{IsWithinLimit}
+use Rattle.prepared_runs.specs.RunOutcome.{Appended, StatsMade, KeepsItsLimit, NoBoundIsTooLow, RunOutcome, Planned, PlannedFromStats, PrintsTheAnswer}
 use Rattle.prepared_runs.specs.Shapes.{joined_entries, part_rows, scan_bounds, shape_bytes}
 use Rattle.prepared_runs.specs.Sources.{Needs, Sourced, lists_by, scans_by, sourced}
 use Rattle.prepared_runs.specs.Standing.{IsSource, LoseNoRow}
@@ -47,8 +47,8 @@ use Rattle.safebound_words.specs.declared.command.ListSource.TheVariants as sour
 use Rattle.prepared_runs.specs.Verdict.{aim_run, command_run, command_stage, plan_asked, plan_stage, query_of_text, query_stage, run_asked, schema_of_text, schema_stage, verdict, work_run}
 use Rattle.join_graph.proofs.FromEntries.{names_its_entries}
 use Rattle.prepared_runs.proofs.AppendRuns.{any_ok, append_holds, then_ok}
-use Rattle.prepared_runs.proofs.FiledRuns.{filed_plan_holds, filed_stands, stats_keep}
-use Rattle.prepared_runs.specs.declared.shapes.Shaped.{Shaped}
+use Rattle.prepared_runs.proofs.StatsFileRuns.{filed_plan_holds, filed_stands, stats_keep}
+use Rattle.prepared_runs.specs.declared.shapes.AnyPlan.{AnyPlan}
 use Rattle.safebound_words.specs.declared.command.PlanWork.{PlanWork}
 use Rattle.prepared_runs.proofs.LimitFacts.{within_so}
 use Rattle.prepared_runs.proofs.CommandFacts.{has_ranges}
@@ -78,19 +78,19 @@ schema_ok name files =
     (λ text. ok_so IsValid schema_refusal (schema_answer text) (λ schema e. schemas.valid text schema e))
 
 -- a query that names its own entries, over the rows that its source gives and by its plan
-pub record IsRun (run : Accepted) : Type 0 where
+pub record IsRun (run : AcceptedQuery) : Type 0 where
   pub own : NamesItsEntries run.query
   pub lists : run.lists ≡ lists_by run.source run.query (tables run)
   pub rows : LoseNoRow run.query (tables run) run.lists
   pub bounds : Fits run.query (tables run) run.lists run.plan
-  pub limit : AreWithin run.memory (shape_bytes run.plan)
+  pub limit : IsWithinLimit run.memory (shape_bytes run.plan)
   pub scans : (accuracy : ℕ) × ((entry : ℕ) → get_or (scan_bounds run.plan) entry 0 ≡ get_or (scans_by run.source run.query (tables run) accuracy) entry 0)
 
 -- a plan over tables is such a run, and else what is promised of it holds
-abbrev IsSound : Outcome → Type 0
+abbrev IsSound : RunOutcome → Type 0
 IsSound (Planned run) = IsRun run
-IsSound (Filed filed) = NoBoundIsTooLow (Filed filed)
-IsSound (PlannedByFile made) = NoBoundIsTooLow (PlannedByFile made) × KeepsItsLimit (PlannedByFile made)
+IsSound (StatsMade made_stats) = NoBoundIsTooLow (StatsMade made_stats)
+IsSound (PlannedFromStats made) = NoBoundIsTooLow (PlannedFromStats made) × KeepsItsLimit (PlannedFromStats made)
 IsSound (Appended made) = NoBoundIsTooLow (Appended made)
 
 plan_ok : (task : PlanWork) (schema : Schema) (query : Query) (rows : List (List Row)) → Needs task.source schema query (tables_in rows) → IsInRange task → 1 ≤ length query.from → length query.from ≤ 12 → NamesItsEntries query → IfOk (plan_stage task schema query rows) IsSound
@@ -100,10 +100,10 @@ plan_ok task schema query rows needs range some few own =
     (ok_so IsMade plan_refusal (plan_asked task schema query (tables_in rows)) made_ok)
     (λ plan is. within_so IsSound task.memory (shape_bytes plan) (Planned (run_asked task query rows plan)) is)
   where
-    IsMade : Shaped → Type 0
-    IsMade plan = AreWithin task.memory (shape_bytes plan) → IsRun (run_asked task query rows plan)
+    IsMade : AnyPlan → Type 0
+    IsMade plan = IsWithinLimit task.memory (shape_bytes plan) → IsRun (run_asked task query rows plan)
 
-    made_ok : (plan : Shaped) → plan_asked task schema query (tables_in rows) ≡ Ok plan → IsMade plan
+    made_ok : (plan : AnyPlan) → plan_asked task schema query (tables_in rows) ≡ Ok plan → IsMade plan
     made_ok plan made within =
         let given : Sourced = sourced task.source schema query (tables_in rows) in
         let is : IsSource query (tables_in rows) given = stand query (tables_in rows) schema task.source needs in
@@ -120,10 +120,10 @@ work_ok : (work : Work) (schema : Schema) (query : Query) (files : Files) → Wo
 work_ok (works.Plan task) schema query files range valid of =
     then_ok (λ rows. tables_stage schema query.from files ≡ Ok rows) IsSound (tables_stage schema query.from files) _ (is_ok (tables_stage schema query.from files))
     (λ rows is. plan_ok task schema query rows (needs_read task.source schema query files rows of is) range (omega (arith, of.some)) of.few (names_its_entries schema query of))
-work_ok (works.File accuracy) schema query files range valid of =
+work_ok (works.WriteStats accuracy) schema query files range valid of =
     then_ok (λ rows. tables_stage schema query.from files ≡ Ok rows) IsSound (tables_stage schema query.from files) _ (is_ok (tables_stage schema query.from files))
     (λ rows is. filed_stands schema query files accuracy rows is)
-work_ok (works.PlanFrom name budget memory) schema query files range valid of =
+work_ok (works.PlanFromStats name budget memory) schema query files range valid of =
     then_ok (KeepsRules schema) IsSound (stats_stage name schema files) _ (stats_keep name schema files valid)
     (λ stats keeps. filed_plan_holds schema query of stats keeps budget range memory IsSound (λ plan holds within. (holds, within)))
 
@@ -146,7 +146,7 @@ verdict_ok words files =
 
 -- ---- two sentences
 
-module _ (run : Accepted) (is : IsRun run) where
+module _ (run : AcceptedQuery) (is : IsRun run) where
   abbrev lists_from : ListSource → List (List ℕ)
   lists_from source = lists_by source run.query (tables run)
 
@@ -206,25 +206,25 @@ module _ (run : Accepted) (is : IsRun run) where
       ∙ ap (λ (placed : List ℕ). level_of (conjuncts_of run.query (tables run)) (row_counts (tables run)) placed) (take-length its)))
       (last_level_is_answer run.query (tables run) its is.own order)
 
-no_bound : (outcome : Outcome) → IsSound outcome → NoBoundIsTooLow outcome
+no_bound : (outcome : RunOutcome) → IsSound outcome → NoBoundIsTooLow outcome
 no_bound (Planned run) is = run_bounds run is
-no_bound (Filed filed) is = is
-no_bound (PlannedByFile made) is = is.0
+no_bound (StatsMade made_stats) is = is
+no_bound (PlannedFromStats made) is = is.0
 no_bound (Appended made) is = is
 
-prints : (outcome : Outcome) → IsSound outcome → PrintsTheAnswer outcome
+prints : (outcome : RunOutcome) → IsSound outcome → PrintsTheAnswer outcome
 prints (Planned run) is = run_rows run is
-prints (Filed filed) is = tt
-prints (PlannedByFile made) is = tt
+prints (StatsMade made_stats) is = tt
+prints (PlannedFromStats made) is = tt
 prints (Appended made) is = tt
 
-keeps : (outcome : Outcome) → IsSound outcome → KeepsItsLimit outcome
+keeps : (outcome : RunOutcome) → IsSound outcome → KeepsItsLimit outcome
 keeps (Planned run) is = is.limit
-keeps (Filed filed) is = tt
-keeps (PlannedByFile made) is = is.1
+keeps (StatsMade made_stats) is = tt
+keeps (PlannedFromStats made) is = is.1
 keeps (Appended made) is = tt
 
-so : (P : Outcome → Type 0) → ((outcome : Outcome) → IsSound outcome → P outcome) → (r : Result Outcome Refusal) → IfOk r IsSound → IfOk r P
+so : (P : RunOutcome → Type 0) → ((outcome : RunOutcome) → IsSound outcome → P outcome) → (r : Result RunOutcome Refusal) → IfOk r IsSound → IfOk r P
 so P holds (Ok outcome) is = holds outcome is
 so P holds (Err s) is = tt
 

@@ -29,7 +29,7 @@ use Rattle.level_bounds.proofs.SetNumbers.{order_of_all}
 use Rattle.planned_joins.specs.PlansOf.{HaveFewRows}
 use Rattle.outcomes.specs.Reads.{seen}
 use Rattle.planning.specs.declared.known.Known.{Known}
-use Rattle.planning.specs.Gives.{Gives}
+use Rattle.planning.specs.HasBounds.{HasBounds}
 use Rattle.planning.specs.Standing.{BoundLevels}
 use Rattle.planning.proofs.FromLists.{plan_over_lists, scan_kept}
 use Rattle.planning.proofs.ReducedPlans.{levels_of_scans}
@@ -38,8 +38,8 @@ use Rattle.prepared_runs.specs.Shapes.{IsPlanOver, IsShapedPlan, answer_of, join
 use Rattle.safebound_words.specs.Commands.{most_budget_of}
 use Rattle.prepared_runs.specs.Sources.{Sourced}
 use Rattle.prepared_runs.specs.Standing.{IsSource, LoseNoRow}
-use Rattle.prepared_runs.specs.declared.shapes.Shaped.{Shaped}
-use Rattle.prepared_runs.specs.declared.shapes.Shaped.TheVariants as shaped
+use Rattle.prepared_runs.specs.declared.shapes.AnyPlan.{AnyPlan}
+use Rattle.prepared_runs.specs.declared.shapes.AnyPlan.TheVariants as shaped
 use Rattle.safebound_words.specs.declared.command.Shape.{Shape}
 use Rattle.safebound_words.specs.declared.command.Shape.TheVariants as shapes
 
@@ -53,11 +53,11 @@ never_seen : {A B E : Type 0} (f : A → B) (r : Result A E) (e : E) → r ≢ E
 never_seen f (Ok x) e never is = cc
 never_seen f (Err other) e never is = let same : other ≡ e = cc in never (ap (λ (x : _). Err x) same)
 
-abbrev pub along : Plan → Shaped
-along plan = shaped.Along plan
+abbrev pub along : Plan → AnyPlan
+along plan = shaped.OrderPlan plan
 
-abbrev pub over : BushyPlan → Shaped
-over plan = shaped.Over plan
+abbrev pub over : BushyPlan → AnyPlan
+over plan = shaped.TreePlan plan
 
 pub never_wants_memory : (shape : Shape) (given : Sourced) (accuracy budget : ℕ) → planned_by shape given accuracy budget ≢ Err error.NoMemory
 unfolding planned_by
@@ -75,7 +75,7 @@ seen_answer {A} f r answer (inl none) = inl (ap (λ (x : Result A PlanError). se
 seen_answer {A} f r answer (inr is) = inr (ap (λ (x : Result A PlanError). seen f x) is)
 
 -- by bounds that are known the answer is the plan
-pub planned_known : (shape : Shape) (given : Sourced) (accuracy budget : ℕ) (known : Known) → Gives (given.sets accuracy) (given.scans accuracy) known
+pub planned_known : (shape : Shape) (given : Sourced) (accuracy budget : ℕ) (known : Known) → HasBounds (given.sets accuracy) (given.scans accuracy) known
     → answer_of shape known.sets known.scans budget ≡ planned_by shape given accuracy budget
 unfolding planned_by
 planned_known shape given accuracy budget known gives =
@@ -84,7 +84,7 @@ planned_known shape given accuracy budget known gives =
 -- ---- a plan by what a source gives
 
 -- it is one for each entry, and no list and no part has more rows than it says
-pub record Fits (query : Query) (tables : Tables) (lists : List (List ℕ)) (made : Shaped) : Type 0 where
+pub record Fits (query : Query) (tables : Tables) (lists : List (List ℕ)) (made : AnyPlan) : Type 0 where
   pub plan : IsShapedPlan (length query.from) made
   pub scans : (entry : ℕ) → entry < length query.from → rows_listed lists entry ≤ get_or (scan_bounds made) entry 0
   pub parts : (k : ℕ) → k < part_count made → length (part_rows query tables lists made k) ≤ part_bound made k
@@ -102,14 +102,14 @@ module _ (query : Query) (tables : Tables) (given : Sourced) (is : IsSource quer
   order_over : (plan : Plan) → budget ≤ 20000000 → plan_answer sets scans budget ≡ Ok plan → IsPlanOf query tables given.lists plan
   order_over plan small made = plan_over_lists query tables given.lists sets scans levels (is.of_scans accuracy) budget plan few small made
 
-  order_fits : (plan : Plan) → IsPlanOf query tables given.lists plan → Fits query tables given.lists (shaped.Along plan)
+  order_fits : (plan : Plan) → IsPlanOf query tables given.lists plan → Fits query tables given.lists (shaped.OrderPlan plan)
   order_fits plan of = record {
     plan = of.for_each_entry;
     scans = of.scans;
     parts = λ k low. of.levels k (omega (arith, low, of.for_each_entry.order.all));
   }
 
-  tree_fits : (plan : BushyPlan) → budget ≤ 4000000 → tree_answer sets scans budget ≡ Ok plan → Fits query tables given.lists (shaped.Over plan)
+  tree_fits : (plan : BushyPlan) → budget ≤ 4000000 → tree_answer sets scans budget ≡ Ok plan → Fits query tables given.lists (shaped.TreePlan plan)
   tree_fits plan small made = record {
     plan = stages.is_plan query tables given.lists sets scans budget plan (is.of_scans accuracy) some few made;
     scans = λ entry low. omega (
@@ -120,7 +120,7 @@ module _ (query : Query) (tables : Tables) (given : Sourced) (is : IsSource quer
     parts = λ k low. stages.nodes_fit query tables given.lists sets scans budget plan (is.of_scans accuracy) some few made levels small (length plan.scans + k) (omega arith);
   }
 
-  answer_fits : (shape : Shape) (plan : Shaped) → budget ≤ most_budget_of shape → answer_of shape sets scans budget ≡ Ok plan → Fits query tables given.lists plan
+  answer_fits : (shape : Shape) (plan : AnyPlan) → budget ≤ most_budget_of shape → answer_of shape sets scans budget ≡ Ok plan → Fits query tables given.lists plan
   answer_fits shapes.Order plan small made =
       let it = seen_ok along (plan_answer sets scans budget) plan made in
       subst (Fits query tables given.lists) it.2 (order_fits it.0 (order_over it.0 small it.1))
@@ -128,7 +128,7 @@ module _ (query : Query) (tables : Tables) (given : Sourced) (is : IsSource quer
       let it = seen_ok over (tree_answer sets scans budget) plan made in
       subst (Fits query tables given.lists) it.2 (tree_fits it.0 small it.1)
 
-  answer_over : (shape : Shape) (plan : Shaped) → budget ≤ most_budget_of shape → HaveFewRows tables (length query.from) → answer_of shape sets scans budget ≡ Ok plan
+  answer_over : (shape : Shape) (plan : AnyPlan) → budget ≤ most_budget_of shape → HaveFewRows tables (length query.from) → answer_of shape sets scans budget ≡ Ok plan
       → IsPlanOver query tables given.lists plan
   answer_over shapes.Order plan small rows made =
       let it = seen_ok along (plan_answer sets scans budget) plan made in
@@ -138,17 +138,17 @@ module _ (query : Query) (tables : Tables) (given : Sourced) (is : IsSource quer
       subst (IsPlanOver query tables given.lists) it.2
       (stages.over_lists query tables given.lists sets scans budget it.0 (is.of_scans accuracy) some few it.1 levels small rows)
 
-  answer_keeps : (shape : Shape) (plan : Shaped) → answer_of shape sets scans budget ≡ Ok plan → (entry : ℕ) → get_or (scan_bounds plan) entry 0 ≡ get_or scans entry 0
+  answer_keeps : (shape : Shape) (plan : AnyPlan) → answer_of shape sets scans budget ≡ Ok plan → (entry : ℕ) → get_or (scan_bounds plan) entry 0 ≡ get_or scans entry 0
   answer_keeps shapes.Order plan made entry =
       let it = seen_ok along (plan_answer sets scans budget) plan made in
-      subst (λ (p : Shaped). get_or (scan_bounds p) entry 0 ≡ get_or scans entry 0) it.2
+      subst (λ (p : AnyPlan). get_or (scan_bounds p) entry 0 ≡ get_or scans entry 0) it.2
       (scan_kept sets scans (length query.from) budget (is.of_scans accuracy).one_each it.0 it.1 entry)
   answer_keeps shapes.Tree plan made entry =
       let it = seen_ok over (tree_answer sets scans budget) plan made in
-      subst (λ (p : Shaped). get_or (scan_bounds p) entry 0 ≡ get_or scans entry 0) it.2
+      subst (λ (p : AnyPlan). get_or (scan_bounds p) entry 0 ≡ get_or scans entry 0) it.2
       (ap (λ (s : List ℕ). get_or s entry 0) (stages.scans_kept query tables given.lists sets scans budget it.0 (is.of_scans accuracy) some few it.1))
 
-  module _ (shape : Shape) (plan : Shaped) (made : planned_by shape given accuracy budget ≡ Ok plan) where
+  module _ (shape : Shape) (plan : AnyPlan) (made : planned_by shape given accuracy budget ≡ Ok plan) where
     pub plan_fits : budget ≤ most_budget_of shape → Fits query tables given.lists plan
     unfolding planned_by
     plan_fits small = answer_fits shape plan small made
@@ -162,11 +162,11 @@ module _ (query : Query) (tables : Tables) (given : Sourced) (is : IsSource quer
     scan_is_given entry = answer_keeps shape plan made entry
 
 -- no bound of a plan over lists is too low for these
-pub over_fits : (query : Query) (tables : Tables) (lists : List (List ℕ)) (plan : Shaped) → IsPlanOver query tables lists plan
+pub over_fits : (query : Query) (tables : Tables) (lists : List (List ℕ)) (plan : AnyPlan) → IsPlanOver query tables lists plan
     → IsShapedPlan (length query.from) plan × (length (scan_bounds plan) ≡ length query.from)
     × ((entry : ℕ) → entry < length query.from → rows_listed lists entry ≤ get_or (scan_bounds plan) entry 0)
-over_fits query tables lists (shaped.Along plan) is = (is.for_each_entry, is.for_each_entry.scans, is.scans)
-over_fits query tables lists (shaped.Over plan) is = (is.for_each_entry, is.for_each_entry.scans, is.scans)
+over_fits query tables lists (shaped.OrderPlan plan) is = (is.for_each_entry, is.for_each_entry.scans, is.scans)
+over_fits query tables lists (shaped.TreePlan plan) is = (is.for_each_entry, is.for_each_entry.scans, is.scans)
 
 -- ---- the entries that it joins
 
@@ -175,24 +175,24 @@ record HasAll (n : ℕ) (order : List ℕ) : Type 0 where
   once : IsDistinct eqb order
   all : length order ≡ n
 
-has_all : (n : ℕ) (plan : Shaped) → IsShapedPlan n plan → HasAll n (joined_entries plan)
-has_all n (shaped.Along plan) is = record { entries = is.order.entries; once = is.order.once; all = is.order.all }
-has_all n (shaped.Over plan) is =
+has_all : (n : ℕ) (plan : AnyPlan) → IsShapedPlan n plan → HasAll n (joined_entries plan)
+has_all n (shaped.OrderPlan plan) is = record { entries = is.order.entries; once = is.order.once; all = is.order.all }
+has_all n (shaped.TreePlan plan) is =
     let once = plan_once n plan (node_count plan - 1) is (omega (arith, is.scans, is.joins)) in
     record { entries = once.1; once = once.0; all = root_all n plan is }
 
-pub order_is : (query : Query) (plan : Shaped) → IsShapedPlan (length query.from) plan → IsOrderOfSet (entries_of query) (joined_entries plan)
+pub order_is : (query : Query) (plan : AnyPlan) → IsShapedPlan (length query.from) plan → IsOrderOfSet (entries_of query) (joined_entries plan)
 order_is query plan is = let its = has_all (length query.from) plan is in order_of_all (length query.from) (joined_entries plan) its.entries its.once its.all
 
-pub order_of : (query : Query) (plan : Shaped) → IsShapedPlan (length query.from) plan → IsOrderOf query (joined_entries plan)
+pub order_of : (query : Query) (plan : AnyPlan) → IsShapedPlan (length query.from) plan → IsOrderOf query (joined_entries plan)
 order_of query plan is = let its = has_all (length query.from) plan is in record { entries = its.entries; once = its.once; all = its.all }
 
 -- ---- over whole scans
 
-pub whole_part : (query : Query) (tables : Tables) (plan : Shaped) → IsShapedPlan (length query.from) plan → (k : ℕ) → k < part_count plan
+pub whole_part : (query : Query) (tables : Tables) (plan : AnyPlan) → IsShapedPlan (length query.from) plan → (k : ℕ) → k < part_count plan
     → part_rows query tables (scans_of query tables) plan k ≡ whole_parts query tables plan k
-whole_part query tables (shaped.Along plan) is k low = levels_of_scans query tables plan.order (k + 1) (order_is query (shaped.Along plan) is)
-whole_part query tables (shaped.Over plan) is k low = whole_is query tables plan (length plan.scans + k) is (omega arith)
+whole_part query tables (shaped.OrderPlan plan) is k low = levels_of_scans query tables plan.order (k + 1) (order_is query (shaped.OrderPlan plan) is)
+whole_part query tables (shaped.TreePlan plan) is k low = whole_is query tables plan (length plan.scans + k) is (omega arith)
 
 -- ---- the last level
 
@@ -200,4 +200,4 @@ pub last_level : (query : Query) (db : Database) (plan : Plan) (lists : List (Li
     → (k : ℕ) → k + 1 ≡ length plan.order → list_levels query (tables_of db) lists plan.order (k + 1) ≡ query_level query db plan.order (k + 1)
 last_level query db plan lists database rows is k end =
     subst (λ (n : ℕ). list_levels query (tables_of db) lists plan.order n ≡ query_level query db plan.order n) (sym end)
-    (rows.last (own_entries query db database) plan.order (order_is query (shaped.Along plan) is))
+    (rows.last (own_entries query db database) plan.order (order_is query (shaped.OrderPlan plan) is))

@@ -21,10 +21,10 @@ use Rattle.safebound_words.specs.declared.command.Aim.{Aim}
 use Rattle.safebound_words.specs.declared.command.Work.{Work}
 use Rattle.safebound_words.specs.declared.command.Aim.TheVariants as aims
 use Rattle.safebound_words.specs.declared.command.Work.TheVariants as works
-use Rattle.prepared_runs.specs.Outcome.{Outcome}
-use Rattle.prepared_runs.specs.Ready.{planned_from}
+use Rattle.prepared_runs.specs.RunOutcome.{RunOutcome}
+use Rattle.prepared_runs.specs.PreparedRun.{planned_outcome}
 use Rattle.prepared_runs.specs.Verdict.{IsAimFile, IsWorkFile, aim_run, plan_stage, query_of_text, query_stage, schema_of_text, schema_stage, work_run}
-use Rattle.prepared_runs.specs.declared.prepare.Prepared.{Prepared}
+use Rattle.prepared_runs.specs.declared.prepare.PreparedQuery.{PreparedQuery}
 use Rattle.safebound_words.specs.declared.command.PlanWork.{PlanWork}
 
 -- ---- the schema, from its file's bytes
@@ -75,14 +75,14 @@ module _ {store : Reading} (task : PlanWork) (schema : Schema) (query : Query) (
   pub tables_stop : (e : Ending) → Reads store (tables_stage schema query.from) C (Err e) → Reads store (work_run (works.Plan task) schema query) C (Err e)
   tables_stop e h = then_stops (tables_stage schema query.from) (λ rows files. plan_stage task schema query rows) store C C e (λ files id at. at) h
 
-  pub tables_ran : (rows : List (List Row)) (result : Result Prepared Ending) → IfOk result (λ p. plan_stage task schema query rows ≡ Ok (planned_from p))
+  pub tables_ran : (rows : List (List Row)) (result : Result PreparedQuery Ending) → IfOk result (λ p. plan_stage task schema query rows ≡ Ok (planned_outcome p))
       → IfErr result (StopsBy (plan_stage task schema query rows)) → Reads store (tables_stage schema query.from) C (Ok rows)
-      → Reads store (work_run (works.Plan task) schema query) C (seen planned_from result)
-  tables_ran rows (Ok p) is tells h = then_gives store (tables_stage schema query.from) (plan_stage task schema query) C C rows (planned_from p) is h
+      → Reads store (work_run (works.Plan task) schema query) C (seen planned_outcome result)
+  tables_ran rows (Ok p) is tells h = then_gives store (tables_stage schema query.from) (plan_stage task schema query) C C rows (planned_outcome p) is h
   tables_ran rows (Err e) is tells h = then_tells store (tables_stage schema query.from) (plan_stage task schema query) C C rows e tells h
 
 -- the work that is asked is done
-pub work_done : {store : Reading} (asked work : Work) (schema : Schema) (query : Query) (answer : Result Outcome Ending) → asked ≡ work
+pub work_done : {store : Reading} (asked work : Work) (schema : Schema) (query : Query) (answer : Result RunOutcome Ending) → asked ≡ work
     → Reads store (work_run work schema query) (IsWorkFile work schema query) answer
     → Reads store (work_run asked schema query) (IsWorkFile asked schema query) answer
 work_done {store} asked work schema query answer is h =
@@ -99,7 +99,7 @@ module _ (name : List ℕ) (work : Work) (schema : Schema) where
   query_not_run {store} e h =
       then_stops (query_stage name schema) (work_run work schema) store (AtFile file.Query) AtQueryOrFile e (λ files id at'. inl at') h
 
-  pub query_ran : (first second : Reading) (query : Query) (answer : Result Outcome Ending) → Meets first second
+  pub query_ran : (first second : Reading) (query : Query) (answer : Result RunOutcome Ending) → Meets first second
       → Reads first (query_stage name schema) (AtFile file.Query) (Ok query)
       → Reads second (work_run work schema query) (IsWorkFile work schema query) answer
       → Reads (joined first second) (aim_run (aims.Query name work) schema) AtQueryOrFile answer
@@ -109,7 +109,7 @@ module _ (name : List ℕ) (work : Work) (schema : Schema) where
       (λ files id is at'. inr (subst (λ (r : Result Query Refusal). IsOkAnd r (λ q. IsWorkFile work schema q files id)) (sym is) at')) h k
 
 -- what is asked of the schema is done
-pub aim_done : {store : Reading} (asked aim : Aim) (schema : Schema) (answer : Result Outcome Ending) → asked ≡ aim
+pub aim_done : {store : Reading} (asked aim : Aim) (schema : Schema) (answer : Result RunOutcome Ending) → asked ≡ aim
     → Reads store (aim_run aim schema) (IsAimFile aim schema) answer → Reads store (aim_run asked schema) (IsAimFile asked schema) answer
 aim_done {store} asked aim schema answer is h =
     subst (λ (a : Aim). Reads store (aim_run a schema) (IsAimFile a schema) answer) (sym is) h

@@ -1,21 +1,21 @@
 -- Which plans may take memory for their joins.
 use Rattle.std.specs.Prelude.{ℕ, ◌≤◌, ◌≢◌}
 use Rattle.order_search.specs.Orders.{greatest}
-use Rattle.prepared_runs.specs.Limits.{AreWithin}
+use Rattle.prepared_runs.specs.Limits.{IsWithinLimit}
 use Rattle.prepared_runs.specs.Shapes.{shape_bytes}
-use Rattle.prepared_runs.specs.declared.shapes.Shaped.{Shaped}
-use Rattle.prepared_runs.specs.declared.shapes.Shaped.TheVariants as shaped
+use Rattle.prepared_runs.specs.declared.shapes.AnyPlan.{AnyPlan}
+use Rattle.prepared_runs.specs.declared.shapes.AnyPlan.TheVariants as shaped
 use Rattle.safebound_words.specs.declared.command.OutText.TheVariants as out_text
 use Rattle.safebound_words.specs.declared.command.PlanWork.{PlanWork}
 
 -- what a plan costs: the largest bound of a level of its order, or the cost of its tree
-abbrev pub shape_cost : Shaped → ℕ
-shape_cost (shaped.Along plan) = greatest plan.levels
-shape_cost (shaped.Over plan) = plan.cost
+abbrev pub shape_cost : AnyPlan → ℕ
+shape_cost (shaped.OrderPlan plan) = greatest plan.levels
+shape_cost (shaped.TreePlan plan) = plan.cost
 
 -- rows or their counts are asked for, the plan costs no more than the budget, and its buffers take no more bytes than the limit of memory,
 -- if there is one
-pub record MayJoin (task : PlanWork) (plan : Shaped) : Type 0 where
+pub record MayJoin (task : PlanWork) (plan : AnyPlan) : Type 0 where
   pub asked : task.out ≢ out_text.Nothing
   pub affordable : shape_cost plan ≤ task.budget
-  pub within : AreWithin task.memory (shape_bytes plan)
+  pub within : IsWithinLimit task.memory (shape_bytes plan)

@@ -17,8 +17,8 @@ use Rattle.stats_file.specs.declared.types.TableStats.{TableStats}
 use Rattle.table_files.specs.Stage.{table_at}
 use Rattle.table_files.specs.TableFile.{rows_in}
 use Rattle.safebound_words.specs.declared.command.NewRows.{NewRows}
-use Rattle.prepared_runs.specs.Filed.{stats_stage}
-use Rattle.prepared_runs.specs.Outcome.{Appended, Outcome}
+use Rattle.prepared_runs.specs.StatsFiles.{stats_stage}
+use Rattle.prepared_runs.specs.RunOutcome.{Appended, RunOutcome}
 
 -- ---- the section to which rows are appended
 
@@ -37,26 +37,26 @@ section_stage name schema stats = or_missing (find (is_of_table schema name) sta
 -- ---- the file with new rows
 
 -- of a table of which it has so many rows: with the new ones they may be no more than a table's
-unfoldable pub grown_stage : Schema → StatsFile → ℕ → ℕ → List Row → Result Outcome Refusal
+unfoldable pub grown_stage : Schema → StatsFile → ℕ → ℕ → List Row → Result RunOutcome Refusal
 grown_stage schema stats table before rows =
     if nat_le (before + length rows) most_rows
     then Ok (Appended (record { schema = schema; table = table; rows = rows; file = file_after stats table rows }))
     else Err (refusal.Limit limit.Rows (file.Table table) (most_rows + 1))
 
 -- the rows are in the file of this name, and are read and refused as those of any file of the table
-unfoldable pub rows_run : List ℕ → Schema → StatsFile → ℕ → ℕ → Files → Result Outcome Refusal
+unfoldable pub rows_run : List ℕ → Schema → StatsFile → ℕ → ℕ → Files → Result RunOutcome Refusal
 rows_run name schema stats table before files = do
   rows ← rows_in table (table_at schema table) name files
   grown_stage schema stats table before rows
 
 -- ---- the whole: the statistics file, its section of the table, and the new rows
 
-unfoldable pub stats_run : NewRows → Schema → StatsFile → Files → Result Outcome Refusal
+unfoldable pub stats_run : NewRows → Schema → StatsFile → Files → Result RunOutcome Refusal
 stats_run append schema stats files = do
   section ← section_stage append.table schema stats
   rows_run append.rows_file schema stats section.table section.rows files
 
-unfoldable pub append_run : NewRows → Schema → Files → Result Outcome Refusal
+unfoldable pub append_run : NewRows → Schema → Files → Result RunOutcome Refusal
 append_run append schema files = do
   stats ← stats_stage append.stats_file schema files
   stats_run append schema stats files

@@ -18,27 +18,27 @@ use Rattle.tree_plans.specs.TreePlans.{IsTreePlan}
 use Rattle.tree_rows.specs.Nodes.{Node, node_at}
 use Rattle.tree_rows.specs.Trees.{entries_at, node_count}
 use Rattle.outcomes.specs.declared.refusal.Refusal.{Refusal}
-use Rattle.prepared_runs.specs.Accepted.{Accepted, tables}
-use Rattle.prepared_runs.specs.Outcome.{Appended, Filed, Outcome, Planned, PlannedByFile}
-use Rattle.prepared_runs.specs.Prepared.{bytes_held, plan_in}
+use Rattle.prepared_runs.specs.AcceptedQuery.{AcceptedQuery, tables}
+use Rattle.prepared_runs.specs.RunOutcome.{Appended, StatsMade, RunOutcome, Planned, PlannedFromStats}
+use Rattle.prepared_runs.specs.PreparedQuery.{bytes_held, plan_in}
 use Rattle.prepared_runs.specs.Shapes.{part_count, part_rows, shape_bytes}
 use Rattle.prepared_runs.specs.Standing.{LoseNoRow}
 use Rattle.prepared_runs.specs.declared.joined.Joined.{Joined}
 use Rattle.prepared_runs.specs.declared.joined.Joined.TheVariants as joined
-use Rattle.prepared_runs.specs.declared.prepare.Rest.{Rest}
-use Rattle.prepared_runs.specs.declared.prepare.Rest.TheVariants as rest
+use Rattle.prepared_runs.specs.declared.prepare.PendingOutput.{PendingOutput}
+use Rattle.prepared_runs.specs.declared.prepare.PendingOutput.TheVariants as rest
 use Rattle.prepared_runs.specs.declared.scans.Joins.{Joins}
-use Rattle.prepared_runs.specs.declared.shapes.Shaped.{Shaped}
-use Rattle.prepared_runs.specs.declared.shapes.Shaped.TheVariants as shaped
+use Rattle.prepared_runs.specs.declared.shapes.AnyPlan.{AnyPlan}
+use Rattle.prepared_runs.specs.declared.shapes.AnyPlan.TheVariants as shaped
 use Rattle.safebound_words.specs.declared.command.OutText.{OutText}
 use Rattle.safebound_words.specs.declared.command.OutText.TheVariants as out_text
 
 -- ---- what is in them
 
 -- the plan that was joined
-abbrev pub plan_joined : Joined → Shaped
-plan_joined (joined.Levels plan lists reserved) = shaped.Along plan
-plan_joined (joined.Nodes plan done) = shaped.Over plan
+abbrev pub plan_joined : Joined → AnyPlan
+plan_joined (joined.Levels plan lists reserved) = shaped.OrderPlan plan
+plan_joined (joined.Nodes plan done) = shaped.TreePlan plan
 
 -- the rows of each part: of each level of the order, or each inner node of the tree
 abbrev pub rows_in : Joined → ℕ → List (List ℕ)
@@ -91,29 +91,29 @@ pub record AreDone (query : Query) (db : Database) (joins : Joins) (kept : Joine
   pub bytes : bytes_in kept ≡ bytes_held joins
 
 -- the buffers of what was left to do, if that is a join
-abbrev pub IsLeft : Query → Database → Rest → Option Joined → Type 0
+abbrev pub IsLeft : Query → Database → PendingOutput → Option Joined → Type 0
 IsLeft query db (rest.Rows joins) kept = IsSomeAnd kept (AreDone query db joins)
 IsLeft query db (rest.Audit joins) kept = IsSomeAnd kept (AreDone query db joins)
 IsLeft query db (rest.Nothing plan) kept = kept ≡ None
 
 -- the buffers of a run have the rows of each part of its plan, and hold exactly the bytes of the plan
-pub record KeepsBuffers (run : Accepted) (kept : Joined) : Type 0 where
+pub record KeepsBuffers (run : AcceptedQuery) (kept : Joined) : Type 0 where
   pub plan : plan_joined kept ≡ run.plan
   pub parts : (k : ℕ) → k < part_count run.plan → rows_in kept k ≡ part_rows run.query (tables run) run.lists run.plan k
   pub bytes : bytes_in kept ≡ shape_bytes run.plan
 
 -- the buffers of `run`, of `audit` and of `demo`; `plan` takes no buffers
-abbrev pub AreKept : OutText → Accepted → Option Joined → Type 0
+abbrev pub AreKept : OutText → AcceptedQuery → Option Joined → Type 0
 AreKept out_text.Rows run kept = IsSomeAnd kept (KeepsBuffers run)
 AreKept out_text.Audit run kept = IsSomeAnd kept (KeepsBuffers run)
 AreKept out_text.Nothing run kept = kept ≡ None
 
-abbrev pub IsKept : Outcome → Option Joined → Type 0
+abbrev pub IsKept : RunOutcome → Option Joined → Type 0
 IsKept (Planned run) kept = AreKept run.out run kept
-IsKept (Filed filed) kept = kept ≡ None
-IsKept (PlannedByFile made) kept = kept ≡ None
+IsKept (StatsMade made_stats) kept = kept ≡ None
+IsKept (PlannedFromStats made) kept = kept ≡ None
 IsKept (Appended made) kept = kept ≡ None
 
 -- over files that the store tells, a stage is accepted, and these are the buffers of what it comes to
-abbrev pub KeepsItsBuffers : Reading → (Files → Result Outcome Refusal) → Option Joined → Type 0
+abbrev pub KeepsItsBuffers : Reading → (Files → Result RunOutcome Refusal) → Option Joined → Type 0
 KeepsItsBuffers store stage kept = (files : Files) → store.files ≡ Some files → IsOkAnd (stage files) (λ outcome. IsKept outcome kept)

@@ -13,6 +13,6 @@ abbrev pub limit_test : Option ℕ → ℕ → Result (Unit {0}) Refusal
 limit_test limit bytes = within_limit limit bytes tt
 
 -- so many bytes are within the limit, if there is one
-abbrev pub AreWithin : Option ℕ → ℕ → Type 0
-AreWithin None bytes = ⊤
-AreWithin (Some limit) bytes = bytes ≤ limit
+abbrev pub IsWithinLimit : Option ℕ → ℕ → Type 0
+IsWithinLimit None bytes = ⊤
+IsWithinLimit (Some limit) bytes = bytes ≤ limit

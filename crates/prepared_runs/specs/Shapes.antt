@@ -24,86 +24,86 @@ use Rattle.outcomes.specs.Reads.{seen}
 use Rattle.printed_texts.specs.Plans.{audit_lines, plan_lines}
 use Rattle.printed_texts.specs.TreePlans.{tree_audits, tree_lines}
 use Rattle.prepared_runs.specs.Sources.{Sourced}
-use Rattle.prepared_runs.specs.declared.shapes.Shaped.{Shaped}
-use Rattle.prepared_runs.specs.declared.shapes.Shaped.TheVariants as shaped
+use Rattle.prepared_runs.specs.declared.shapes.AnyPlan.{AnyPlan}
+use Rattle.prepared_runs.specs.declared.shapes.AnyPlan.TheVariants as shaped
 use Rattle.safebound_words.specs.declared.command.Shape.{Shape}
 use Rattle.safebound_words.specs.declared.command.Shape.TheVariants as shapes
 
 -- ---- the choice of a plan
 
 -- the best plan over a bound of each set of entries and one of each scan, or why there is none within the budget
-abbrev pub answer_of : Shape → List ℕ → List ℕ → ℕ → Result Shaped PlanError
-answer_of shapes.Order sets scans budget = seen (λ plan. shaped.Along plan) (plan_answer sets scans budget)
-answer_of shapes.Tree sets scans budget = seen (λ plan. shaped.Over plan) (tree_answer sets scans budget)
+abbrev pub answer_of : Shape → List ℕ → List ℕ → ℕ → Result AnyPlan PlanError
+answer_of shapes.Order sets scans budget = seen (λ plan. shaped.OrderPlan plan) (plan_answer sets scans budget)
+answer_of shapes.Tree sets scans budget = seen (λ plan. shaped.TreePlan plan) (tree_answer sets scans budget)
 
 -- the plan by what a source gives, at an accuracy and within a budget: the best of its shape, or PastBits, or Budget with the least cost
-unfoldable pub planned_by : Shape → Sourced → ℕ → ℕ → Result Shaped PlanError
+unfoldable pub planned_by : Shape → Sourced → ℕ → ℕ → Result AnyPlan PlanError
 planned_by shape given accuracy budget = answer_of shape (given.sets accuracy) (given.scans accuracy) budget
 
 -- ---- what a plan says
 
 -- it is one for n entries
-abbrev pub IsShapedPlan : ℕ → Shaped → Type 0
-IsShapedPlan n (shaped.Along plan) = IsPlan n plan
-IsShapedPlan n (shaped.Over plan) = IsTreePlan n plan
+abbrev pub IsShapedPlan : ℕ → AnyPlan → Type 0
+IsShapedPlan n (shaped.OrderPlan plan) = IsPlan n plan
+IsShapedPlan n (shaped.TreePlan plan) = IsTreePlan n plan
 
 -- the bound of each entry's scan
-abbrev pub scan_bounds : Shaped → List ℕ
-scan_bounds (shaped.Along plan) = plan.scans
-scan_bounds (shaped.Over plan) = plan.scans
+abbrev pub scan_bounds : AnyPlan → List ℕ
+scan_bounds (shaped.OrderPlan plan) = plan.scans
+scan_bounds (shaped.TreePlan plan) = plan.scans
 
-abbrev pub part_count : Shaped → ℕ
-part_count (shaped.Along plan) = length plan.order
-part_count (shaped.Over plan) = length plan.joins
+abbrev pub part_count : AnyPlan → ℕ
+part_count (shaped.OrderPlan plan) = length plan.order
+part_count (shaped.TreePlan plan) = length plan.joins
 
-abbrev pub part_bound : Shaped → ℕ → ℕ
-part_bound (shaped.Along plan) k = slice_index plan.levels k
-part_bound (shaped.Over plan) k = bound_at plan (length plan.scans + k)
+abbrev pub part_bound : AnyPlan → ℕ → ℕ
+part_bound (shaped.OrderPlan plan) k = slice_index plan.levels k
+part_bound (shaped.TreePlan plan) k = bound_at plan (length plan.scans + k)
 
 -- the entries in the order in which their rows stand in a choice for all of them: that of the plan, or of the tree's leaves
-abbrev pub joined_entries : Shaped → List ℕ
-joined_entries (shaped.Along plan) = plan.order
-joined_entries (shaped.Over plan) = entries_at plan (node_count plan - 1)
+abbrev pub joined_entries : AnyPlan → List ℕ
+joined_entries (shaped.OrderPlan plan) = plan.order
+joined_entries (shaped.TreePlan plan) = entries_at plan (node_count plan - 1)
 
 -- how many bytes its buffers take: the lists, and those of its levels or nodes
-abbrev pub shape_bytes : Shaped → ℕ
-shape_bytes (shaped.Along plan) = plan_bytes plan.order plan.scans plan.levels
-shape_bytes (shaped.Over plan) = tree_bytes plan
+abbrev pub shape_bytes : AnyPlan → ℕ
+shape_bytes (shaped.OrderPlan plan) = plan_bytes plan.order plan.scans plan.levels
+shape_bytes (shaped.TreePlan plan) = tree_bytes plan
 
 -- those of them that aren't lists of rows to be joined
-abbrev pub parts_bytes : Shaped → ℕ
-parts_bytes (shaped.Along plan) = rooms_bytes (rooms plan.order plan.scans plan.levels)
-parts_bytes (shaped.Over plan) = tree_rooms_bytes plan
+abbrev pub parts_bytes : AnyPlan → ℕ
+parts_bytes (shaped.OrderPlan plan) = rooms_bytes (rooms plan.order plan.scans plan.levels)
+parts_bytes (shaped.TreePlan plan) = tree_rooms_bytes plan
 
 -- no list and no part over these lists has more rows than its bound, and no bound is above what joins take
-abbrev pub IsPlanOver : Query → Tables → List (List ℕ) → Shaped → Type 0
-IsPlanOver query tables lists (shaped.Along plan) = IsPlanOf query tables lists plan
-IsPlanOver query tables lists (shaped.Over plan) = IsTreePlanOf query tables lists plan
+abbrev pub IsPlanOver : Query → Tables → List (List ℕ) → AnyPlan → Type 0
+IsPlanOver query tables lists (shaped.OrderPlan plan) = IsPlanOf query tables lists plan
+IsPlanOver query tables lists (shaped.TreePlan plan) = IsTreePlanOf query tables lists plan
 
 -- ---- the rows of its parts
 
 -- over lists: the choices of one listed row of each entry of a level or a node for which every conjunct holds that names only these
-abbrev pub part_rows : Query → Tables → List (List ℕ) → Shaped → ℕ → List (List ℕ)
-part_rows query tables lists (shaped.Along plan) k = list_levels query tables lists plan.order (k + 1)
-part_rows query tables lists (shaped.Over plan) k = node_rows query tables lists plan (length plan.scans + k)
+abbrev pub part_rows : Query → Tables → List (List ℕ) → AnyPlan → ℕ → List (List ℕ)
+part_rows query tables lists (shaped.OrderPlan plan) k = list_levels query tables lists plan.order (k + 1)
+part_rows query tables lists (shaped.TreePlan plan) k = node_rows query tables lists plan (length plan.scans + k)
 
 -- the same over whole tables
-abbrev pub whole_parts : Query → Tables → Shaped → ℕ → List (List ℕ)
-whole_parts query tables (shaped.Along plan) k = level (conjuncts_of query tables) (row_counts tables) plan.order (k + 1)
-whole_parts query tables (shaped.Over plan) k = whole_rows query tables plan (length plan.scans + k)
+abbrev pub whole_parts : Query → Tables → AnyPlan → ℕ → List (List ℕ)
+whole_parts query tables (shaped.OrderPlan plan) k = level (conjuncts_of query tables) (row_counts tables) plan.order (k + 1)
+whole_parts query tables (shaped.TreePlan plan) k = whole_rows query tables plan (length plan.scans + k)
 
 -- how many rows each part has over lists
-abbrev pub part_sizes : Query → Tables → List (List ℕ) → Shaped → List ℕ
+abbrev pub part_sizes : Query → Tables → List (List ℕ) → AnyPlan → List ℕ
 part_sizes query tables lists plan = map (λ k. length (part_rows query tables lists plan k)) (range_with_len 0 (part_count plan))
 
 -- ---- its texts
 
 -- a line for each scan, and then one for each part, with their bounds
-abbrev pub shape_lines : List Source → Shaped → List ℕ
-shape_lines sources (shaped.Along plan) = plan_lines sources plan
-shape_lines sources (shaped.Over plan) = tree_lines sources plan
+abbrev pub shape_lines : List Source → AnyPlan → List ℕ
+shape_lines sources (shaped.OrderPlan plan) = plan_lines sources plan
+shape_lines sources (shaped.TreePlan plan) = tree_lines sources plan
 
 -- a line for each part with its bound and its number of rows, where these are the numbers
-abbrev pub shape_audits : List Source → Shaped → List ℕ → List ℕ
-shape_audits sources (shaped.Along plan) counts = audit_lines sources plan counts
-shape_audits sources (shaped.Over plan) counts = tree_audits plan counts
+abbrev pub shape_audits : List Source → AnyPlan → List ℕ → List ℕ
+shape_audits sources (shaped.OrderPlan plan) counts = audit_lines sources plan counts
+shape_audits sources (shaped.TreePlan plan) counts = tree_audits plan counts

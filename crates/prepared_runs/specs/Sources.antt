@@ -7,7 +7,7 @@ use Rattle.join_steps.specs.Lists.{list_sizes, scans_of}
 use Rattle.reduced_scans.specs.Rounds.{reduced_of}
 use Rattle.planning.specs.Bounds.{scan_bounds_of, set_bounds_of}
 use Rattle.planning.specs.ListedBounds.{set_bounds_over}
-use Rattle.key_carriers.specs.Keys.{KeysHold}
+use Rattle.key_carriers.specs.DeclaredKeys.{DeclaredKeysHold}
 use Rattle.key_bounds.specs.Bounds.{set_bounds_by_keys}
 use Rattle.counted_planning.specs.Bounds.{set_bounds_by_counts}
 use Rattle.safebound_words.specs.declared.command.ListSource.{ListSource}
@@ -52,6 +52,6 @@ sourced source schema query tables = record {
 -- what a source needs of the tables: that declared keys hold, where conditions are carried through them. Those of tables that were read do
 abbrev pub Needs : ListSource → Schema → Query → Tables → Type 0
 Needs sources.Columns schema query tables = ⊤
-Needs sources.Keyed schema query tables = KeysHold schema query tables
+Needs sources.Keyed schema query tables = DeclaredKeysHold schema query tables
 Needs sources.Reduced schema query tables = ⊤
 Needs sources.Counted schema query tables = ⊤

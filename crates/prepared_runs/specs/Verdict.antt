@@ -20,7 +20,7 @@ use Rattle.table_files.specs.EntryTables.{tables_in}
 use Rattle.table_files.specs.Stage.{tables_of_query, tables_stage}
 use Rattle.table_files.specs.Stage.{IsReached as IsTableReached}
 use Rattle.table_files.specs.TableFile.{read}
-use Rattle.prepared_runs.specs.Accepted.{Accepted}
+use Rattle.prepared_runs.specs.AcceptedQuery.{AcceptedQuery}
 use Rattle.prepared_runs.specs.Appending.{append_run, section_read}
 use Rattle.safebound_words.specs.Answer.{command_of}
 use Rattle.safebound_words.specs.declared.command.Aim.{Aim}
@@ -28,12 +28,12 @@ use Rattle.safebound_words.specs.declared.command.Command.{Command}
 use Rattle.safebound_words.specs.declared.command.Work.{Work}
 use Rattle.safebound_words.specs.declared.command.Aim.TheVariants as aims
 use Rattle.safebound_words.specs.declared.command.Work.TheVariants as works
-use Rattle.prepared_runs.specs.Filed.{filed_plan_stage, stats_stage, tables_filed}
+use Rattle.prepared_runs.specs.StatsFiles.{stats_file_plan_stage, stats_stage, stats_file_of_tables}
 use Rattle.prepared_runs.specs.Limits.{within_limit}
-use Rattle.prepared_runs.specs.Outcome.{Outcome, Planned}
+use Rattle.prepared_runs.specs.RunOutcome.{RunOutcome, Planned}
 use Rattle.prepared_runs.specs.Shapes.{planned_by, shape_bytes}
 use Rattle.prepared_runs.specs.Sources.{lists_by, sourced}
-use Rattle.prepared_runs.specs.declared.shapes.Shaped.{Shaped}
+use Rattle.prepared_runs.specs.declared.shapes.AnyPlan.{AnyPlan}
 use Rattle.safebound_words.specs.declared.command.PlanWork.{PlanWork}
 
 -- the command that the words ask for, or Usage if they are no command
@@ -63,11 +63,11 @@ query_stage name schema files = do
   query_of_text schema text
 
 -- the plan of a query over its tables, in the shape that is asked for, from the bounds that the source gives
-abbrev pub plan_asked : PlanWork → Schema → Query → Tables → Result Shaped PlanError
+abbrev pub plan_asked : PlanWork → Schema → Query → Tables → Result AnyPlan PlanError
 plan_asked task schema query ts = planned_by task.shape (sourced task.source schema query ts) task.accuracy task.budget
 
 -- the run of a plan, over the rows that the source gives
-abbrev pub run_asked : PlanWork → Query → List (List Row) → Shaped → Accepted
+abbrev pub run_asked : PlanWork → Query → List (List Row) → AnyPlan → AcceptedQuery
 run_asked task query rows plan = record {
   query = query;
   rows = rows;
@@ -80,37 +80,37 @@ run_asked task query rows plan = record {
 
 -- the plan of a query over its entries' rows: the best order or tree with its bounds, or PastBits, or Budget with the least cost, or
 -- MemoryLimit with the bytes of the plan
-unfoldable pub plan_stage : PlanWork → Schema → Query → List (List Row) → Result Outcome Refusal
+unfoldable pub plan_stage : PlanWork → Schema → Query → List (List Row) → Result RunOutcome Refusal
 plan_stage task schema query rows = do
   plan ← told plan_refusal (plan_asked task schema query (tables_in rows))
   within_limit task.memory (shape_bytes plan) (Planned (run_asked task query rows plan))
 
 -- what is done with a query; only this definition tells one work from another
-abbrev pub work_run : Work → Schema → Query → Files → Result Outcome Refusal
+abbrev pub work_run : Work → Schema → Query → Files → Result RunOutcome Refusal
 work_run (works.Plan task) schema query files = do
   rows ← tables_stage schema query.from files
   plan_stage task schema query rows
-work_run (works.File accuracy) schema query files = do
+work_run (works.WriteStats accuracy) schema query files = do
   rows ← tables_stage schema query.from files
-  Ok (tables_filed schema query rows accuracy)
-work_run (works.PlanFrom name budget memory) schema query files = do
+  Ok (stats_file_of_tables schema query rows accuracy)
+work_run (works.PlanFromStats name budget memory) schema query files = do
   stats ← stats_stage name schema files
-  filed_plan_stage query stats budget memory
+  stats_file_plan_stage query stats budget memory
 
 -- what is done over a schema: something with a query, or new rows are appended
-abbrev pub aim_run : Aim → Schema → Files → Result Outcome Refusal
+abbrev pub aim_run : Aim → Schema → Files → Result RunOutcome Refusal
 aim_run (aims.Query name work) schema files = do
   query ← query_stage name schema files
   work_run work schema query files
 aim_run (aims.Append append) schema files = append_run append schema files
 
 -- the outcome of a run, or the first refusal that applies
-unfoldable pub command_run : Command → Files → Result Outcome Refusal
+unfoldable pub command_run : Command → Files → Result RunOutcome Refusal
 command_run command files = do
   schema ← schema_stage command.schema_file files
   aim_run command.aim schema files
 
-unfoldable pub verdict : List (List ℕ) → Files → Result Outcome Refusal
+unfoldable pub verdict : List (List ℕ) → Files → Result RunOutcome Refusal
 verdict words files = do
   command ← command_stage words
   command_run command files
@@ -126,8 +126,8 @@ schema_read words files = do
 -- The file is read for the query: it is one of the query's tables, and no table before it is refused; or it is the statistics file.
 abbrev pub IsWorkFile : Work → Schema → Query → Files → FileId → Type 0
 IsWorkFile (works.Plan task) schema query files id = IsTableReached schema (tables_of_query query.from) files id
-IsWorkFile (works.File accuracy) schema query files id = IsTableReached schema (tables_of_query query.from) files id
-IsWorkFile (works.PlanFrom name budget memory) schema query files id = id ≡ file.Stats
+IsWorkFile (works.WriteStats accuracy) schema query files id = IsTableReached schema (tables_of_query query.from) files id
+IsWorkFile (works.PlanFromStats name budget memory) schema query files id = id ≡ file.Stats
 
 -- The file is read after the schema. It is the file of the query, or one that is read for the query. For `append` it is the statistics file,
 -- or, if that file has a section of the table, the file of new rows.

@@ -13,10 +13,10 @@ ghost use Rattle.table_files.specs.Stage.{table_at};
 ghost use Rattle.prepared_runs.specs.Appending.{append_run, grown_stage, is_of_table, rows_run, section_stage, stats_run};
 ghost use Rattle.safebound_words.specs.declared.command.Aim.TheVariants as aims;
 ghost use Rattle.prepared_runs.specs.Counted.{HasAsMany, counted};
-ghost use Rattle.prepared_runs.specs.Ready.{appended_from};
+ghost use Rattle.prepared_runs.specs.PreparedRun.{appended_from};
 ghost use Rattle.prepared_runs.specs.Verdict.{IsAimFile};
 
-use crate::filed::load_stats;
+use crate::stats_files::load_stats;
 use appended_stats::append_rows;
 use base_io::Store;
 use gathered_stats::characters_differ;

@@ -10,9 +10,9 @@ ghost use Rattle.bushy_join.specs.Trees.{IsTreePlanOf};
 ghost use Rattle.tree_rows.specs.Memory.{tree_reserved_bytes};
 ghost use Rattle.tree_rows.specs.Rooms.{HasTreeRooms};
 ghost use Rattle.prepared_runs.specs.Kept.{IsJoined, bytes_in, plan_joined};
-ghost use Rattle.prepared_runs.specs.Prepared.{CanJoin, bytes_held, plan_in};
+ghost use Rattle.prepared_runs.specs.PreparedQuery.{CanJoin, bytes_held, plan_in};
 ghost use Rattle.prepared_runs.specs.Standing.{LoseNoRow};
-ghost use Rattle.prepared_runs.specs.declared.shapes.Shaped.TheVariants as shaped;
+ghost use Rattle.prepared_runs.specs.declared.shapes.AnyPlan.TheVariants as shaped;
 
 use crate::scans::Joins;
 use crate::shapes::Room;
@@ -47,7 +47,7 @@ fn join_levels(
     requires rows { LoseNoRow query.now (tables_of db.now) (lists_of lists.items) }
     requires plan { IsPlanOf query.now (tables_of db.now) (lists_of lists.items) plan }
     requires ready { IsReadyFor query.now (tables_of db.now) (lists_of lists.items) plan.order reserved }
-    ensures plan { plan_joined result ≡ shaped.Along plan }
+    ensures plan { plan_joined result ≡ shaped.OrderPlan plan }
     ensures joined { IsJoined query.now db.now (lists_of lists.items) result }
     ensures bytes { bytes_in result ≡ buffers_bytes lists + reserved_bytes reserved }
 {
@@ -67,7 +67,7 @@ fn join_nodes(
     requires rows { LoseNoRow query.now (tables_of db.now) (lists_of lists.items) }
     requires plan { IsTreePlanOf query.now (tables_of db.now) (lists_of lists.items) plan }
     requires ready { HasTreeRooms plan reserved }
-    ensures plan { plan_joined result ≡ shaped.Over plan }
+    ensures plan { plan_joined result ≡ shaped.TreePlan plan }
     ensures joined { IsJoined query.now db.now (lists_of lists.items) result }
     ensures bytes { bytes_in result ≡ buffers_bytes lists + tree_reserved_bytes reserved }
 {

@@ -4,9 +4,9 @@
 //! of the run. They write nothing. `join` lists the rows of a plan in the memory that was taken for them. `open_shop` makes the files that
 //! `demo` reads.
 //!
-//! Callers cite `verdict` (in `specs/Verdict.antt`). It is computed in stages, from the words to the plan, and is a refusal or an `Outcome`.
+//! Callers cite `verdict` (in `specs/Verdict.antt`). It is computed in stages, from the words to the plan, and is a refusal or an `RunOutcome`.
 //! Each step that reads has the clause `Reads` over its stage of the verdict. What `prepare_run` answers can be written without further memory
-//! (`CanBeWritten` in `specs/Ready.antt`).
+//! (`CanBeWritten` in `specs/PreparedRun.antt`).
 //!
 //! ```text
 //! let schema = load_schema(alloc, store, &command.schema_file)?;
@@ -15,7 +15,6 @@
 #![tactic(auto)]
 
 mod append;
-mod filed;
 mod files;
 mod joined;
 mod limit;
@@ -23,12 +22,13 @@ mod prepare;
 mod scans;
 mod shapes;
 mod shop;
+mod stats_files;
 
 pub use append::PreparedAppend;
-pub use filed::{PreparedFile, PreparedPlan};
 pub use files::load_schema;
 pub use joined::{Joined, join};
-pub use prepare::{Prepared, Ready, Rest, prepare_run};
+pub use prepare::{PendingOutput, PreparedQuery, PreparedRun, prepare_run};
 pub use scans::Joins;
-pub use shapes::{Room, Shaped};
+pub use shapes::{AnyPlan, Room};
 pub use shop::{Shop, open_shop};
+pub use stats_files::{PreparedStatsFile, PreparedStatsFilePlan};

@@ -6,7 +6,7 @@ ghost use Rattle.reserve_plan.specs.Memory.{plan_bytes};
 ghost use Rattle.prepared_runs.specs.Limits.{limit_test};
 ghost use Rattle.prepared_runs.specs.Shapes.{IsShapedPlan, shape_bytes};
 
-use crate::shapes::Shaped;
+use crate::shapes::AnyPlan;
 use outcomes::Refusal;
 use plans::Plan;
 use reserve_plan::plan_memory;
@@ -25,13 +25,13 @@ pub fn order_memory(plan: &Plan) -> u128
 }
 
 /// The bytes that the buffers of a plan take.
-pub fn memory_of(plan: &Shaped) -> u128
+pub fn memory_of(plan: &AnyPlan) -> u128
     requires { (n : ℕ) × (1 ≤ n) × (n ≤ most_entries) × IsShapedPlan n plan.now }
     ensures { result ≡ shape_bytes plan.now }
 {
     match plan {
-        Shaped::Along(plan) => order_memory(plan),
-        Shaped::Over(plan) => tree_memory(plan),
+        AnyPlan::OrderPlan(plan) => order_memory(plan),
+        AnyPlan::TreePlan(plan) => tree_memory(plan),
     }
 }
 

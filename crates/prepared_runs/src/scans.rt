@@ -5,16 +5,16 @@ ghost use Rattle.reserve_plan.specs.Memory.{buffers_bytes, lists_bytes};
 ghost use Rattle.sql_meaning.specs.Databases.{IsDatabaseOf};
 ghost use Rattle.sql_meaning.specs.Tables.{tables_of};
 ghost use Rattle.join_steps.specs.Lists.{lists_of, rows_listed, scans_of};
-ghost use Rattle.planning.specs.Gives.{Gives};
+ghost use Rattle.planning.specs.HasBounds.{HasBounds};
 ghost use Rattle.safebound_words.specs.InRange.{IsInRange};
 ghost use Rattle.prepared_runs.specs.Allowed.{MayJoin, shape_cost};
-ghost use Rattle.prepared_runs.specs.Prepared.{CanJoin, HoldExactly, bytes_held, lists_in, plan_in};
+ghost use Rattle.prepared_runs.specs.PreparedQuery.{CanJoin, HoldExactly, bytes_held, lists_in, plan_in};
 ghost use Rattle.prepared_runs.specs.Shapes.{IsPlanOver, scan_bounds, shape_bytes};
 ghost use Rattle.prepared_runs.specs.Sources.{lists_by, scans_by, sourced};
 ghost use Rattle.prepared_runs.specs.Standing.{LoseNoRow};
 ghost use Rattle.prepared_runs.specs.Verdict.{plan_asked};
 
-use crate::shapes::{Room, Shaped, bounds_of_scans, plan_by, reserve_room};
+use crate::shapes::{AnyPlan, Room, bounds_of_scans, plan_by, reserve_room};
 use base_io::NoMemory;
 use counted_planning::from_counted;
 use csv_tables::Database;
@@ -48,8 +48,8 @@ struct Given {
 
 /// A plan, and the rows that are joined by it.
 #[derive(Drop)]
-pub struct Planned {
-    pub plan: Shaped,
+pub struct PlanWithScans {
+    pub plan: AnyPlan,
     pub scans: Scans,
 }
 
@@ -71,7 +71,7 @@ fn given_by(
 ) -> Result<Given, NoMemory>
     requires database { IsDatabaseOf query.now db.now }
     ensures known { let given = sourced source schema.now query.now (tables_of db.now) in
-        IfOk result (λ made. Gives (given.sets accuracy) (given.scans accuracy) made.known) }
+        IfOk result (λ made. HasBounds (given.sets accuracy) (given.scans accuracy) made.known) }
     ensures lists { IfOk result (λ made. lists_in made.scans query.now (tables_of db.now)
         ≡ lists_by source query.now (tables_of db.now)) }
     ensures exact { IfOk result (λ made. HoldExactly made.scans (scans_by source query.now (tables_of db.now) accuracy)) }
@@ -115,7 +115,7 @@ pub fn plan_task(
     schema: &Schema,
     query: &Query,
     db: &Database,
-) -> Result<Planned, PlanError>
+) -> Result<PlanWithScans, PlanError>
     requires database { IsDatabaseOf query.now db.now }
     requires ranges { IsInRange task.now }
     ensures planned { IfOk result (λ p. plan_asked task.now schema.now query.now (tables_of db.now) ≡ Ok p.plan) }
@@ -134,14 +134,14 @@ pub fn plan_task(
         db,
     )?;
     let plan = plan_by(alloc, task.shape, &known, task.budget)?;
-    Ok(Planned { plan, scans })
+    Ok(PlanWithScans { plan, scans })
 }
 
 // Lists the rows of each entry's scan, in memory that is taken by the plan's bounds.
 fn list_scans(
     alloc: Global,
     _task: &PlanWork,
-    plan: &Shaped,
+    plan: &AnyPlan,
     query: &Query,
     db: &Database,
 ) -> Result<Vec<RowBuf<u32>>, NoMemory>
@@ -162,7 +162,7 @@ fn list_scans(
 fn list_rows(
     alloc: Global,
     task: &PlanWork,
-    plan: &Shaped,
+    plan: &AnyPlan,
     scans: Scans,
     query: &Query,
     db: &Database,
@@ -187,7 +187,7 @@ fn list_rows(
 pub fn prepare_joins(
     alloc: Global,
     task: &PlanWork,
-    planned: Planned,
+    planned: PlanWithScans,
     query: &Query,
     db: &Database,
 ) -> Result<Joins, NoMemory>
@@ -201,7 +201,7 @@ pub fn prepare_joins(
     ensures room { IfOk result (CanJoin query.now db.now) }
     ensures lists { IfOk result (λ joins. lists_of joins.lists.items ≡ lists_in planned.scans query.now (tables_of db.now)) }
 {
-    let Planned { plan, scans } = planned;
+    let PlanWithScans { plan, scans } = planned;
     let lists = list_rows(alloc, task, &plan, scans, query, db)?;
     let room = reserve_room(alloc, task, plan, query, db)?;
     Ok(Joins { lists, room })

@@ -5,7 +5,7 @@ ghost use Rattle.order_search.specs.declared.refusal.PlanError.TheVariants as er
 ghost use Rattle.sql_meaning.specs.Databases.{IsDatabaseOf};
 ghost use Rattle.sql_meaning.specs.Tables.{tables_of};
 ghost use Rattle.prepared_runs.specs.Allowed.{MayJoin};
-ghost use Rattle.prepared_runs.specs.Prepared.{IsRoomOver, held_bytes, plan_in};
+ghost use Rattle.prepared_runs.specs.PreparedQuery.{IsRoomOver, held_bytes, plan_in};
 ghost use Rattle.prepared_runs.specs.Shapes.{IsPlanOver, answer_of, parts_bytes, scan_bounds};
 ghost use Rattle.safebound_words.specs.Commands.{most_budget_of};
 
@@ -25,11 +25,11 @@ use tree_rows::{BushyReserved, reserve_bushy};
 
 /// A plan of either shape.
 #[derive(Drop)]
-pub enum Shaped {
+pub enum AnyPlan {
     /// An order, with the bounds of its levels.
-    Along(Plan),
+    OrderPlan(Plan),
     /// A join tree, with the bounds of its nodes.
-    Over(BushyPlan),
+    TreePlan(BushyPlan),
 }
 
 /// A plan, and buffers for the rows that its joins list.
@@ -42,7 +42,12 @@ pub enum Room {
 }
 
 /// The best plan of a shape for these bounds; or why no plan is within the budget.
-pub fn plan_by(alloc: Global, shape: Shape, known: &Known, budget: u64) -> Result<Shaped, PlanError>
+pub fn plan_by(
+    alloc: Global,
+    shape: Shape,
+    known: &Known,
+    budget: u64,
+) -> Result<AnyPlan, PlanError>
     requires some { 1 ≤ length known.now.scans }
     requires few { length known.now.scans ≤ most_entries }
     requires sets { length known.now.sets ≡ 2 ^ length known.now.scans }
@@ -52,22 +57,22 @@ pub fn plan_by(alloc: Global, shape: Shape, known: &Known, budget: u64) -> Resul
     match shape {
         Shape::Order => {
             let plan = plan_from(alloc, known, budget)?;
-            Ok(Shaped::Along(plan))
+            Ok(AnyPlan::OrderPlan(plan))
         }
         Shape::Tree => {
             let plan = plan_tree_from(alloc, known, budget)?;
-            Ok(Shaped::Over(plan))
+            Ok(AnyPlan::TreePlan(plan))
         }
     }
 }
 
 /// The bounds of a plan's scans, in FROM order, in rows.
-pub fn bounds_of_scans(plan: &Shaped) -> &[u64]
+pub fn bounds_of_scans(plan: &AnyPlan) -> &[u64]
     ensures { result.now ≡ scan_bounds plan.now }
 {
     match plan {
-        Shaped::Along(plan) => plan.scans.as_slice(),
-        Shaped::Over(plan) => plan.scans.as_slice(),
+        AnyPlan::OrderPlan(plan) => plan.scans.as_slice(),
+        AnyPlan::TreePlan(plan) => plan.scans.as_slice(),
     }
 }
 
@@ -75,7 +80,7 @@ pub fn bounds_of_scans(plan: &Shaped) -> &[u64]
 pub fn reserve_room(
     alloc: Global,
     _task: &PlanWork,
-    plan: Shaped,
+    plan: AnyPlan,
     query: &Query,
     db: &Database,
 ) -> Result<Room, NoMemory>
@@ -88,11 +93,11 @@ pub fn reserve_room(
         → IsRoomOver query.now (tables_of db.now) lists room) }
 {
     match plan {
-        Shaped::Along(plan) => {
+        AnyPlan::OrderPlan(plan) => {
             let reserved = reserve_plan(alloc, query, db, &plan)?;
             Ok(Room::Levels(plan, reserved))
         }
-        Shaped::Over(plan) => {
+        AnyPlan::TreePlan(plan) => {
             let reserved = reserve_bushy(alloc, &plan)?;
             Ok(Room::Nodes(plan, reserved))
         }

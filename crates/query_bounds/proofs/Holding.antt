@@ -23,7 +23,7 @@ use Rattle.predicate_bounds.specs.declared.columns.EntryStats.{EntryStats}
 use Rattle.predicate_bounds.specs.declared.columns.QueryStats.{QueryStats}
 use Rattle.predicate_bounds.specs.Told.{TellsList, TellsRows, asked_lists, column_steps, first_steps, no_columns}
 use Rattle.query_bounds.specs.Adding.{MayAdd}
-use Rattle.query_bounds.specs.Bounds.{Holds, entry_bounds, is_among, is_at, scan_list, scan_rows}
+use Rattle.query_bounds.specs.Bounds.{HoldsKnown, entry_bounds, is_among, is_at, scan_list, scan_rows}
 use Rattle.query_bounds.specs.Statistics.{Statistics, Tells, TellsColumn, TellsEntry}
 
 pub is_some_of : {X : Type 0} (o : Option X) (x : X) → o ≡ Some x → IsSome o
@@ -50,17 +50,17 @@ choose : {X : Type 0} (a b : Bool) (x : X) → a ≡ b → (if a then Some x els
 choose a b x e = ap (λ (t : Bool). if t then Some x else None) e
 
 pub none_hold : (query : Query) (known : Statistics) (lists : EntryLists) → ((entry : ℕ) → rows_of lists entry ≡ None) → ((entry column : ℕ) → list_of lists entry column ≡ None)
-    → Holds query known 0 [] lists
+    → HoldsKnown query known 0 [] lists
 none_hold query known lists rows none = record {
   rows = λ entry. rows entry ∙ choose false (ltb entry 0) (scan_rows query known entry) (sym (le-ltb entry 0 (omega arith)));
   columns = λ entry column. none entry column;
 }
 
-pub no_list : (query : Query) (known : Statistics) (n : ℕ) (lists : EntryLists) → Holds query known n [] lists → (entry column : ℕ) → list_of lists entry column ≡ None
+pub no_list : (query : Query) (known : Statistics) (n : ℕ) (lists : EntryLists) → HoldsKnown query known n [] lists → (entry column : ℕ) → list_of lists entry column ≡ None
 no_list query known n lists held entry column = held.columns entry column
 
-pub rows_more : (query : Query) (known : Statistics) (i rows : ℕ) (old new : EntryLists) → Holds query known i [] old → rows ≡ scan_rows query known i → rows_of new i ≡ Some rows
-    → ((other : ℕ) → other ≢ i → rows_of new other ≡ rows_of old other) → ((entry column : ℕ) → list_of new entry column ≡ list_of old entry column) → Holds query known (i + 1) [] new
+pub rows_more : (query : Query) (known : Statistics) (i rows : ℕ) (old new : EntryLists) → HoldsKnown query known i [] old → rows ≡ scan_rows query known i → rows_of new i ≡ Some rows
+    → ((other : ℕ) → other ≢ i → rows_of new other ≡ rows_of old other) → ((entry column : ℕ) → list_of new entry column ≡ list_of old entry column) → HoldsKnown query known (i + 1) [] new
 rows_more query known i rows old new held is set others lists = record {
   rows = λ entry. elim (cases_lt entry i) [
     | inl below ↦ others entry (omega arith) ∙ held.rows entry
@@ -102,10 +102,10 @@ either : {X : Type 0} (b : Bool) (x : X) → unwrap_or (if b then Some x else No
 either true x = refl
 either false x = refl
 
-pub list_more : (query : Query) (known : Statistics) (n : ℕ) (places : List Place) (place : Place) (old new : EntryLists) → Holds query known n places old
+pub list_more : (query : Query) (known : Statistics) (n : ℕ) (places : List Place) (place : Place) (old new : EntryLists) → HoldsKnown query known n places old
     → list_of new place.entry place.column ≡ Some (unwrap_or (list_of old place.entry place.column) (scan_list query known place.entry place.column))
     → ((entry column : ℕ) → ((entry ≢ place.entry) ⊎ (column ≢ place.column)) → list_of new entry column ≡ list_of old entry column)
-    → ((entry : ℕ) → rows_of new entry ≡ rows_of old entry) → Holds query known n (places ++ place ∷ []) new
+    → ((entry : ℕ) → rows_of new entry ≡ rows_of old entry) → HoldsKnown query known n (places ++ place ∷ []) new
 list_more query known n places place old new held set others rows = record {
   rows = λ entry. rows entry ∙ held.rows entry;
   columns = λ entry column. at entry column (eqb place.entry entry) (eqb place.column column) refl refl;
@@ -178,11 +178,11 @@ pair_told query stats known items tells is i d low =
 
 -- what one call adds
 pub added : (query : Query) (stats : QueryStats) (known : Statistics) (n : ℕ) (places : List Place) (place : Place) (old new : EntryLists) → TellsColumn query stats known place.entry place.column
-    → Holds query known n places old
+    → HoldsKnown query known n places old
     → ((q : Query) (lists : ColumnLists) → TellsList q stats place.entry place.column lists
     → list_of new place.entry place.column ≡ Some (unwrap_or (list_of old place.entry place.column) (filtered_list lists place.entry q.conjuncts)))
     → ((entry column : ℕ) → ((entry ≢ place.entry) ⊎ (column ≢ place.column)) → list_of new entry column ≡ list_of old entry column)
-    → ((entry : ℕ) → rows_of new entry ≡ rows_of old entry) → Holds query known n (places ++ place ∷ []) new
+    → ((entry : ℕ) → rows_of new entry ≡ rows_of old entry) → HoldsKnown query known n (places ++ place ∷ []) new
 added query stats known n places place old new told held set others rows =
     list_more query known n places place old new held (set query (known.lists place.entry place.column) told.lists) others rows
 
@@ -191,7 +191,7 @@ abbrev pub no_edge : Edge
 no_edge = record { left = record { entry = 0; column = 0 }; right = record { entry = 0; column = 0 } }
 
 pub may_add : (query : Query) (stats : QueryStats) (known : Statistics) (n : ℕ) (places : List Place) (place : Place) (lists : EntryLists) → Tells query stats known → n ≡ length query.from
-    → TellsColumn query stats known place.entry place.column → Holds query known n places lists → MayAdd stats place lists
+    → TellsColumn query stats known place.entry place.column → HoldsKnown query known n places lists → MayAdd stats place lists
 may_add query stats known n places place lists tells whole told held = record {
   query = query;
   known = known.lists place.entry place.column;
@@ -207,7 +207,7 @@ may_add query stats known n places place lists tells whole told held = record {
 
 -- ---- as bounds of entries
 
-pub bounds_told : (query : Query) (known : Statistics) (lists : EntryLists) → Holds query known (length query.from) (places_of (equalities_of query)) lists → bounds_of lists ≡ entry_bounds query known
+pub bounds_told : (query : Query) (known : Statistics) (lists : EntryLists) → HoldsKnown query known (length query.from) (places_of (equalities_of query)) lists → bounds_of lists ≡ entry_bounds query known
 bounds_told query known lists held =
     ap (λ (rows : ℕ → ℕ). made rows (λ entry column. unwrap_or (list_of lists entry column) [])) (fun_ext same_rows)
     ∙ ap (made (λ entry. if ltb entry (length query.from) then scan_rows query known entry else 0)) (fun_ext (λ (entry : ℕ). fun_ext (same_list entry)))

@@ -20,16 +20,16 @@ use Rattle.bound_fold.proofs.TestedSets.{each_in_set, each_named}
 use Rattle.set_bounds.specs.AllSets.{bound_told, bounds_of_sets}
 use Rattle.set_bounds.proofs.Telling.{told_at}
 use Rattle.entry_sets.proofs.Listing.{entry_below}
-use Rattle.query_bounds.specs.Bounds.{Holds, is_among, is_at, scan_list, scan_rows}
+use Rattle.query_bounds.specs.Bounds.{HoldsKnown, is_among, is_at, scan_list, scan_rows}
 use Rattle.query_bounds.specs.Statistics.{Statistics}
 use Rattle.query_bounds.proofs.Holding.{is_some_of}
 
 -- ---- which entries and columns are there
 
-pub row_there : (query : Query) (known : Statistics) (n : ℕ) (places : List Place) (lists : EntryLists) → Holds query known n places lists → (entry : ℕ) → entry < n → rows_of lists entry ≡ Some (scan_rows query known entry)
+pub row_there : (query : Query) (known : Statistics) (n : ℕ) (places : List Place) (lists : EntryLists) → HoldsKnown query known n places lists → (entry : ℕ) → entry < n → rows_of lists entry ≡ Some (scan_rows query known entry)
 row_there query known n places lists held entry low = held.rows entry ∙ ap (λ (t : Bool). if t then Some (scan_rows query known entry) else None) (lt-ltb entry n low)
 
-pub list_there : (query : Query) (known : Statistics) (n : ℕ) (places : List Place) (lists : EntryLists) → Holds query known n places lists → (entry column : ℕ) → is_among places entry column ≡ true
+pub list_there : (query : Query) (known : Statistics) (n : ℕ) (places : List Place) (lists : EntryLists) → HoldsKnown query known n places lists → (entry column : ℕ) → is_among places entry column ≡ true
     → list_of lists entry column ≡ Some (scan_list query known entry column)
 list_there query known n places lists held entry column among = held.columns entry column ∙ ap (λ (t : Bool). if t then Some (scan_list query known entry column) else None) among
 
@@ -62,7 +62,7 @@ both_among (e ∷ es) (suc k) d low =
     )
 
 -- so every set has what its bound needs
-pub all_listed : (query : Query) (known : Statistics) (n : ℕ) (es : List Edge) (lists : EntryLists) → Holds query known n (places_of es) lists → SetIsListed lists es (2 ^ n - 1)
+pub all_listed : (query : Query) (known : Statistics) (n : ℕ) (es : List Edge) (lists : EntryLists) → HoldsKnown query known n (places_of es) lists → SetIsListed lists es (2 ^ n - 1)
 all_listed query known n es lists held = record {
   rows = each_in_set (λ k. IsSome (rows_of lists k)) (2 ^ n - 1) (λ k low has. is_some_of (rows_of lists k) (scan_rows query known k)
       (row_there query known n (places_of es) lists held k (entry_below n (2 ^ n - 1) k (omega (arith, pow_pos n)) has)));

@@ -38,7 +38,7 @@ entry_bounds query known = record {
 }
 
 -- the row bounds of the first n entries are there, the lists of these columns, and nothing else
-pub record Holds (query : Query) (known : Statistics) (n : ℕ) (places : List Place) (lists : EntryLists) : Type 0 where
+pub record HoldsKnown (query : Query) (known : Statistics) (n : ℕ) (places : List Place) (lists : EntryLists) : Type 0 where
   pub rows : (entry : ℕ) → rows_of lists entry ≡ (if nat_lt entry n then Some (scan_rows query known entry) else None)
   pub columns : (entry column : ℕ) → list_of lists entry column
       ≡ (if is_among places entry column then Some (scan_list query known entry column) else None)

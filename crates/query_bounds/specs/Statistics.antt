@@ -40,7 +40,7 @@ pub record Tells (query : Query) (stats : QueryStats) (known : Statistics) : Typ
   pub columns : EachNamedColumn (TellsColumn query stats known) (equalities_of query)
 
 -- there is something that is told
-pub record IsTold (query : Query) (stats : QueryStats) : Type 0 where
+pub record StatsAreTold (query : Query) (stats : QueryStats) : Type 0 where
   pub known : Statistics
   pub tells : Tells query stats known
 

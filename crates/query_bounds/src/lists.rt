@@ -7,8 +7,8 @@ ghost use Rattle.query_types.specs.declared.types.Query.{Query};
 ghost use Rattle.filtered_lists.specs.Lists.{ColumnLists, filtered_list};
 ghost use Rattle.predicate_bounds.specs.Told.{TellsList};
 ghost use Rattle.query_bounds.specs.Adding.{MayAdd};
-ghost use Rattle.query_bounds.specs.Bounds.{Holds, entry_bounds, joined_columns};
-ghost use Rattle.query_bounds.specs.Statistics.{IsTold, Statistics, Tells};
+ghost use Rattle.query_bounds.specs.Bounds.{HoldsKnown, entry_bounds, joined_columns};
+ghost use Rattle.query_bounds.specs.Statistics.{StatsAreTold, Statistics, Tells};
 
 use base_io::NoMemory;
 use berge_tree::Place;
@@ -21,9 +21,9 @@ use std::alloc::Global;
 // The row bound of each FROM entry.
 fn with_rows(alloc: Global, query: &Query, stats: &QueryStats) -> Result<EntryLists, NoMemory>
     requires few { length query.now.from ≤ most_entries }
-    requires told { IsTold query.now stats.now }
+    requires told { StatsAreTold query.now stats.now }
     ensures { IfOk result (λ lists. (known : Statistics) → Tells query.now stats.now known
-        → Holds query.now known (length query.now.from) [] lists) }
+        → HoldsKnown query.now known (length query.now.from) [] lists) }
 {
     let mut lists = EntryLists::new(alloc);
     for entry in 0..query.from.len() as u8 {
@@ -65,9 +65,9 @@ pub fn entry_lists(
 ) -> Result<EntryLists, NoMemory>
     requires few { length query.now.from ≤ most_entries }
     requires equalities { parts.now.equalities ≡ equalities_of query.now }
-    requires told { IsTold query.now stats.now }
+    requires told { StatsAreTold query.now stats.now }
     ensures holds { IfOk result (λ lists. (known : Statistics) → Tells query.now stats.now known
-        → Holds query.now known (length query.now.from) (joined_columns query.now) lists) }
+        → HoldsKnown query.now known (length query.now.from) (joined_columns query.now) lists) }
     ensures bounds { IfOk result (λ lists. (known : Statistics) → Tells query.now stats.now known
         → bounds_of lists ≡ entry_bounds query.now known) }
 {

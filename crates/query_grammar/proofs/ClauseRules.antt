@@ -3,7 +3,7 @@ use Rattle.std.proofs.Common.{refl}
 use Rattle.ll_grammars.specs.declared.terminal.Terminal.TheVariants as terminal
 use Rattle.ll_grammars.specs.Language.{Language, ◌▸◌, made, many}
 use Rattle.ll_grammars.specs.Reading.{Parser}
-use Rattle.ll_grammars.specs.Reads.{Shape, Reads}
+use Rattle.ll_grammars.specs.Reads.{FirstAndFollow, Reads}
 use Rattle.ll_grammars.specs.Rules.{all, second, word, listed}
 use Rattle.ll_grammars.proofs.Steps.{then_shape, maybe_shape}
 use Rattle.ll_grammars.proofs.Repeats.{many_shape}
@@ -16,26 +16,26 @@ use Rattle.query_grammar.proofs.OperandRules.{name_shape, new_name_shape, reads_
 use Rattle.query_grammar.proofs.ConditionRules.{cond_shape}
 use Rattle.query_grammar.proofs.OutputRules.{outs_shape, reads_outs}
 
-abbrev pub source_shape : Shape
+abbrev pub source_shape : FirstAndFollow
 source_shape = then_shape name_shape new_name_shape
 
 pub reads_source : Reads TableReference source_shape read_source
 unfolding read_source
 reads_source = value source (row reads_name reads_new_name refl)
 
-abbrev pub join_shape : Shape
+abbrev pub join_shape : FirstAndFollow
 join_shape = then_shape (maybe_shape (word_shape terminal.Inner)) (then_shape (word_shape terminal.Join) (then_shape source_shape (then_shape (word_shape terminal.On) cond_shape)))
 
-abbrev pub part_shape : Shape
+abbrev pub part_shape : FirstAndFollow
 part_shape = then_shape source_shape (many_shape join_shape)
 
-abbrev pub parts_shape : Shape
+abbrev pub parts_shape : FirstAndFollow
 parts_shape = listed_shape terminal.Comma part_shape
 
-abbrev pub where_shape : Shape
+abbrev pub where_shape : FirstAndFollow
 where_shape = next_shape terminal.Where cond_shape
 
-abbrev pub query_shape : Shape
+abbrev pub query_shape : FirstAndFollow
 query_shape = then_shape (word_shape terminal.Select) (then_shape outs_shape (then_shape (word_shape terminal.From) (then_shape parts_shape (then_shape (maybe_shape where_shape) (maybe_shape (word_shape terminal.Semicolon))))))
 
 module _ {C : Language CondText} {c : Parser CondText} (reads : Reads C cond_shape c) where

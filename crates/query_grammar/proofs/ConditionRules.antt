@@ -4,7 +4,7 @@ use Rattle.ll_grammars.specs.declared.lexeme.Lexeme.{Lexeme}
 use Rattle.ll_grammars.specs.declared.terminal.Terminal.TheVariants as terminal
 use Rattle.ll_grammars.specs.Language.{Language, ◌▸◌, made}
 use Rattle.ll_grammars.specs.Reading.{Parser}
-use Rattle.ll_grammars.specs.Reads.{Shape, Reads}
+use Rattle.ll_grammars.specs.Reads.{FirstAndFollow, Reads}
 use Rattle.ll_grammars.specs.Rules.{all, second, word, listed, in_parentheses}
 use Rattle.ll_grammars.proofs.Steps.{then_shape, either_shape}
 use Rattle.ll_grammars.proofs.Combined.{row, value, choice, repeat, a_word, inside, word_shape, next_shape, listed_shape, right_only}
@@ -15,16 +15,16 @@ use Rattle.query_grammar.specs.Readers.{read_factor, read_next_factor, read_fact
 use Rattle.query_grammar.proofs.OperandRules.{negation_shape, reads_negation}
 use Rattle.query_grammar.proofs.PredicateRules.{predicate_shape, reads_flat}
 
-abbrev pub test_shape : Shape
+abbrev pub test_shape : FirstAndFollow
 test_shape = either_shape (word_shape terminal.Open) predicate_shape
 
-abbrev pub factor_shape : Shape
+abbrev pub factor_shape : FirstAndFollow
 factor_shape = then_shape negation_shape test_shape
 
-abbrev pub term_shape : Shape
+abbrev pub term_shape : FirstAndFollow
 term_shape = listed_shape terminal.And factor_shape
 
-abbrev pub cond_shape : Shape
+abbrev pub cond_shape : FirstAndFollow
 cond_shape = listed_shape terminal.Or term_shape
 
 module _ {T : Language CondText} {t : Parser CondText} (reads : Reads T test_shape t) where

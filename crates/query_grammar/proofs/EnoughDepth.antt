@@ -5,7 +5,7 @@ use Rattle.ll_grammars.specs.declared.terminal.Terminal.TheVariants as terminal
 use Rattle.ll_grammars.specs.Terminals.{among}
 use Rattle.ll_grammars.specs.Language.{Language}
 use Rattle.ll_grammars.specs.Reading.{Parser, Answer, ◌>>=◌, give, starts, read_then}
-use Rattle.ll_grammars.specs.Reads.{Shape, Reads}
+use Rattle.ll_grammars.specs.Reads.{FirstAndFollow, Reads}
 use Rattle.ll_grammars.specs.Rules.{all, second, middle, read_word, read_in_parentheses}
 use Rattle.ll_grammars.proofs.Combined.{a_word}
 use Rattle.ll_grammars.proofs.Alike.{AreAlikeOn, StaysIn, itself_alike, stays, then_alike, made_alike, many_alike}
@@ -43,7 +43,7 @@ opened n x rest h = rw h refl
 abbrev pub Within : ℕ → ℕ → List Lexeme → Type 0
 Within n limit text = nesting_from n text ≤ limit
 
-stays_within : {A : Type 0} {L : Language A} {s : Shape} {p : Parser A} (n limit : ℕ) → Reads L s p → IsBalanced L → StaysIn (Within n limit) p
+stays_within : {A : Type 0} {L : Language A} {s : FirstAndFollow} {p : Parser A} (n limit : ℕ) → Reads L s p → IsBalanced L → StaysIn (Within n limit) p
 stays_within n limit reads balanced = stays (Within n limit) reads (λ front rest value l h. let less = balanced.closes front value l n rest in omega arith)
 
 module _ {T : Language CondText} {t : Parser CondText} (t' : Parser CondText) (reads : Reads T test_shape t) (balanced : IsBalanced T) (n limit : ℕ) (same : AreAlikeOn (Within n limit) t t') where

@@ -2,7 +2,7 @@
 use Rattle.std.proofs.Common.{refl}
 use Rattle.ll_grammars.specs.declared.terminal.Terminal.TheVariants as terminal
 use Rattle.ll_grammars.specs.Language.{one, ◌▸◌, made, maybe}
-use Rattle.ll_grammars.specs.Reads.{Shape, Reads}
+use Rattle.ll_grammars.specs.Reads.{FirstAndFollow, Reads}
 use Rattle.ll_grammars.specs.Rules.{all, second, word, listed}
 use Rattle.ll_grammars.proofs.Steps.{one_shape, then_shape, either_shape, maybe_shape, reads_one}
 use Rattle.ll_grammars.proofs.Combined.{row, value, choice, option, repeat, a_word, inside, some_token, word_shape, next_shape, listed_shape, parentheses_shape}
@@ -11,35 +11,35 @@ use Rattle.query_grammar.specs.Values.{stands, meaning, column, number, text, of
 use Rattle.query_grammar.specs.Grammar.{name_terminals, sign_terminals, digit_terminals, Name, NewName, ColumnReference, Literal, Operand, ComparisonOperator, Negation, InValueList}
 use Rattle.query_grammar.specs.Readers.{read_name, read_other_name, read_new_name, read_dotted_name, read_column, read_number, read_literal, read_operand, read_operator, read_negation, read_next_literal, read_literals, read_value_list}
 
-abbrev pub name_shape : Shape
+abbrev pub name_shape : FirstAndFollow
 name_shape = one_shape name_terminals
 
 pub reads_name : Reads Name name_shape read_name
 unfolding read_name
 reads_name = reads_one name_terminals (some_token terminal.Name) refl
 
-abbrev pub other_name_shape : Shape
+abbrev pub other_name_shape : FirstAndFollow
 other_name_shape = then_shape (maybe_shape (word_shape terminal.As)) name_shape
 
 pub reads_other_name : Reads (made second (maybe (word terminal.As) ▸ Name)) other_name_shape read_other_name
 unfolding read_other_name
 reads_other_name = value second (row (option (a_word terminal.As refl) refl) reads_name refl)
 
-abbrev pub new_name_shape : Shape
+abbrev pub new_name_shape : FirstAndFollow
 new_name_shape = maybe_shape other_name_shape
 
 pub reads_new_name : Reads NewName new_name_shape read_new_name
 unfolding read_new_name
 reads_new_name = option reads_other_name refl
 
-abbrev pub dotted_name_shape : Shape
+abbrev pub dotted_name_shape : FirstAndFollow
 dotted_name_shape = next_shape terminal.Dot name_shape
 
 pub reads_dotted_name : Reads (made second (word terminal.Dot ▸ Name)) dotted_name_shape read_dotted_name
 unfolding read_dotted_name
 reads_dotted_name = value second (row (a_word terminal.Dot refl) reads_name refl)
 
-abbrev pub column_shape : Shape
+abbrev pub column_shape : FirstAndFollow
 column_shape = then_shape name_shape (maybe_shape dotted_name_shape)
 
 pub reads_column : Reads ColumnReference column_shape read_column
@@ -48,14 +48,14 @@ reads_column = value column (row reads_name (option reads_dotted_name refl) refl
 
 -- ---- literals
 
-abbrev pub number_shape : Shape
+abbrev pub number_shape : FirstAndFollow
 number_shape = then_shape (maybe_shape (one_shape sign_terminals)) (one_shape digit_terminals)
 
 pub reads_number : Reads (made number (maybe (one sign_terminals) ▸ one digit_terminals)) number_shape read_number
 unfolding read_number
 reads_number = value number (row (option (reads_one sign_terminals (some_token terminal.Plus) refl) refl) (reads_one digit_terminals (some_token terminal.Zero) refl) refl)
 
-abbrev pub literal_shape : Shape
+abbrev pub literal_shape : FirstAndFollow
 literal_shape = either_shape number_shape (word_shape terminal.Text)
 
 pub reads_literal : Reads Literal literal_shape read_literal
@@ -70,7 +70,7 @@ pub reads_literals : Reads (listed terminal.Comma Literal) (listed_shape termina
 unfolding read_literals
 reads_literals = value all (row reads_literal (repeat reads_next_literal refl refl) refl)
 
-abbrev pub value_list_shape : Shape
+abbrev pub value_list_shape : FirstAndFollow
 value_list_shape = parentheses_shape (listed_shape terminal.Comma literal_shape)
 
 pub reads_value_list : Reads InValueList value_list_shape read_value_list
@@ -79,14 +79,14 @@ reads_value_list = inside reads_literals refl
 
 -- ---- operands, operators, NOT
 
-abbrev pub operand_shape : Shape
+abbrev pub operand_shape : FirstAndFollow
 operand_shape = either_shape column_shape literal_shape
 
 pub reads_operand : Reads Operand operand_shape read_operand
 unfolding read_operand
 reads_operand = choice (value of_column reads_column) (value of_literal reads_literal) refl refl refl
 
-abbrev pub operator_shape : Shape
+abbrev pub operator_shape : FirstAndFollow
 operator_shape = either_shape (word_shape terminal.Equal)
     (either_shape (word_shape terminal.NotEqual)
     (either_shape (word_shape terminal.Less)
@@ -106,7 +106,7 @@ reads_operator =
     refl refl refl)
     refl refl refl
 
-abbrev pub negation_shape : Shape
+abbrev pub negation_shape : FirstAndFollow
 negation_shape = maybe_shape (word_shape terminal.Not)
 
 pub reads_negation : Reads Negation negation_shape read_negation

@@ -4,7 +4,7 @@ use Rattle.std.proofs.lemmas.List.{append-nil}
 use Rattle.ll_grammars.specs.declared.lexeme.Lexeme.{Lexeme}
 use Rattle.ll_grammars.specs.declared.terminal.Terminal.TheVariants as terminal
 use Rattle.ll_grammars.specs.Language.{Language, Then, ◌▸◌, made, ◌∪◌, maybe}
-use Rattle.ll_grammars.specs.Reads.{Shape, Reads}
+use Rattle.ll_grammars.specs.Reads.{FirstAndFollow, Reads}
 use Rattle.ll_grammars.specs.Rules.{all, second, word, listed}
 use Rattle.ll_grammars.proofs.Steps.{then_shape, either_shape}
 use Rattle.ll_grammars.proofs.Otherwise.{otherwise_shape, otherwise}
@@ -122,14 +122,14 @@ from_outs text v (inl l) =
     )
 from_outs text v (inr l) = let c = l.2.first in from_column text l.2.front l.2.rest l.0.0 l.0.1 v l.1 l.2.whole l.2.second c.0.0 c.0.1 c.1 c.2
 
-abbrev pub dotted_out_shape : Shape
+abbrev pub dotted_out_shape : FirstAndFollow
 dotted_out_shape = then_shape (word_shape terminal.Dot) (either_shape (word_shape terminal.Star) (then_shape name_shape new_name_shape))
 
 pub reads_dotted_out : Reads Dotted dotted_out_shape read_dotted_out
 unfolding read_dotted_out
 reads_dotted_out = value second (row (a_word terminal.Dot refl) (choice (value star_of (a_word terminal.Star refl)) (value qualified (row reads_name reads_new_name refl)) refl refl refl) refl)
 
-abbrev pub out_shape : Shape
+abbrev pub out_shape : FirstAndFollow
 out_shape = then_shape name_shape (otherwise_shape dotted_out_shape new_name_shape)
 
 pub reads_out : Reads SelectSublist out_shape read_out
@@ -144,7 +144,7 @@ pub reads_listed_outs : Reads (listed terminal.Comma SelectSublist) (listed_shap
 unfolding read_listed_outs
 reads_listed_outs = value all (row reads_out (repeat reads_next_out refl refl) refl)
 
-abbrev pub outs_shape : Shape
+abbrev pub outs_shape : FirstAndFollow
 outs_shape = either_shape (word_shape terminal.Star) (listed_shape terminal.Comma out_shape)
 
 pub reads_outs : Reads SelectList outs_shape read_outs

@@ -4,7 +4,7 @@ use Rattle.std.proofs.Common.{◌≡◌, Bool, List, inl, inr, refl, ap, ◌∙�
 use Rattle.ll_grammars.specs.declared.lexeme.Lexeme.{Lexeme}
 use Rattle.ll_grammars.specs.declared.terminal.Terminal.TheVariants as terminal
 use Rattle.ll_grammars.specs.Language.{Language, Then, ◌▸◌, made, ◌∪◌}
-use Rattle.ll_grammars.specs.Reads.{Shape, Reads}
+use Rattle.ll_grammars.specs.Reads.{FirstAndFollow, Reads}
 use Rattle.ll_grammars.specs.Rules.{word}
 use Rattle.ll_grammars.proofs.Steps.{then_shape, either_shape}
 use Rattle.ll_grammars.proofs.Combined.{row, value, choice, a_word, word_shape, reads_same}
@@ -73,13 +73,13 @@ from_predicates text v (inr (inr l)) =
       },
     )
 
-abbrev pub between_shape : Shape
+abbrev pub between_shape : FirstAndFollow
 between_shape = then_shape (word_shape terminal.Between) (then_shape operand_shape (then_shape (word_shape terminal.And) operand_shape))
 
-abbrev pub behind_not_shape : Shape
+abbrev pub behind_not_shape : FirstAndFollow
 behind_not_shape = either_shape between_shape (then_shape (word_shape terminal.In) value_list_shape)
 
-abbrev pub predicate_shape : Shape
+abbrev pub predicate_shape : FirstAndFollow
 predicate_shape = then_shape operand_shape (either_shape (then_shape operator_shape operand_shape) (then_shape negation_shape behind_not_shape))
 
 pub reads_predicate : Reads Predicate predicate_shape read_predicate

@@ -4,7 +4,7 @@ use Rattle.ll_grammars.specs.declared.lexeme.Lexeme.{Lexeme}
 use Rattle.ll_grammars.specs.declared.terminal.Terminal.TheVariants as terminal
 use Rattle.ll_grammars.specs.Language.{Language}
 use Rattle.ll_grammars.specs.Reading.{Parser}
-use Rattle.ll_grammars.specs.Reads.{Shape, Reads}
+use Rattle.ll_grammars.specs.Reads.{FirstAndFollow, Reads}
 use Rattle.ll_grammars.specs.Rules.{all, second, is_empty, place}
 use Rattle.ll_grammars.specs.Places.{IsSyntaxPlace}
 use Rattle.ll_grammars.proofs.Combined.{a_word, option}
@@ -32,7 +32,7 @@ reads_queries = reads_query reads_condition
 abbrev Shallow : ℕ → List Lexeme → Type 0
 Shallow n text = nesting text ≤ n
 
-stays_shallow : {A : Type 0} {L : Language A} {s : Shape} {p : Parser A} (n : ℕ) → Reads L s p → StaysIn (Shallow n) p
+stays_shallow : {A : Type 0} {L : Language A} {s : FirstAndFollow} {p : Parser A} (n : ℕ) → Reads L s p → StaysIn (Shallow n) p
 unfolding nesting
 stays_shallow n reads = stays (Shallow n) reads (λ front rest value l h. let less = nesting-rest front rest in omega arith)
 

@@ -1,5 +1,5 @@
 //! FROM, WHERE, and whole queries.
-ghost use Rattle.ll_grammars.specs.Rules.{Gives};
+ghost use Rattle.ll_grammars.specs.Rules.{IsReadAs};
 ghost use Rattle.query_grammar.specs.Readers.{read_within, read_source, read_join, read_joins, read_part, read_next_part, read_parts, read_condition_behind_where, read_filter, read_query};
 
 use crate::conditions::condition;
@@ -14,7 +14,7 @@ use ll_grammars::{Reader, Stop};
 /// `name [ [ AS ] name ]`
 #[tactic(auto, unfolding(crate::specs::Readers::read_source))]
 fn source(reader: &mut Reader<'_>) -> Result<SourceText, Stop>
-    ensures { Gives result reader.new (read_source reader.old) }
+    ensures { IsReadAs result reader.new (read_source reader.old) }
 {
     let table = name(reader)?;
     let alias = new_name(reader)?;
@@ -24,7 +24,7 @@ fn source(reader: &mut Reader<'_>) -> Result<SourceText, Stop>
 /// `[ INNER ] JOIN source ON cond`
 #[tactic(auto, unfolding(crate::specs::Readers::read_join))]
 fn join(reader: &mut Reader<'_>) -> Result<JoinText, Stop>
-    ensures { Gives result reader.new (read_join (read_within MAX_NESTING) reader.old) }
+    ensures { IsReadAs result reader.new (read_join (read_within MAX_NESTING) reader.old) }
 {
     optional(reader, INNER)?;
     reader.one(JOIN)?;
@@ -36,7 +36,7 @@ fn join(reader: &mut Reader<'_>) -> Result<JoinText, Stop>
 
 #[tactic(auto, using(ll_grammars::proofs::Loops::many_start), unfolding(crate::specs::Readers::read_joins))]
 fn joins(reader: &mut Reader<'_>) -> Result<Seq<JoinText>, Stop>
-    ensures { Gives result reader.new (read_joins (read_within MAX_NESTING) reader.old) }
+    ensures { IsReadAs result reader.new (read_joins (read_within MAX_NESTING) reader.old) }
 {
     let mut joins = Seq::new(reader.allocator());
     'others: while reader.starts(JOIN_FIRST) {
@@ -49,7 +49,7 @@ fn joins(reader: &mut Reader<'_>) -> Result<Seq<JoinText>, Stop>
 /// `source { [ INNER ] JOIN source ON cond }`
 #[tactic(auto, unfolding(crate::specs::Readers::read_part))]
 fn part(reader: &mut Reader<'_>) -> Result<PartText, Stop>
-    ensures { Gives result reader.new (read_part (read_within MAX_NESTING) reader.old) }
+    ensures { IsReadAs result reader.new (read_part (read_within MAX_NESTING) reader.old) }
 {
     let first = source(reader)?;
     let joins = joins(reader)?;
@@ -58,7 +58,7 @@ fn part(reader: &mut Reader<'_>) -> Result<PartText, Stop>
 
 #[tactic(auto, unfolding(crate::specs::Readers::read_next_part))]
 fn next_part(reader: &mut Reader<'_>) -> Result<PartText, Stop>
-    ensures { Gives result reader.new (read_next_part (read_within MAX_NESTING) reader.old) }
+    ensures { IsReadAs result reader.new (read_next_part (read_within MAX_NESTING) reader.old) }
 {
     reader.one(COMMA)?;
     part(reader)
@@ -66,7 +66,7 @@ fn next_part(reader: &mut Reader<'_>) -> Result<PartText, Stop>
 
 #[tactic(auto, using(ll_grammars::proofs::Loops::listed_start), unfolding(crate::specs::Readers::read_parts))]
 fn parts(reader: &mut Reader<'_>) -> Result<Seq<PartText>, Stop>
-    ensures { Gives result reader.new (read_parts (read_within MAX_NESTING) reader.old) }
+    ensures { IsReadAs result reader.new (read_parts (read_within MAX_NESTING) reader.old) }
 {
     let mut parts = Seq::new(reader.allocator());
     let first = part(reader)?;
@@ -80,7 +80,7 @@ fn parts(reader: &mut Reader<'_>) -> Result<Seq<PartText>, Stop>
 
 #[tactic(auto, unfolding(crate::specs::Readers::read_condition_behind_where))]
 fn condition_behind_where(reader: &mut Reader<'_>) -> Result<CondText, Stop>
-    ensures { Gives result reader.new (read_condition_behind_where (read_within MAX_NESTING) reader.old) }
+    ensures { IsReadAs result reader.new (read_condition_behind_where (read_within MAX_NESTING) reader.old) }
 {
     reader.one(WHERE)?;
     condition(reader, MAX_NESTING)
@@ -89,7 +89,7 @@ fn condition_behind_where(reader: &mut Reader<'_>) -> Result<CondText, Stop>
 /// `[ WHERE cond ]`
 #[tactic(auto, unfolding(crate::specs::Readers::read_filter))]
 fn filter(reader: &mut Reader<'_>) -> Result<Option<CondText>, Stop>
-    ensures { Gives result reader.new (read_filter (read_within MAX_NESTING) reader.old) }
+    ensures { IsReadAs result reader.new (read_filter (read_within MAX_NESTING) reader.old) }
 {
     if reader.starts(WHERE) {
         let condition = condition_behind_where(reader)?;
@@ -102,7 +102,7 @@ fn filter(reader: &mut Reader<'_>) -> Result<Option<CondText>, Stop>
 /// `SELECT outs FROM part { "," part } [ WHERE cond ] [ ";" ]`
 #[tactic(auto, unfolding(crate::specs::Readers::read_query))]
 pub fn query(reader: &mut Reader<'_>) -> Result<QueryText, Stop>
-    ensures { Gives result reader.new (read_query (read_within MAX_NESTING) reader.old) }
+    ensures { IsReadAs result reader.new (read_query (read_within MAX_NESTING) reader.old) }
 {
     reader.one(SELECT)?;
     let outs = outputs(reader)?;

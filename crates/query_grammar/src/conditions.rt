@@ -1,7 +1,7 @@
 //! Conditions: OR, AND, NOT and parentheses. `depth` is how many more parentheses may be opened, one within the
 //! other, so that the recursion is bounded.
 ghost use Rattle.std.specs.Prelude.{◌≡◌, List, IfOk, IfErr};
-ghost use Rattle.ll_grammars.specs.Rules.{Gives};
+ghost use Rattle.ll_grammars.specs.Rules.{IsReadAs};
 ghost use Rattle.query_grammar.specs.Values.{negate, all_of, any_of};
 ghost use Rattle.query_grammar.specs.Readers.{read_factor, read_next_factor, read_factors, read_term, read_next_term, read_terms, read_cond, read_inside, read_test, read_within};
 
@@ -55,7 +55,7 @@ fn negated_if(reader: &Reader<'_>, negated: bool, condition: CondText) -> Result
 #[cycle(conditions)]
 #[tactic(auto, using(crate::proofs::EnoughDepth::test_zero, crate::proofs::EnoughDepth::test_flat, crate::proofs::EnoughDepth::test_inside))]
 fn test(reader: &mut Reader<'_>, depth: u32) -> Result<CondText, Stop>
-    ensures { Gives result reader.new (read_test depth reader.old) }
+    ensures { IsReadAs result reader.new (read_test depth reader.old) }
 {
     if depth == 0 {
         flat_test(reader)
@@ -69,7 +69,7 @@ fn test(reader: &mut Reader<'_>, depth: u32) -> Result<CondText, Stop>
 #[cycle(conditions)]
 #[tactic(auto, unfolding(crate::specs::Readers::read_inside))]
 fn inside(reader: &mut Reader<'_>, depth: u32) -> Result<CondText, Stop>
-    ensures { Gives result reader.new (read_inside (read_test depth) reader.old) }
+    ensures { IsReadAs result reader.new (read_inside (read_test depth) reader.old) }
 {
     reader.one(OPEN)?;
     let inner = condition_at(reader, depth)?;
@@ -80,7 +80,7 @@ fn inside(reader: &mut Reader<'_>, depth: u32) -> Result<CondText, Stop>
 #[cycle(conditions)]
 #[tactic(auto, unfolding(crate::specs::Readers::read_factor))]
 fn factor(reader: &mut Reader<'_>, depth: u32) -> Result<CondText, Stop>
-    ensures { Gives result reader.new (read_factor (read_test depth) reader.old) }
+    ensures { IsReadAs result reader.new (read_factor (read_test depth) reader.old) }
 {
     let negated = negation(reader)?;
     let inner = test(reader, depth)?;
@@ -90,7 +90,7 @@ fn factor(reader: &mut Reader<'_>, depth: u32) -> Result<CondText, Stop>
 #[cycle(conditions)]
 #[tactic(auto, unfolding(crate::specs::Readers::read_next_factor))]
 fn next_factor(reader: &mut Reader<'_>, depth: u32) -> Result<CondText, Stop>
-    ensures { Gives result reader.new (read_next_factor (read_test depth) reader.old) }
+    ensures { IsReadAs result reader.new (read_next_factor (read_test depth) reader.old) }
 {
     reader.one(AND)?;
     factor(reader, depth)
@@ -99,7 +99,7 @@ fn next_factor(reader: &mut Reader<'_>, depth: u32) -> Result<CondText, Stop>
 #[cycle(conditions)]
 #[tactic(auto, using(ll_grammars::proofs::Loops::listed_start), unfolding(crate::specs::Readers::read_factors))]
 fn factors(reader: &mut Reader<'_>, depth: u32) -> Result<Seq<CondText>, Stop>
-    ensures { Gives result reader.new (read_factors (read_test depth) reader.old) }
+    ensures { IsReadAs result reader.new (read_factors (read_test depth) reader.old) }
 {
     let mut factors = Seq::new(reader.allocator());
     let first = factor(reader, depth)?;
@@ -114,7 +114,7 @@ fn factors(reader: &mut Reader<'_>, depth: u32) -> Result<Seq<CondText>, Stop>
 #[cycle(conditions)]
 #[tactic(auto, unfolding(crate::specs::Readers::read_term))]
 fn term(reader: &mut Reader<'_>, depth: u32) -> Result<CondText, Stop>
-    ensures { Gives result reader.new (read_term (read_test depth) reader.old) }
+    ensures { IsReadAs result reader.new (read_term (read_test depth) reader.old) }
 {
     let factors = factors(reader, depth)?;
     Ok(every(factors))
@@ -123,7 +123,7 @@ fn term(reader: &mut Reader<'_>, depth: u32) -> Result<CondText, Stop>
 #[cycle(conditions)]
 #[tactic(auto, unfolding(crate::specs::Readers::read_next_term))]
 fn next_term(reader: &mut Reader<'_>, depth: u32) -> Result<CondText, Stop>
-    ensures { Gives result reader.new (read_next_term (read_test depth) reader.old) }
+    ensures { IsReadAs result reader.new (read_next_term (read_test depth) reader.old) }
 {
     reader.one(OR)?;
     term(reader, depth)
@@ -132,7 +132,7 @@ fn next_term(reader: &mut Reader<'_>, depth: u32) -> Result<CondText, Stop>
 #[cycle(conditions)]
 #[tactic(auto, using(ll_grammars::proofs::Loops::listed_start), unfolding(crate::specs::Readers::read_terms))]
 fn terms(reader: &mut Reader<'_>, depth: u32) -> Result<Seq<CondText>, Stop>
-    ensures { Gives result reader.new (read_terms (read_test depth) reader.old) }
+    ensures { IsReadAs result reader.new (read_terms (read_test depth) reader.old) }
 {
     let mut terms = Seq::new(reader.allocator());
     let first = term(reader, depth)?;
@@ -147,7 +147,7 @@ fn terms(reader: &mut Reader<'_>, depth: u32) -> Result<Seq<CondText>, Stop>
 #[cycle(conditions)]
 #[tactic(auto, unfolding(crate::specs::Readers::read_cond))]
 fn condition_at(reader: &mut Reader<'_>, depth: u32) -> Result<CondText, Stop>
-    ensures { Gives result reader.new (read_cond (read_test depth) reader.old) }
+    ensures { IsReadAs result reader.new (read_cond (read_test depth) reader.old) }
 {
     let terms = terms(reader, depth)?;
     Ok(any(terms))
@@ -156,7 +156,7 @@ fn condition_at(reader: &mut Reader<'_>, depth: u32) -> Result<CondText, Stop>
 /// A condition with at most so many parentheses, one within the other.
 #[tactic(auto, unfolding(crate::specs::Readers::read_within))]
 pub fn condition(reader: &mut Reader<'_>, depth: u32) -> Result<CondText, Stop>
-    ensures { Gives result reader.new (read_within depth reader.old) }
+    ensures { IsReadAs result reader.new (read_within depth reader.old) }
 {
     condition_at(reader, depth)
 }

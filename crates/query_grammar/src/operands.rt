@@ -1,6 +1,6 @@
 //! Names, columns, literals and operands.
 ghost use Rattle.ll_grammars.specs.Reading.{read_one, read_maybe};
-ghost use Rattle.ll_grammars.specs.Rules.{Gives};
+ghost use Rattle.ll_grammars.specs.Rules.{IsReadAs};
 ghost use Rattle.query_grammar.specs.Readers.{read_name, read_other_name, read_new_name, read_dotted_name, read_column, read_number, read_literal, read_operand, read_next_literal, read_literals, read_value_list};
 
 use crate::terminals::{AS, CLOSE, COMMA, DIGITS, DOT, NAME, NEW_NAME, NUMBER, OPEN, SIGN, TEXT};
@@ -10,7 +10,7 @@ use ll_grammars::{Lexeme, Reader, Stop, Terminal};
 
 /// A token that is one of these terminals, if the next one is.
 pub fn optional(reader: &mut Reader<'_>, terminals: &[Terminal]) -> Result<Option<Lexeme>, Stop>
-    ensures { Gives result reader.new (read_maybe terminals.now (read_one terminals.now) reader.old) }
+    ensures { IsReadAs result reader.new (read_maybe terminals.now (read_one terminals.now) reader.old) }
 {
     if reader.starts(terminals) {
         let token = reader.one(terminals)?;
@@ -22,14 +22,14 @@ pub fn optional(reader: &mut Reader<'_>, terminals: &[Terminal]) -> Result<Optio
 
 #[tactic(auto, unfolding(crate::specs::Readers::read_name))]
 pub fn name(reader: &mut Reader<'_>) -> Result<Lexeme, Stop>
-    ensures { Gives result reader.new (read_name reader.old) }
+    ensures { IsReadAs result reader.new (read_name reader.old) }
 {
     reader.one(NAME)
 }
 
 #[tactic(auto, unfolding(crate::specs::Readers::read_other_name))]
 fn other_name(reader: &mut Reader<'_>) -> Result<Lexeme, Stop>
-    ensures { Gives result reader.new (read_other_name reader.old) }
+    ensures { IsReadAs result reader.new (read_other_name reader.old) }
 {
     optional(reader, AS)?;
     name(reader)
@@ -38,7 +38,7 @@ fn other_name(reader: &mut Reader<'_>) -> Result<Lexeme, Stop>
 /// `[ [ AS ] name ]`
 #[tactic(auto, unfolding(crate::specs::Readers::read_new_name))]
 pub fn new_name(reader: &mut Reader<'_>) -> Result<Option<Lexeme>, Stop>
-    ensures { Gives result reader.new (read_new_name reader.old) }
+    ensures { IsReadAs result reader.new (read_new_name reader.old) }
 {
     if reader.starts(NEW_NAME) {
         let name = other_name(reader)?;
@@ -50,7 +50,7 @@ pub fn new_name(reader: &mut Reader<'_>) -> Result<Option<Lexeme>, Stop>
 
 #[tactic(auto, unfolding(crate::specs::Readers::read_dotted_name))]
 fn dotted_name(reader: &mut Reader<'_>) -> Result<Lexeme, Stop>
-    ensures { Gives result reader.new (read_dotted_name reader.old) }
+    ensures { IsReadAs result reader.new (read_dotted_name reader.old) }
 {
     reader.one(DOT)?;
     name(reader)
@@ -59,7 +59,7 @@ fn dotted_name(reader: &mut Reader<'_>) -> Result<Lexeme, Stop>
 /// `name [ "." name ]`
 #[tactic(auto, unfolding(crate::specs::Readers::read_column))]
 fn column(reader: &mut Reader<'_>) -> Result<ColumnText, Stop>
-    ensures { Gives result reader.new (read_column reader.old) }
+    ensures { IsReadAs result reader.new (read_column reader.old) }
 {
     let first = name(reader)?;
     if reader.starts(DOT) {
@@ -78,7 +78,7 @@ fn column(reader: &mut Reader<'_>) -> Result<ColumnText, Stop>
 
 #[tactic(auto, unfolding(crate::specs::Readers::read_number))]
 fn number(reader: &mut Reader<'_>) -> Result<LiteralText, Stop>
-    ensures { Gives result reader.new (read_number reader.old) }
+    ensures { IsReadAs result reader.new (read_number reader.old) }
 {
     let sign = optional(reader, SIGN)?;
     let digits = reader.one(DIGITS)?;
@@ -88,7 +88,7 @@ fn number(reader: &mut Reader<'_>) -> Result<LiteralText, Stop>
 /// `[ "+" | "-" ] Number | Text`
 #[tactic(auto, unfolding(crate::specs::Readers::read_literal))]
 fn literal(reader: &mut Reader<'_>) -> Result<LiteralText, Stop>
-    ensures { Gives result reader.new (read_literal reader.old) }
+    ensures { IsReadAs result reader.new (read_literal reader.old) }
 {
     if reader.starts(NUMBER) {
         number(reader)
@@ -100,7 +100,7 @@ fn literal(reader: &mut Reader<'_>) -> Result<LiteralText, Stop>
 
 #[tactic(auto, unfolding(crate::specs::Readers::read_next_literal))]
 fn next_literal(reader: &mut Reader<'_>) -> Result<LiteralText, Stop>
-    ensures { Gives result reader.new (read_next_literal reader.old) }
+    ensures { IsReadAs result reader.new (read_next_literal reader.old) }
 {
     reader.one(COMMA)?;
     literal(reader)
@@ -108,7 +108,7 @@ fn next_literal(reader: &mut Reader<'_>) -> Result<LiteralText, Stop>
 
 #[tactic(auto, using(ll_grammars::proofs::Loops::listed_start), unfolding(crate::specs::Readers::read_literals))]
 fn literals(reader: &mut Reader<'_>) -> Result<Seq<LiteralText>, Stop>
-    ensures { Gives result reader.new (read_literals reader.old) }
+    ensures { IsReadAs result reader.new (read_literals reader.old) }
 {
     let mut literals = Seq::new(reader.allocator());
     let first = literal(reader)?;
@@ -123,7 +123,7 @@ fn literals(reader: &mut Reader<'_>) -> Result<Seq<LiteralText>, Stop>
 /// `"(" literal { "," literal } ")"`
 #[tactic(auto, unfolding(crate::specs::Readers::read_value_list))]
 pub fn value_list(reader: &mut Reader<'_>) -> Result<Seq<LiteralText>, Stop>
-    ensures { Gives result reader.new (read_value_list reader.old) }
+    ensures { IsReadAs result reader.new (read_value_list reader.old) }
 {
     reader.one(OPEN)?;
     let values = literals(reader)?;
@@ -134,7 +134,7 @@ pub fn value_list(reader: &mut Reader<'_>) -> Result<Seq<LiteralText>, Stop>
 /// `colref | literal`
 #[tactic(auto, unfolding(crate::specs::Readers::read_operand))]
 pub fn operand(reader: &mut Reader<'_>) -> Result<OperandText, Stop>
-    ensures { Gives result reader.new (read_operand reader.old) }
+    ensures { IsReadAs result reader.new (read_operand reader.old) }
 {
     if reader.starts(NAME) {
         let column = column(reader)?;

@@ -1,5 +1,5 @@
 //! What stands behind SELECT.
-ghost use Rattle.ll_grammars.specs.Rules.{Gives};
+ghost use Rattle.ll_grammars.specs.Rules.{IsReadAs};
 ghost use Rattle.query_grammar.specs.Readers.{read_out, read_next_out, read_listed_outs, read_outs};
 
 use crate::operands::{name, new_name};
@@ -11,7 +11,7 @@ use ll_grammars::{Reader, Stop};
 /// `name "." "*" | colref [ [ AS ] name ]`. The first name is read before it is known what it names.
 #[tactic(auto, unfolding(crate::specs::Readers::read_out, crate::specs::Readers::read_dotted_out))]
 fn output(reader: &mut Reader<'_>) -> Result<OutText, Stop>
-    ensures { Gives result reader.new (read_out reader.old) }
+    ensures { IsReadAs result reader.new (read_out reader.old) }
 {
     let first = name(reader)?;
     if reader.starts(DOT) {
@@ -43,7 +43,7 @@ fn output(reader: &mut Reader<'_>) -> Result<OutText, Stop>
 
 #[tactic(auto, unfolding(crate::specs::Readers::read_next_out))]
 fn next_output(reader: &mut Reader<'_>) -> Result<OutText, Stop>
-    ensures { Gives result reader.new (read_next_out reader.old) }
+    ensures { IsReadAs result reader.new (read_next_out reader.old) }
 {
     reader.one(COMMA)?;
     output(reader)
@@ -51,7 +51,7 @@ fn next_output(reader: &mut Reader<'_>) -> Result<OutText, Stop>
 
 #[tactic(auto, using(ll_grammars::proofs::Loops::listed_start), unfolding(crate::specs::Readers::read_listed_outs))]
 fn listed_outputs(reader: &mut Reader<'_>) -> Result<Seq<OutText>, Stop>
-    ensures { Gives result reader.new (read_listed_outs reader.old) }
+    ensures { IsReadAs result reader.new (read_listed_outs reader.old) }
 {
     let mut outs = Seq::new(reader.allocator());
     let first = output(reader)?;
@@ -66,7 +66,7 @@ fn listed_outputs(reader: &mut Reader<'_>) -> Result<Seq<OutText>, Stop>
 /// `"*" | out { "," out }`
 #[tactic(auto, unfolding(crate::specs::Readers::read_outs))]
 pub fn outputs(reader: &mut Reader<'_>) -> Result<OutsText, Stop>
-    ensures { Gives result reader.new (read_outs reader.old) }
+    ensures { IsReadAs result reader.new (read_outs reader.old) }
 {
     if reader.starts(STAR) {
         reader.one(STAR)?;

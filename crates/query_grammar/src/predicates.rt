@@ -1,5 +1,5 @@
 //! Predicates: comparisons, BETWEEN and IN.
-ghost use Rattle.ll_grammars.specs.Rules.{Gives};
+ghost use Rattle.ll_grammars.specs.Rules.{IsReadAs};
 ghost use Rattle.query_grammar.specs.Readers.{read_operator, read_negation, read_predicate, read_flat};
 
 use crate::operands::{operand, value_list};
@@ -12,7 +12,7 @@ use ll_grammars::{Reader, Stop};
 
 #[tactic(auto, unfolding(crate::specs::Readers::read_operator))]
 fn operator(reader: &mut Reader<'_>) -> Result<Op, Stop>
-    ensures { Gives result reader.new (read_operator reader.old) }
+    ensures { IsReadAs result reader.new (read_operator reader.old) }
 {
     if reader.starts(EQUAL) {
         reader.one(EQUAL)?;
@@ -38,7 +38,7 @@ fn operator(reader: &mut Reader<'_>) -> Result<Op, Stop>
 /// Whether NOT stands there, which is read.
 #[tactic(auto, unfolding(crate::specs::Readers::read_negation))]
 pub fn negation(reader: &mut Reader<'_>) -> Result<bool, Stop>
-    ensures { Gives result reader.new (read_negation reader.old) }
+    ensures { IsReadAs result reader.new (read_negation reader.old) }
 {
     if reader.starts(NOT) {
         reader.one(NOT)?;
@@ -51,7 +51,7 @@ pub fn negation(reader: &mut Reader<'_>) -> Result<bool, Stop>
 /// Reads the operand first, since all three predicates begin with one.
 #[tactic(auto, unfolding(crate::specs::Readers::read_predicate))]
 fn predicate(reader: &mut Reader<'_>) -> Result<TestText, Stop>
-    ensures { Gives result reader.new (read_predicate reader.old) }
+    ensures { IsReadAs result reader.new (read_predicate reader.old) }
 {
     let operand_ = operand(reader)?;
     if reader.starts(OPERATOR) {
@@ -89,7 +89,7 @@ fn predicate(reader: &mut Reader<'_>) -> Result<TestText, Stop>
 /// A test with no parenthesis around it.
 #[tactic(auto, unfolding(crate::specs::Readers::read_flat))]
 pub fn flat_test(reader: &mut Reader<'_>) -> Result<CondText, Stop>
-    ensures { Gives result reader.new (read_flat reader.old) }
+    ensures { IsReadAs result reader.new (read_flat reader.old) }
 {
     let test = predicate(reader)?;
     Ok(CondText::Test(test))

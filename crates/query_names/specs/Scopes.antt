@@ -87,13 +87,13 @@ on_conditions first (part ∷ rest) = joined first (first + 1) part.joins ++ on_
 abbrev pub everything : List Source → Scope
 everything from = record { first = 0; end = length from }
 
-abbrev pub filtered : List Source → Option CondText → List Scoped
-filtered from None = []
-filtered from (Some condition) = record { scope = everything from; condition = condition } ∷ []
+abbrev pub where_scope : List Source → Option CondText → List Scoped
+where_scope from None = []
+where_scope from (Some condition) = record { scope = everything from; condition = condition } ∷ []
 
 -- the ON conditions in text order, then that of WHERE
 unfoldable pub conditions : List Source → QueryText → List Scoped
-conditions from query = on_conditions 0 query.parts ++ filtered from query.filter
+conditions from query = on_conditions 0 query.parts ++ where_scope from query.filter
 
 abbrev pub one_by_one : List (List TestText) → List TestText
 one_by_one lists = flat_map (λ list. list) lists

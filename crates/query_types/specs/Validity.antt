@@ -19,7 +19,7 @@ is_text kind.Int = false
 is_text (kind.Text n) = true
 
 -- the FROM entry exists, its table, and the column in it
-pub record Finds (schema : Schema) (from : List Source) (ref : ColumnRef) (column : Column) : Type 0 where
+pub record FindsColumn (schema : Schema) (from : List Source) (ref : ColumnRef) (column : Column) : Type 0 where
   pub source : Source
   pub entry : slice_get from ref.from ≡ Some source
   pub table : Table
@@ -29,7 +29,7 @@ pub record Finds (schema : Schema) (from : List Source) (ref : ColumnRef) (colum
 -- the column exists and is of this kind
 pub record IsColumnOf (schema : Schema) (from : List Source) (ref : ColumnRef) (text : Bool) : Type 0 where
   pub column : Column
-  pub finds : Finds schema from ref column
+  pub finds : FindsColumn schema from ref column
   pub kind : is_text column.kind ≡ text
 
 -- every comparison in a condition is over columns that exist, and of one kind
@@ -43,7 +43,7 @@ IsSourceOf schema source = source.table < length schema.tables
 -- an output's column exists
 pub record IsOutOf (schema : Schema) (from : List Source) (out : Out) : Type 0 where
   pub column : Column
-  pub finds : Finds schema from out.column column
+  pub finds : FindsColumn schema from out.column column
 
 -- a query of a schema: from 1 to 12 FROM entries, at most 256 conjuncts, every table, entry and column in it
 -- exists, and every comparison has two operands of one kind

@@ -13,7 +13,7 @@ use Rattle.counted_sets.specs.Sets as sets
 use Rattle.level_bounds.specs.Keys.{Keys}
 use Rattle.join_steps.specs.Lists.{list_at}
 use Rattle.reduced_scans.specs.Families.{AreAscending, HasPartner, HavePartners, IsConsistent, IsReduced}
-use Rattle.reduced_scans.specs.Wiring.{AreDifferent, AreWired, Classes, IsNumbered, IsUseFor, StandsFor, TellsByKey, first_item, key_on, marked_family, near, opposite, row_at, slot_of}
+use Rattle.reduced_scans.specs.Wiring.{ClassesAreDifferent, AreWired, Classes, IsNumbered, IsUseFor, IsUseForRow, TellsByKey, first_item, key_on, marked_family, near, opposite, row_at, slot_of}
 use Rattle.reduced_scans.proofs.Members.{behind, in_cases, in_front, not_in_none}
 use Rattle.reduced_scans.proofs.MarkedRows.{MarkedAt, at_place, from_family, is_family, place_in, to_family}
 
@@ -93,7 +93,7 @@ same_value classes a b m n k l p q same =
     (ap (λ (x : ℕ × ℕ). x.0) pair, ap (λ (x : ℕ × ℕ). x.1) pair)
 
 -- and one value has one class
-only_class : (classes : Classes) (a b : ℕ) (v : ℕ × ℕ) → AreDifferent classes → slice_get classes a ≡ Some v → slice_get classes b ≡ Some v → a ≡ b
+only_class : (classes : Classes) (a b : ℕ) (v : ℕ × ℕ) → ClassesAreDifferent classes → slice_get classes a ≡ Some v → slice_get classes b ≡ Some v → a ≡ b
 only_class classes a b v different p q = elim (cases_lt a b) [
   | inl before ↦ absurd (different a b v before (slice_get_within classes b v q) (get_or_from_slice_get classes a v v p ∙ sym (get_or_from_slice_get classes b v v q)))
   | inr not_before ↦ elim (cases_eq a b) [
@@ -129,7 +129,7 @@ module _ (scans : List (List ℕ)) (equalities : List Edge) (key : Keys) (equal 
   partners family e true consistent has = consistent.from_left e has
   partners family e false consistent has = consistent.from_right e has
 
-  module _ (classes : Classes) (uses : List Use) (different : AreDifferent classes) (wired : AreWired scans equalities key classes (length equalities) uses) where
+  module _ (classes : Classes) (uses : List Use) (different : ClassesAreDifferent classes) (wired : AreWired scans equalities key classes (length equalities) uses) where
     -- the rows of a consistent set of items have their partners
     from_marks : (kept : ℕ → Bool) → sets.IsConsistent (first_item scans (length scans)) uses kept → (number : ℕ) (e : Edge) (on : Bool) → IsNumbered equalities number e
         → HavePartners (equal_from equal e on) (list_at (marked_family kept 0 scans) (near e on).entry) (list_at (marked_family kept 0 scans) (near e (opposite on)).entry)
@@ -138,7 +138,7 @@ module _ (scans : List (List ℕ)) (equalities : List Edge) (key : Keys) (equal 
         let need : (u : Use) × Contains uses u × IsUseFor classes number on (key_on key (near e on) (row_at scans (near e on).entry m.0)) (first_item scans (near e on).entry + m.0) u =
         wired.complete number e on m.0 numbered.0 numbered m.1 in
         let given : IsGiven uses kept need.0.needs = consistent.given need.0 need.1 (ap kept need.2.is_item ∙ m.2) in
-        let v : StandsFor scans equalities key classes (length equalities) given.0 = wired.sound given.0 given.1 in
+        let v : IsUseForRow scans equalities key classes (length equalities) given.0 = wired.sound given.0 given.1 in
         let slots : (v.is_use.class ≡ need.2.class) × (v.on ≡ opposite on) = one_slot v.is_use.class need.2.class v.on (opposite on) (sym v.is_use.gives ∙ given.3 ∙ need.2.needs) in
         let values : (v.number ≡ number) × (key_on key (near v.edge v.on) (row_at scans (near v.edge v.on).entry v.place) ≡ key_on key (near e on) (row_at scans (near e on).entry m.0)) =
         same_value classes v.is_use.class need.2.class v.number number (key_on key (near v.edge v.on) (row_at scans (near v.edge v.on).entry v.place)) (key_on key (near e on) (row_at scans (near e on).entry m.0))
@@ -161,7 +161,7 @@ module _ (scans : List (List ℕ)) (equalities : List Edge) (key : Keys) (equal 
     from_consistent family consistent = record {
       within = in_family_within scans family;
       given = λ need in_uses stands. (
-          let u : StandsFor scans equalities key classes (length equalities) need = wired.sound need in_uses in
+          let u : IsUseForRow scans equalities key classes (length equalities) need = wired.sound need in_uses in
           let side : Place = near u.edge u.on in
           let other : Place = near u.edge (opposite u.on) in
           let row : ℕ = row_at scans side.entry u.place in

@@ -9,7 +9,7 @@ use Rattle.std.proofs.lemmas.List.Elements.{All-contains, Contains-get_or}
 use Rattle.std.proofs.lemmas.List.FromFn.{length-range_with_len}
 use Rattle.berge_tree.specs.declared.edges.Edge.{Edge}
 use Rattle.csv_tables.specs.declared.types.Database.{Database}
-use Rattle.csv_tables.specs.Pools.{AreDifferent}
+use Rattle.csv_tables.specs.Pools.{TextsAreDifferent}
 use Rattle.csv_tables.specs.Values.{value_cmp}
 use Rattle.schema_types.specs.declared.types.Kind.TheVariants as kind
 use Rattle.query_types.specs.declared.types.ColumnRef.{ColumnRef}
@@ -32,7 +32,7 @@ use Rattle.level_bounds.specs.Keys.{are_equal_at, cell_at, value_at}
 use Rattle.level_bounds.proofs.EqualityFacts.{IsJoin, is_join}
 use Rattle.level_bounds.proofs.Lists.{from_filter_map}
 use Rattle.limits.specs.Profile.{most_rows}
-use Rattle.reduced_scans.specs.Lists.{AreListsOf, JoinsColumns, column_of}
+use Rattle.reduced_scans.specs.Lists.{AreRowLists, JoinsColumns, column_of}
 use Rattle.reduced_scans.specs.Wiring.{TellsByKey, first_item, marked_family, marked_rows}
 use Rattle.reduced_scans.proofs.MarkedRows.{family-take}
 use Rattle.reduced_scans.proofs.OneReduced.{same_lists}
@@ -94,7 +94,7 @@ module _ (query : Query) (db : Database) (scans : List (Rows ℕ)) (of : IsDatab
         | inr past ↦ get_or_past (lists_of scans) entry [] (omega (arith, length-lists_of scans)) ∙ sym (scan_past query (tables_of db) entry past)
       ])
 
-  pub are_lists : AreListsOf db scans
+  pub are_lists : AreRowLists db scans
   are_lists = record {
     tables = of.tables;
     count = count ∙ sym of.entries;
@@ -129,7 +129,7 @@ joins_columns query db of i d low =
     record { left = kinds.left.exists; right = kinds.right.exists }
 
 -- two columns of one kind have equal values just where they have equal cells
-columns_tell : (db : Database) (a b : ColumnRef) (text : Bool) (left right : ℕ) → AreTables db → AreDifferent db.pool → All IsUtf8 db.pool → IsColumnOfKind db a text → IsColumnOfKind db b text
+columns_tell : (db : Database) (a b : ColumnRef) (text : Bool) (left right : ℕ) → AreTables db → TextsAreDifferent db.pool → All IsUtf8 db.pool → IsColumnOfKind db a text → IsColumnOfKind db b text
     → left < (cells_of db a.from).rows → right < (cells_of db b.from).rows
     → is_eq (value_cmp (value_at (tables_of db) a.from a.column left) (value_at (tables_of db) b.from b.column right)) ≡ (cell_at db a.from a.column left == cell_at db b.from b.column right)
 columns_tell db a b text left right tables different utf8 kind_a kind_b low_a low_b =
@@ -139,7 +139,7 @@ columns_tell db a b text left right tables different utf8 kind_a kind_b low_a lo
     (kind_at db a text kind_a ∙ sym (kind_at db b text kind_b))
     (cell_of_row db a left tables kind_a.exists low_a) (cell_of_row db b right tables kind_b.exists low_b))
 
-pub tells : (query : Query) (db : Database) → IsDatabaseOf query db → AreDifferent db.pool → All IsUtf8 db.pool
+pub tells : (query : Query) (db : Database) → IsDatabaseOf query db → TextsAreDifferent db.pool → All IsUtf8 db.pool
     → TellsByKey (scans_of query (tables_of db)) (equalities_of query) (cell_at db) (are_equal_at (tables_of db))
 tells query db of different utf8 e there left right in_left in_right =
     let kinds : JoinsKinds db e = joins_kinds query db e of there in

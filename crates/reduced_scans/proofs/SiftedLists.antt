@@ -12,7 +12,7 @@ use Rattle.row_buf.specs.Rows.{Rows}
 use Rattle.sql_meaning.specs.Tables.{cells_of}
 use Rattle.level_bounds.specs.Keys.{Keys}
 use Rattle.join_steps.specs.Lists.{list_at, lists_of}
-use Rattle.reduced_scans.specs.Lists.{AreListsOf}
+use Rattle.reduced_scans.specs.Lists.{AreRowLists}
 use Rattle.reduced_scans.specs.SemiJoins.{IsJoinedAt, IsSemiJoin}
 use Rattle.reduced_scans.specs.Wiring.{key_on}
 use Rattle.reduced_scans.proofs.ByRounds.{filter_shrinks}
@@ -51,7 +51,7 @@ module _ (key : Keys) (side other : Place) where
       }
 
   -- no list became longer, nor has it other rows
-  pub joined_lists : (db : Database) (old new : List (Rows ℕ)) → AreListsOf db old → IsJoinedAt key side other (lists_of old) (lists_of new) → AreListsOf db new
+  pub joined_lists : (db : Database) (old new : List (Rows ℕ)) → AreRowLists db old → IsJoinedAt key side other (lists_of old) (lists_of new) → AreRowLists db new
   joined_lists db old new are joined =
       let count : length new ≡ length old = sym (length-lists_of new) ∙ joined.count ∙ length-lists_of old in
       record {
@@ -80,7 +80,7 @@ module _ (key : Keys) (side other : Place) where
 
 -- ---- copies
 
-pub lists_alike : (db : Database) (scans lists : List (Rows ℕ)) → AreListsOf db scans → lists_of lists ≡ lists_of scans → AreListsOf db lists
+pub lists_alike : (db : Database) (scans lists : List (Rows ℕ)) → AreRowLists db scans → lists_of lists ≡ lists_of scans → AreRowLists db lists
 lists_alike db scans lists are same =
     let count : length lists ≡ length scans = sym (length-lists_of lists) ∙ ap (λ (l : List (List ℕ)). length l) same ∙ length-lists_of scans in
     record {

@@ -14,28 +14,28 @@ use Rattle.row_buf.specs.Rows.{Rows}
 use Rattle.level_bounds.specs.Keys.{Keys}
 use Rattle.join_steps.specs.Lists.{list_at, lists_of}
 use Rattle.limits.specs.Profile.{most_rows}
-use Rattle.reduced_scans.specs.Wiring.{AddsUses, AreWired, BeginsWith, Classes, IsNumbered, IsUseFor, StandsFor, first_item, key_on, near, opposite, row_at, slot_of}
+use Rattle.reduced_scans.specs.Wiring.{AddsUses, AreWired, ClassesBeginWith, Classes, IsNumbered, IsUseFor, IsUseForRow, first_item, key_on, near, opposite, row_at, slot_of}
 use Rattle.reduced_scans.proofs.MarkedRows.{items_within}
 use Rattle.reduced_scans.proofs.Members.{in_front}
 
 -- ---- classes that go on
 
-pub begins_same : (classes : Classes) → BeginsWith classes classes
+pub begins_same : (classes : Classes) → ClassesBeginWith classes classes
 begins_same classes = record { more = []; grew = sym (append-nil classes) }
 
-pub begins_more : (a b c : Classes) → BeginsWith a b → BeginsWith b c → BeginsWith a c
+pub begins_more : (a b c : Classes) → ClassesBeginWith a b → ClassesBeginWith b c → ClassesBeginWith a c
 begins_more a b c f g = record {
   more = f.more ++ g.more;
   grew = g.grew ∙ ap (λ l. l ++ g.more) f.grew ∙ append_assoc a f.more g.more;
 }
 
-same_class : (old new : Classes) (class : ℕ) (v : ℕ × ℕ) → BeginsWith old new → slice_get old class ≡ Some v → slice_get new class ≡ Some v
+same_class : (old new : Classes) (class : ℕ) (v : ℕ × ℕ) → ClassesBeginWith old new → slice_get old class ≡ Some v → slice_get new class ≡ Some v
 same_class old new class v begins is =
     let low : class < length old = slice_get_within old class v is in
     let here : get_or (old ++ begins.more) class v ≡ v = get_or-append old begins.more v class low ∙ get_or_from_slice_get old class v v is in
     ap (λ (l : Classes). slice_get l class) begins.grew ∙ slice_get-get_or (old ++ begins.more) class v (omega (arith, length-append old begins.more)) ∙ ap Some here
 
-pub use_later : (old new : Classes) (equality : ℕ) (on : Bool) (cell item : ℕ) (u : Use) → BeginsWith old new → IsUseFor old equality on cell item u → IsUseFor new equality on cell item u
+pub use_later : (old new : Classes) (equality : ℕ) (on : Bool) (cell item : ℕ) (u : Use) → ClassesBeginWith old new → IsUseFor old equality on cell item u → IsUseFor new equality on cell item u
 use_later old new equality on cell item u begins is = record {
   class = is.class;
   is_class = same_class old new is.class (equality, cell) begins is.is_class;
@@ -57,7 +57,7 @@ adds_none equality on first cells list classes uses = record {
 }
 
 pub adds_one : (equality : ℕ) (on : Bool) (first : ℕ) (cells list : List ℕ) (count : ℕ) (old mid new : Classes) (old_uses mid_uses new_uses : List Use) (u : Use) (cell item : ℕ)
-    → AddsUses equality on first cells list count old mid old_uses mid_uses → BeginsWith mid new → length new ≤ length mid + 1 → new_uses ≡ mid_uses ++ u ∷ []
+    → AddsUses equality on first cells list count old mid old_uses mid_uses → ClassesBeginWith mid new → length new ≤ length mid + 1 → new_uses ≡ mid_uses ++ u ∷ []
     → cell ≡ slice_index cells (slice_index list count) → item ≡ first + count → IsUseFor new equality on cell item u
     → AddsUses equality on first cells list (count + 1) old new old_uses new_uses
 adds_one equality on first cells list count old mid new old_uses mid_uses new_uses u cell item so_far begins few more is_cell is_item is_use =
@@ -100,7 +100,7 @@ module _ (scans : List (List ℕ)) (equalities : List Edge) (key : Keys) (number
   abbrev AreKeysOf : Bool → List ℕ → Type 0
   AreKeysOf on cells = (row : ℕ) → slice_index cells row ≡ key_on key (near e on) row
 
-  stands_later : (old new : Classes) (count more : ℕ) (u : Use) → count ≤ more → BeginsWith old new → StandsFor scans equalities key old count u → StandsFor scans equalities key new more u
+  stands_later : (old new : Classes) (count more : ℕ) (u : Use) → count ≤ more → ClassesBeginWith old new → IsUseForRow scans equalities key old count u → IsUseForRow scans equalities key new more u
   stands_later old new count more u within begins is = record {
     number = is.number;
     edge = is.edge;
@@ -113,8 +113,8 @@ module _ (scans : List (List ℕ)) (equalities : List Edge) (key : Keys) (number
   }
 
   -- what a side adds stands for its rows
-  side_sound : (on : Bool) (cells : List ℕ) (old new last : Classes) (old_uses new_uses : List Use) → AreKeysOf on cells → AddsSide on cells old new old_uses new_uses → BeginsWith new last
-      → (u : Use) → Contains new_uses u → Contains old_uses u ⊎ StandsFor scans equalities key last (number + 1) u
+  side_sound : (on : Bool) (cells : List ℕ) (old new last : Classes) (old_uses new_uses : List Use) → AreKeysOf on cells → AddsSide on cells old new old_uses new_uses → ClassesBeginWith new last
+      → (u : Use) → Contains new_uses u → Contains old_uses u ⊎ IsUseForRow scans equalities key last (number + 1) u
   side_sound on cells old new last old_uses new_uses keys adds begins u has = elim (adds.sound u has) [
     | inl before ↦ inl before
     | inr found ↦ inr (record {
@@ -134,7 +134,7 @@ module _ (scans : List (List ℕ)) (equalities : List Edge) (key : Keys) (number
   Found classes uses on place =
       (u : Use) × Contains uses u × IsUseFor classes number on (key_on key (near e on) (row_at scans (near e on).entry place)) (first_item scans (near e on).entry + place) u
 
-  side_complete : (on : Bool) (cells : List ℕ) (old new last : Classes) (old_uses new_uses : List Use) → AreKeysOf on cells → AddsSide on cells old new old_uses new_uses → BeginsWith new last
+  side_complete : (on : Bool) (cells : List ℕ) (old new last : Classes) (old_uses new_uses : List Use) → AreKeysOf on cells → AddsSide on cells old new old_uses new_uses → ClassesBeginWith new last
       → (place : ℕ) → place < length (list_at scans (near e on).entry) → Found last new_uses on place
   side_complete on cells old new last old_uses new_uses keys adds begins place low =
       let found : (u : Use) × Contains new_uses u × IsUseFor new number on (slice_index cells (slice_index (list_at scans (near e on).entry) place)) (first_item scans (near e on).entry + place) u = adds.complete place low in (
@@ -196,7 +196,7 @@ pub uses_are_of : (scans : List (List ℕ)) (equalities : List Edge) (key : Keys
     → All (IsUseOf (first_item scans (length scans)) (2 * length classes)) uses
 uses_are_of scans equalities key classes count uses wired i d low =
     let u : Use = get_or uses i d in
-    let is : StandsFor scans equalities key classes count u = wired.sound u (Contains-get_or uses i d low) in
+    let is : IsUseForRow scans equalities key classes count u = wired.sound u (Contains-get_or uses i d low) in
     let class : is.is_use.class < length classes =
     slice_get_within classes is.is_use.class (is.number, key_on key (near is.edge is.on) (row_at scans (near is.edge is.on).entry is.place)) is.is_use.is_class in
     record {

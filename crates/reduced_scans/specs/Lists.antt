@@ -15,7 +15,7 @@ abbrev pub HaveNoSpare : List (Rows ℕ) → Type 0
 HaveNoSpare lists = All (λ list. list.spare ≡ 0) lists
 
 -- a list for each entry, of rows of its table, and no more than a table may have
-pub record AreListsOf (db : Database) (lists : List (Rows ℕ)) : Type 0 where
+pub record AreRowLists (db : Database) (lists : List (Rows ℕ)) : Type 0 where
   pub tables : AreTables db
   pub count : length lists ≡ length db.slots
   pub few : length lists ≤ most_entries

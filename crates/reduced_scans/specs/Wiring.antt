@@ -35,11 +35,11 @@ marked_family kept first (scan ∷ scans) = marked_rows kept first scan ∷ mark
 abbrev pub Classes : Type 0
 Classes = List (ℕ × ℕ)
 
-abbrev pub AreDifferent : Classes → Type 0
-AreDifferent classes = AllPairs (λ a b. a ≢ b) classes
+abbrev pub ClassesAreDifferent : Classes → Type 0
+ClassesAreDifferent classes = AllPairs (λ a b. a ≢ b) classes
 
 -- the new ones begin with the old ones, in their places
-pub record BeginsWith (old new : Classes) : Type 0 where
+pub record ClassesBeginWith (old new : Classes) : Type 0 where
   pub more : Classes
   pub grew : new ≡ old ++ more
 
@@ -68,7 +68,7 @@ pub record IsUseFor (classes : Classes) (equality : ℕ) (on : Bool) (cell item 
 -- the uses of the first so many rows of a list are added, and the values that they need
 pub record AddsUses (equality : ℕ) (on : Bool) (first : ℕ) (cells list : List ℕ) (count : ℕ)
     (old_classes new_classes : Classes) (old new : List Use) : Type 0 where
-  pub begins : BeginsWith old_classes new_classes
+  pub begins : ClassesBeginWith old_classes new_classes
   pub size : length new ≡ length old + count
   pub few : length new_classes ≤ length old_classes + count
   pub kept : (u : Use) → Contains old u → Contains new u
@@ -92,7 +92,7 @@ TellsByKey scans equalities key equal = (e : Edge) → Contains equalities e →
     → Contains (list_at scans e.right.entry) right → equal e left right ≡ (key_on key e.left left == key_on key e.right right)
 
 -- the use stands for a row on a side of one of the first so many equalities
-pub record StandsFor (scans : List (List ℕ)) (equalities : List Edge) (key : Keys) (classes : Classes) (count : ℕ) (u : Use) : Type 0 where
+pub record IsUseForRow (scans : List (List ℕ)) (equalities : List Edge) (key : Keys) (classes : Classes) (count : ℕ) (u : Use) : Type 0 where
   pub number : ℕ
   pub edge : Edge
   pub on : Bool
@@ -106,7 +106,7 @@ pub record StandsFor (scans : List (List ℕ)) (equalities : List Edge) (key : K
 -- the uses are just those of the rows on the sides of the first so many equalities
 pub record AreWired (scans : List (List ℕ)) (equalities : List Edge) (key : Keys) (classes : Classes) (count : ℕ)
     (uses : List Use) : Type 0 where
-  pub sound : (u : Use) → Contains uses u → StandsFor scans equalities key classes count u
+  pub sound : (u : Use) → Contains uses u → IsUseForRow scans equalities key classes count u
   pub complete : (number : ℕ) (edge : Edge) (on : Bool) (place : ℕ) → number < count → IsNumbered equalities number edge
       → place < length (list_at scans (near edge on).entry)
       → (u : Use) × Contains uses u

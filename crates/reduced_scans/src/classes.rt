@@ -1,6 +1,6 @@
 //! The values of equalities, numbered as they come.
 ghost use Rattle.std.specs.Prelude.{◌≡◌, ◌+◌, ◌^◌, ◌<◌, ◌≤◌, [], IfOk, OnOk, Some, length, slice_get};
-ghost use Rattle.reduced_scans.specs.Wiring.{AreDifferent, BeginsWith};
+ghost use Rattle.reduced_scans.specs.Wiring.{ClassesAreDifferent, ClassesBeginWith};
 
 use base_io::NoMemory;
 use indexmap::IndexSet;
@@ -35,7 +35,7 @@ impl ClassSet {
     /// How many values there are. No two are equal.
     pub(crate) fn len(&self) -> usize
         ensures len { result ≡ length self.now }
-        ensures different { AreDifferent self.now }
+        ensures different { ClassesAreDifferent self.now }
     {
         self.pairs.len()
     }
@@ -44,7 +44,7 @@ impl ClassSet {
     pub(crate) fn number(&mut self, equality: u32, cell: u64) -> Result<u32, NoMemory>
         requires { length self.old < 2 ^ 31 }
         ensures class { IfOk result (λ class. slice_get self.new class ≡ Some (equality, cell)) }
-        ensures begins { OnOk result (BeginsWith self.old self.new) }
+        ensures begins { OnOk result (ClassesBeginWith self.old self.new) }
         ensures few { OnOk result (length self.new ≤ length self.old + 1) }
     {
         let (class, _) = self.pairs.insert_full((equality, cell))?;

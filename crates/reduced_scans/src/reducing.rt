@@ -9,7 +9,7 @@ ghost use Rattle.sql_meaning.specs.Tables.{tables_of};
 ghost use Rattle.join_steps.specs.Lists.{scan_of, list_at, lists_of};
 ghost use Rattle.level_bounds.specs.Keys.{cell_at};
 ghost use Rattle.reduced_scans.specs.Families.{AreAscending, IsReduced};
-ghost use Rattle.reduced_scans.specs.Lists.{AreListsOf, HaveNoSpare, JoinsColumns};
+ghost use Rattle.reduced_scans.specs.Lists.{AreRowLists, HaveNoSpare, JoinsColumns};
 ghost use Rattle.reduced_scans.specs.Scans.{AreReducedScans};
 ghost use Rattle.reduced_scans.specs.Wiring.{first_item, marked_family, marked_rows, TellsByKey};
 
@@ -32,7 +32,7 @@ fn marks_of(
     scans: &[RowBuf<u32>],
     equalities: &[Edge],
 ) -> Result<RowBuf<bool>, NoMemory>
-    requires lists { AreListsOf db.now scans.now }
+    requires lists { AreRowLists db.now scans.now }
     requires columns { All (JoinsColumns db.now) equalities.now }
     requires few { length equalities.now ≤ most_conjuncts }
     ensures length { IfOk result (λ marks. length marks.items ≡ first_item (lists_of scans.now) (length scans.now)) }

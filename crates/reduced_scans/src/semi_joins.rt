@@ -9,7 +9,7 @@ ghost use Rattle.join_steps.specs.Columns.{column_cells};
 ghost use Rattle.level_bounds.specs.Keys.{cell_at};
 ghost use Rattle.reduced_scans.specs.Families.{AreAscending};
 ghost use Rattle.join_steps.specs.Lists.{lists_of};
-ghost use Rattle.reduced_scans.specs.Lists.{column_of, AreListsOf, JoinsColumns};
+ghost use Rattle.reduced_scans.specs.Lists.{column_of, AreRowLists, JoinsColumns};
 ghost use Rattle.reduced_scans.specs.SemiJoins.{is_marked, IsJoinedAt, IsSemiJoin, IsSifted, StaySifted};
 ghost use Rattle.reduced_scans.specs.Wiring.{TellsByKey};
 
@@ -88,10 +88,10 @@ fn sift_side(
     side: Place,
     other: Place,
 ) -> Result<(), NoMemory>
-    requires lists { AreListsOf db.now lists.old }
+    requires lists { AreRowLists db.now lists.old }
     requires side { IsColumnOf db.now (column_of side) }
     requires other { IsColumnOf db.now (column_of other) }
-    ensures lists { OnOk result (AreListsOf db.now lists.new) }
+    ensures lists { OnOk result (AreRowLists db.now lists.new) }
     ensures joined { OnOk result (IsJoinedAt (cell_at db.now) side other (lists_of lists.old) (lists_of lists.new)) }
 {
     let list = lists.get(side.entry as usize).as_slice();
@@ -116,9 +116,9 @@ fn sift_equality(
     lists: &mut Seq<RowBuf<u32>>,
     edge: Edge,
 ) -> Result<(), NoMemory>
-    requires lists { AreListsOf db.now lists.old }
+    requires lists { AreRowLists db.now lists.old }
     requires columns { JoinsColumns db.now edge }
-    ensures lists { OnOk result (AreListsOf db.now lists.new) }
+    ensures lists { OnOk result (AreRowLists db.now lists.new) }
     ensures stay { OnOk result ((equalities : List Edge) → Contains equalities edge
         → StaySifted (cell_at db.now) equalities (lists_of lists.old) (lists_of lists.new)) }
 {
@@ -134,9 +134,9 @@ fn sift_forward(
     lists: &mut Seq<RowBuf<u32>>,
     equalities: &[Edge],
 ) -> Result<(), NoMemory>
-    requires lists { AreListsOf db.now lists.old }
+    requires lists { AreRowLists db.now lists.old }
     requires columns { All (JoinsColumns db.now) equalities.now }
-    ensures lists { OnOk result (AreListsOf db.now lists.new) }
+    ensures lists { OnOk result (AreRowLists db.now lists.new) }
     ensures stay { OnOk result (StaySifted (cell_at db.now) equalities.now (lists_of lists.old) (lists_of lists.new)) }
 {
     'equalities: for number in 0..equalities.len() {
@@ -152,9 +152,9 @@ fn sift_back(
     lists: &mut Seq<RowBuf<u32>>,
     equalities: &[Edge],
 ) -> Result<(), NoMemory>
-    requires lists { AreListsOf db.now lists.old }
+    requires lists { AreRowLists db.now lists.old }
     requires columns { All (JoinsColumns db.now) equalities.now }
-    ensures lists { OnOk result (AreListsOf db.now lists.new) }
+    ensures lists { OnOk result (AreRowLists db.now lists.new) }
     ensures stay { OnOk result (StaySifted (cell_at db.now) equalities.now (lists_of lists.old) (lists_of lists.new)) }
 {
     let mut left = equalities.len();
@@ -195,9 +195,9 @@ pub(crate) fn sifted(
     scans: &[RowBuf<u32>],
     equalities: &[Edge],
 ) -> Result<Seq<RowBuf<u32>>, NoMemory>
-    requires lists { AreListsOf db.now scans.now }
+    requires lists { AreRowLists db.now scans.now }
     requires columns { All (JoinsColumns db.now) equalities.now }
-    ensures lists { IfOk result (λ lists. AreListsOf db.now lists) }
+    ensures lists { IfOk result (λ lists. AreRowLists db.now lists) }
     ensures sifted { IfOk result (λ lists. (equal : Edge → ℕ → ℕ → Bool)
         → TellsByKey (lists_of scans.now) equalities.now (cell_at db.now) equal
         → AreAscending (lists_of scans.now)

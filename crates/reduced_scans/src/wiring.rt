@@ -7,8 +7,8 @@ ghost use Rattle.sql_meaning.specs.Databases.{IsColumnOf};
 ghost use Rattle.join_steps.specs.Columns.{column_cells};
 ghost use Rattle.level_bounds.specs.Keys.{cell_at};
 ghost use Rattle.join_steps.specs.Lists.{list_at, lists_of};
-ghost use Rattle.reduced_scans.specs.Lists.{column_of, AreListsOf, JoinsColumns};
-ghost use Rattle.reduced_scans.specs.Wiring.{first_item, slot_of, AddsUses, AreWired, BeginsWith, IsNumbered, IsUseFor};
+ghost use Rattle.reduced_scans.specs.Lists.{column_of, AreRowLists, JoinsColumns};
+ghost use Rattle.reduced_scans.specs.Wiring.{first_item, slot_of, AddsUses, AreWired, ClassesBeginWith, IsNumbered, IsUseFor};
 
 use crate::classes::ClassSet;
 use base_io::NoMemory;
@@ -38,7 +38,7 @@ fn add_use(
 ) -> Result<(), NoMemory>
     requires few { length classes.old < 2 ^ 31 }
     requires room { 1 ≤ uses.old.spare }
-    ensures begins { OnOk result (BeginsWith classes.old classes.new) }
+    ensures begins { OnOk result (ClassesBeginWith classes.old classes.new) }
     ensures few { OnOk result (length classes.new ≤ length classes.old + 1) }
     ensures added { OnOk result ((u : Use) × (uses.new.items ≡ uses.old.items ++ u ∷ [])
         × IsUseFor classes.new equality on_left cell item u) }
@@ -102,7 +102,7 @@ fn add_column(
     classes: &mut ClassSet,
     uses: &mut RowBuf<Use>,
 ) -> Result<(), NoMemory>
-    requires lists { AreListsOf db.now scans.now }
+    requires lists { AreRowLists db.now scans.now }
     requires column { IsColumnOf db.now (column_of column) }
     requires few { length classes.old + most_rows < 2 ^ 31 }
     ensures { OnOk result (AddsUses equality on_left (first_item (lists_of scans.now) column.entry) (column_cells db.now (column_of column))
@@ -129,7 +129,7 @@ fn add_equality(
     classes: &mut ClassSet,
     uses: &mut RowBuf<Use>,
 ) -> Result<(), NoMemory>
-    requires lists { AreListsOf db.now scans.now }
+    requires lists { AreRowLists db.now scans.now }
     requires columns { JoinsColumns db.now edge }
     requires few { length classes.old + 2 * most_rows < 2 ^ 31 }
     ensures wired { OnOk result ((equalities : List Edge) → IsNumbered equalities equality edge
@@ -151,7 +151,7 @@ pub(crate) fn wire(
     classes: &mut ClassSet,
     uses: &mut RowBuf<Use>,
 ) -> Result<(), NoMemory>
-    requires lists { AreListsOf db.now scans.now }
+    requires lists { AreRowLists db.now scans.now }
     requires columns { All (JoinsColumns db.now) equalities.now }
     requires few { length equalities.now ≤ most_conjuncts }
     requires no_classes { classes.old ≡ [] }

@@ -12,7 +12,7 @@ use Rattle.degree_sequences.specs.Saturation.{saturated}
 use Rattle.berge_tree.specs.declared.edges.Edge.{Edge}
 use Rattle.join_graph.specs.Kept.{equalities_within}
 use Rattle.tree_bounds.specs.SetBounds.{SetHasLists, bound_of_set}
-use Rattle.tree_bounds.specs.Tables.{AreDifferent}
+use Rattle.tree_bounds.specs.Tables.{ChoicesAreDifferent}
 use Rattle.tree_bounds.specs.TreeBounds.{EntryBounds, HasList}
 use Rattle.bound_fold.specs.declared.lists.EntryLists.{EntryLists}
 use Rattle.bound_fold.specs.Lists.{list_of as list_held, rows_of}
@@ -27,9 +27,9 @@ use Rattle.safebound_bounds.specs.declared.arguments.ColumnList.{ColumnList}
 use Rattle.safebound_bounds.specs.declared.arguments.Equality.{Equality}
 use Rattle.safebound_bounds.specs.Arguments.{equality_at, is_of, list_at, runs_of}
 use Rattle.safebound_bounds.specs.Causes.{IsRight}
-use Rattle.safebound_bounds.specs.Listed.{Holds}
+use Rattle.safebound_bounds.specs.Listed.{HoldsListed}
 use Rattle.safebound_bounds.specs.InSets.{IsFull}
-use Rattle.safebound_bounds.specs.Meaning.{all_bounds, bound_in, edge_of, edges_of, fitted, fitted_if, given, known, known_in, list_if, narrowed, no_bound, rows_in_set, rows_met, rows_with_value}
+use Rattle.safebound_bounds.specs.Meaning.{all_bounds, bound_in, edge_of, edges_of, fitted, fitted_if, given, known, known_in, list_if, in_64_bits, no_bound, rows_in_set, rows_met, rows_with_value}
 use Rattle.safebound_bounds.specs.Values.{SatisfiesValues, ValuedTables, ValuesFit}
 use Rattle.safebound_bounds.proofs.Fitting.{fitted_falls, fitted_sum, right_falls}
 use Rattle.safebound_bounds.proofs.Holding.{found, rows_there}
@@ -88,7 +88,7 @@ module _ (rows : List ℕ) (equalities : List Equality) (lists : List ColumnList
       )
 
   -- every set has what its bound needs
-  pub all_listed : (held : EntryLists) → Holds rows (length rows) lists runs held → SetIsListed held (edges_of equalities) (2 ^ length rows - 1)
+  pub all_listed : (held : EntryLists) → HoldsListed rows (length rows) lists runs held → SetIsListed held (edges_of equalities) (2 ^ length rows - 1)
   all_listed held h = record {
     rows = each_in_set (λ k. IsSome (rows_of held k)) (2 ^ length rows - 1) (λ k low has.
         some_of (rows_of held k) (get_or rows k 0) (rows_there rows (length rows) lists runs held h k
@@ -97,7 +97,7 @@ module _ (rows : List ℕ) (equalities : List Equality) (lists : List ColumnList
         (λ k d low joins. both_listed (λ entry column. IsSome (list_held held entry column)) (held_there held h) k d low);
   }
     where
-      held_there : (held : EntryLists) → Holds rows (length rows) lists runs held → (entry column : ℕ) → entry < length rows → list_any (is_of entry column) lists ≡ true → IsSome (list_held held entry column)
+      held_there : (held : EntryLists) → HoldsListed rows (length rows) lists runs held → (entry column : ℕ) → entry < length rows → list_any (is_of entry column) lists ≡ true → IsSome (list_held held entry column)
       held_there held h entry column low any =
           let l = given_right entry column any in
           some_of (list_held held entry column) (fitted (get_or rows entry 0) (list_of (runs_of runs l.0)))
@@ -124,7 +124,7 @@ module _ (rows : List ℕ) (equalities : List Equality) (lists : List ColumnList
 module _ (rows : List ℕ) (equalities : List Equality) (lists : List ColumnList) (runs : List Run) (right : IsRight rows equalities lists runs) where
   pub set_within : (subset : ℕ) (tables : ValuedTables) → ValuesFit rows (given lists runs) tables (edges_of equalities) subset → (choices : List (ℕ → ℕ))
       → AllByRecursion (SatisfiesValues tables (entries_of_set subset) (equalities_within subset (edges_of equalities))) choices
-      → AreDifferent (entries_of_set subset) choices → length choices ≤ bound_of_set (known_in rows lists runs (edges_of equalities) subset) (edges_of equalities) subset
+      → ChoicesAreDifferent (entries_of_set subset) choices → length choices ≤ bound_of_set (known_in rows lists runs (edges_of equalities) subset) (edges_of equalities) subset
   set_within subset tables fit choices satisfy differ =
       joined_within tables rows lists runs (edges_of equalities) subset fit
       (set_has_lists (rows_in_set rows lists runs (edges_of equalities) subset) equalities lists runs
@@ -132,16 +132,16 @@ module _ (rows : List ℕ) (equalities : List Equality) (lists : List ColumnList
 
 -- ---- in 64 bits
 
-narrowed_again : (xs : List ℕ) (f : ℕ → ℕ) → map narrowed (map (λ x. saturated (f x)) xs) ≡ map (λ x. narrowed (f x)) xs
+narrowed_again : (xs : List ℕ) (f : ℕ → ℕ) → map in_64_bits (map (λ x. saturated (f x)) xs) ≡ map (λ x. in_64_bits (f x)) xs
 narrowed_again [] f = refl
 narrowed_again (x ∷ xs) f =
-    let same : narrowed (saturated (f x)) ≡ narrowed (f x) = omega arith in
-    ap (λ y. y ∷ map narrowed (map (λ x. saturated (f x)) xs)) same ∙ ap (λ (ys : List ℕ). narrowed (f x) ∷ ys) (narrowed_again xs f)
+    let same : in_64_bits (saturated (f x)) ≡ in_64_bits (f x) = omega arith in
+    ap (λ y. y ∷ map in_64_bits (map (λ x. saturated (f x)) xs)) same ∙ ap (λ (ys : List ℕ). in_64_bits (f x) ∷ ys) (narrowed_again xs f)
 
 -- the bounds that are told, in 64 bits, are those that are meant
-pub told_narrowed : (b : ℕ → EntryBounds) (es fs : List Edge) (n : ℕ) (bounds : List ℕ) → es ≡ fs → bounds ≡ bounds_in_sets b es n → map narrowed bounds ≡ all_bounds b fs n
+pub told_narrowed : (b : ℕ → EntryBounds) (es fs : List Edge) (n : ℕ) (bounds : List ℕ) → es ≡ fs → bounds ≡ bounds_in_sets b es n → map in_64_bits bounds ≡ all_bounds b fs n
 told_narrowed b es fs n bounds like is =
-    ap (map narrowed) is
+    ap (map in_64_bits) is
     ∙ narrowed_again (range_with_len 0 (2 ^ n)) (λ subset. bound_of_set (b subset) es subset)
     ∙ ap (λ (x : List Edge). all_bounds b x n) like
 
@@ -151,19 +151,19 @@ how_many b es n bounds is = ap length is ∙ length-map-range_with_len (λ (subs
 
 -- the whole room
 pub whole_filled : (b : ℕ → EntryBounds) (es fs : List Edge) (n : ℕ) (told bounds old new : List ℕ) (count : ℕ) → es ≡ fs → told ≡ bounds_in_sets b es n → bounds ≡ told
-    → count ≡ length told → IsFilled (map narrowed bounds) old new (length bounds) → IsFilled (all_bounds b fs n) old new count
+    → count ≡ length told → IsFilled (map in_64_bits bounds) old new (length bounds) → IsFilled (all_bounds b fs n) old new count
 whole_filled b es fs n told bounds old new count like is same counted filled =
-    subst (λ (s : List ℕ). IsFilled s old new count) (ap (map narrowed) same ∙ told_narrowed b es fs n told like is)
-    (subst (IsFilled (map narrowed bounds) old new) (ap length same ∙ sym counted) filled)
+    subst (λ (s : List ℕ). IsFilled s old new count) (ap (map in_64_bits) same ∙ told_narrowed b es fs n told like is)
+    (subst (IsFilled (map in_64_bits bounds) old new) (ap length same ∙ sym counted) filled)
 
 -- one bound, in 64 bits
-pub one_narrowed : (b : ℕ → EntryBounds) (es fs : List Edge) (subset bound result : ℕ) → es ≡ fs → bound ≡ bound_told (b subset) es subset → result ≡ narrowed bound
+pub one_narrowed : (b : ℕ → EntryBounds) (es fs : List Edge) (subset bound result : ℕ) → es ≡ fs → bound ≡ bound_told (b subset) es subset → result ≡ in_64_bits bound
     → result ≡ bound_in b fs subset
 one_narrowed b es fs subset bound result like is told =
-    let same : narrowed (saturated (bound_of_set (b subset) es subset)) ≡ narrowed (bound_of_set (b subset) es subset) = omega arith in
-    told ∙ ap narrowed is ∙ same ∙ ap (λ (x : List Edge). bound_in b x subset) like
+    let same : in_64_bits (saturated (bound_of_set (b subset) es subset)) ≡ in_64_bits (bound_of_set (b subset) es subset) = omega arith in
+    told ∙ ap in_64_bits is ∙ same ∙ ap (λ (x : List Edge). bound_in b x subset) like
 
-pub either_told : (n bound told : ℕ) → n ≤ bound → told ≡ narrowed bound → (n ≤ told) ⊎ (told ≡ no_bound)
+pub either_told : (n bound told : ℕ) → n ≤ bound → told ≡ in_64_bits bound → (n ≤ told) ⊎ (told ≡ no_bound)
 either_told n bound told low is = elim (cases_lt bound (2 ^ 64 - 1)) [
   | inl small ↦ inl (omega (arith, low, is, small))
   | inr large ↦ inr (omega (arith, is, large))
@@ -187,7 +187,7 @@ module _ (rows : List ℕ) (equalities : List Equality) (lists : List ColumnList
       → IsFilled (all_bounds (known_in rows lists runs (edges_of equalities)) (edges_of equalities) (length rows)) old new count
       → (subset : ℕ) → subset < 2 ^ length rows → (tables : ValuedTables) → ValuesFit rows (given lists runs) tables (edges_of equalities) subset → (choices : List (ℕ → ℕ))
       → AllByRecursion (SatisfiesValues tables (entries_of_set subset) (equalities_within subset (edges_of equalities))) choices
-      → AreDifferent (entries_of_set subset) choices → (length choices ≤ get_or new subset 0) ⊎ (get_or new subset 0 ≡ no_bound)
+      → ChoicesAreDifferent (entries_of_set subset) choices → (length choices ≤ get_or new subset 0) ⊎ (get_or new subset 0 ≡ no_bound)
   room_never_under old new count filled subset fits tables fit choices satisfy differ =
       either_told (length choices) (bound_of_set (known_in rows lists runs (edges_of equalities) subset) (edges_of equalities) subset) (get_or new subset 0)
       (set_within rows equalities lists runs right subset tables fit choices satisfy differ)
@@ -197,14 +197,14 @@ module _ (rows : List ℕ) (equalities : List Equality) (lists : List ColumnList
       → IfOk r (IsFilled (all_bounds (known_in rows lists runs (edges_of equalities)) (edges_of equalities) (length rows)) old new)
       → OnOk r ((subset : ℕ) → subset < 2 ^ length rows → (tables : ValuedTables) → ValuesFit rows (given lists runs) tables (edges_of equalities) subset → (choices : List (ℕ → ℕ))
       → AllByRecursion (SatisfiesValues tables (entries_of_set subset) (equalities_within subset (edges_of equalities))) choices
-      → AreDifferent (entries_of_set subset) choices → (length choices ≤ get_or new subset 0) ⊎ (get_or new subset 0 ≡ no_bound))
+      → ChoicesAreDifferent (entries_of_set subset) choices → (length choices ≤ get_or new subset 0) ⊎ (get_or new subset 0 ≡ no_bound))
   room_told old new (Ok count) filled = room_never_under old new count filled
   room_told old new (Err e) filled = tt
 
   pub bound_never_under : (subset bound : ℕ) → bound ≡ bound_in (known_in rows lists runs (edges_of equalities)) (edges_of equalities) subset
       → (tables : ValuedTables) → ValuesFit rows (given lists runs) tables (edges_of equalities) subset → (choices : List (ℕ → ℕ))
       → AllByRecursion (SatisfiesValues tables (entries_of_set subset) (equalities_within subset (edges_of equalities))) choices
-      → AreDifferent (entries_of_set subset) choices → (length choices ≤ bound) ⊎ (bound ≡ no_bound)
+      → ChoicesAreDifferent (entries_of_set subset) choices → (length choices ≤ bound) ⊎ (bound ≡ no_bound)
   bound_never_under subset bound is tables fit choices satisfy differ =
       either_told (length choices) (bound_of_set (known_in rows lists runs (edges_of equalities) subset) (edges_of equalities) subset) bound
       (set_within rows equalities lists runs right subset tables fit choices satisfy differ) is

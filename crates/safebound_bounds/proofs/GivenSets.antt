@@ -17,7 +17,7 @@ use Rattle.safebound_bounds.specs.declared.arguments.Equality.{Equality}
 use Rattle.safebound_bounds.specs.Arguments.{list_at}
 use Rattle.safebound_bounds.specs.Causes.{IsBoundsCause, IsRight, IsSetCause, IsWithinCause}
 use Rattle.safebound_bounds.specs.InSets.{IsFull}
-use Rattle.safebound_bounds.specs.Listed.{Holds}
+use Rattle.safebound_bounds.specs.Listed.{HoldsListed}
 use Rattle.safebound_bounds.specs.Meaning.{edges_of, known, known_in, rows_in_set}
 use Rattle.safebound_bounds.proofs.Bounded.{all_listed, told_full}
 use Rattle.safebound_bounds.proofs.Holding.{bounds_known}
@@ -26,7 +26,7 @@ use Rattle.safebound_bounds.proofs.MetRows.{in_set_counted, right_in_set}
 
 module _ (rows : List ℕ) (equalities : List Equality) (lists : List ColumnList) (runs : List Run) (right : IsRight rows equalities lists runs) where
   -- all sets have what their bounds need
-  pub whole_listed : (held : EntryLists) (es : List Edge) → es ≡ edges_of equalities → Holds rows (length rows) lists runs held → SetIsListed held es (2 ^ length rows - 1)
+  pub whole_listed : (held : EntryLists) (es : List Edge) → es ≡ edges_of equalities → HoldsListed rows (length rows) lists runs held → SetIsListed held es (2 ^ length rows - 1)
   whole_listed held es same holds =
       subst (λ (fs : List Edge). SetIsListed held fs (2 ^ length rows - 1)) (sym same) (all_listed rows equalities lists runs right held holds)
 
@@ -34,7 +34,7 @@ module _ (rows : List ℕ) (equalities : List Equality) (lists : List ColumnList
   looks es same = subst (λ (fs : List Edge). LooksAtParts (known_in rows lists runs (edges_of equalities)) fs) (sym same) (looks_at_parts rows lists runs (edges_of equalities))
 
   -- where no list leaves rows without a value
-  pub full_told : {E : Type 0} (held : EntryLists) (es : List Edge) → Holds rows (length rows) lists runs held → ((i : ℕ) → i < length lists → IsFull rows runs (list_at lists i))
+  pub full_told : {E : Type 0} (held : EntryLists) (es : List Edge) → HoldsListed rows (length rows) lists runs held → ((i : ℕ) → i < length lists → IsFull rows runs (list_at lists i))
       → (r : Result (List ℕ) E) → IfOk r (λ bounds. bounds ≡ bounds_of_sets (bounds_of held) es (length rows))
       → IfOk r (λ bounds. bounds ≡ bounds_in_sets (known_in rows lists runs (edges_of equalities)) es (length rows))
   full_told held es holds full (Ok bounds) is =
@@ -55,13 +55,13 @@ module _ (rows : List ℕ) (equalities : List Equality) (lists : List ColumnList
     made_counted : length made ≡ length rows
     made_counted = ap length made_are ∙ in_set_counted rows lists runs (edges_of equalities) subset
 
-    pub listed_here : (held : EntryLists) → subset < 2 ^ length rows → Holds made (length made) lists runs held → SetIsListed held es subset
+    pub listed_here : (held : EntryLists) → subset < 2 ^ length rows → HoldsListed made (length made) lists runs held → SetIsListed held es subset
     listed_here held fits holds =
         subst (λ (fs : List Edge). SetIsListed held fs subset) (sym same)
         (first_listed held (edges_of equalities) (length made) subset (all_listed made equalities lists runs right_here held holds)
         (subst (λ (n : ℕ). subset < 2 ^ n) (sym made_counted) fits))
 
-    pub told_here : {E : Type 0} (held : EntryLists) → Holds made (length made) lists runs held → (r : Result ℕ E) → IfOk r (λ n. n ≡ bound_told (bounds_of held) es subset)
+    pub told_here : {E : Type 0} (held : EntryLists) → HoldsListed made (length made) lists runs held → (r : Result ℕ E) → IfOk r (λ n. n ≡ bound_told (bounds_of held) es subset)
         → IfOk r (λ n. n ≡ bound_told (known_in rows lists runs (edges_of equalities) subset) es subset)
     told_here held holds (Ok n) is =
         is ∙ ap (λ (b : EntryBounds). bound_told b es subset) (bounds_known made lists runs held holds ∙ ap (λ (s : List ℕ). known s lists runs) made_are)

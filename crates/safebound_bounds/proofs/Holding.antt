@@ -12,7 +12,7 @@ use Rattle.safebound_lists.specs.declared.runs.Run.{Run}
 use Rattle.safebound_lists.specs.Runs.{list_of}
 use Rattle.safebound_bounds.specs.declared.arguments.ColumnList.{ColumnList}
 use Rattle.safebound_bounds.specs.Arguments.{is_of, runs_of}
-use Rattle.safebound_bounds.specs.Listed.{Holds}
+use Rattle.safebound_bounds.specs.Listed.{HoldsListed}
 use Rattle.safebound_bounds.specs.Meaning.{fitted, fitted_if, given, known, list_if}
 
 -- ---- row bounds
@@ -20,14 +20,14 @@ use Rattle.safebound_bounds.specs.Meaning.{fitted, fitted_if, given, known, list
 choose : {X : Type 0} (a b : Bool) (x : X) → a ≡ b → (if a then Some x else None) ≡ (if b then Some x else None)
 choose a b x e = ap (λ (t : Bool). if t then Some x else None) e
 
-pub none_held : (rows : List ℕ) (held : EntryLists) → ((entry : ℕ) → rows_of held entry ≡ None) → ((entry column : ℕ) → list_held held entry column ≡ None) → Holds rows 0 [] [] held
+pub none_held : (rows : List ℕ) (held : EntryLists) → ((entry : ℕ) → rows_of held entry ≡ None) → ((entry column : ℕ) → list_held held entry column ≡ None) → HoldsListed rows 0 [] [] held
 none_held rows held no_rows no_lists = record {
   entries = λ entry. no_rows entry ∙ choose false (ltb entry 0) (get_or rows entry 0) (sym (le-ltb entry 0 (omega arith)));
   columns = λ entry column. no_lists entry column;
 }
 
-pub rows_more : (rows : List ℕ) (i bound : ℕ) (old new : EntryLists) → Holds rows i [] [] old → bound ≡ get_or rows i 0 → rows_of new i ≡ Some bound
-    → ((other : ℕ) → other ≢ i → rows_of new other ≡ rows_of old other) → ((entry column : ℕ) → list_held new entry column ≡ list_held old entry column) → Holds rows (i + 1) [] [] new
+pub rows_more : (rows : List ℕ) (i bound : ℕ) (old new : EntryLists) → HoldsListed rows i [] [] old → bound ≡ get_or rows i 0 → rows_of new i ≡ Some bound
+    → ((other : ℕ) → other ≢ i → rows_of new other ≡ rows_of old other) → ((entry column : ℕ) → list_held new entry column ≡ list_held old entry column) → HoldsListed rows (i + 1) [] [] new
 rows_more rows i bound old new held is set others lists = record {
   entries = λ entry. elim (cases_lt entry i) [
     | inl below ↦ others entry (omega arith) ∙ held.entries entry
@@ -46,11 +46,11 @@ rows_more rows i bound old new held is set others lists = record {
         ap (rows_of new) same ∙ set ∙ ap Some (is ∙ ap (λ k. get_or rows k 0) (sym same))
         ∙ choose true (ltb entry (i + 1)) (get_or rows entry 0) (sym (lt-ltb entry (i + 1) (omega arith)))
 
-pub rows_there : (rows : List ℕ) (n : ℕ) (lists : List ColumnList) (runs : List Run) (held : EntryLists) → Holds rows n lists runs held → (entry : ℕ) → entry < n → rows_of held entry ≡ Some (get_or rows entry 0)
+pub rows_there : (rows : List ℕ) (n : ℕ) (lists : List ColumnList) (runs : List Run) (held : EntryLists) → HoldsListed rows n lists runs held → (entry : ℕ) → entry < n → rows_of held entry ≡ Some (get_or rows entry 0)
 rows_there rows n lists runs held h entry low = h.entries entry ∙ choose (ltb entry n) true (get_or rows entry 0) (lt-ltb entry n low)
 
 -- no lists yet, whatever the runs
-pub without_lists : (rows : List ℕ) (n : ℕ) (runs : List Run) (held : EntryLists) → Holds rows n [] [] held → Holds rows n [] runs held
+pub without_lists : (rows : List ℕ) (n : ℕ) (runs : List Run) (held : EntryLists) → HoldsListed rows n [] [] held → HoldsListed rows n [] runs held
 without_lists rows n runs held h = record { entries = h.entries; columns = h.columns }
 
 -- ---- the list of a column
@@ -89,17 +89,17 @@ found entry column (l ∷ lists) any = by (is_of entry column l) any (λ h. foun
 
 -- ---- one more list
 
-pub not_held : (rows : List ℕ) (n : ℕ) (lists : List ColumnList) (runs : List Run) (held : EntryLists) (entry column : ℕ) → Holds rows n lists runs held
+pub not_held : (rows : List ℕ) (n : ℕ) (lists : List ColumnList) (runs : List Run) (held : EntryLists) (entry column : ℕ) → HoldsListed rows n lists runs held
     → list_any (is_of entry column) lists ≡ false → list_held held entry column ≡ None
 not_held rows n lists runs held entry column h none =
     h.columns entry column ∙ ap (λ (o : Option ColumnList). option_map (fitted (get_or rows entry 0)) (list_if runs o)) (find_none entry column lists none)
 
 module _ (rows : List ℕ) (n : ℕ) (lists : List ColumnList) (runs : List Run) (x : ColumnList) (old new : EntryLists) (fitting : List ℕ) where
-  pub list_more : Holds rows n lists runs old → list_any (is_of x.entry x.column) lists ≡ false
+  pub list_more : HoldsListed rows n lists runs old → list_any (is_of x.entry x.column) lists ≡ false
       → fitting ≡ fitted (get_or rows x.entry 0) (list_of (runs_of runs x))
       → list_held new x.entry x.column ≡ Some fitting
       → ((entry column : ℕ) → ((entry ≢ x.entry) ⊎ (column ≢ x.column)) → list_held new entry column ≡ list_held old entry column)
-      → ((entry : ℕ) → rows_of new entry ≡ rows_of old entry) → Holds rows n (lists ++ x ∷ []) runs new
+      → ((entry : ℕ) → rows_of new entry ≡ rows_of old entry) → HoldsListed rows n (lists ++ x ∷ []) runs new
   list_more h once is set others same_rows = record {
     entries = λ entry. same_rows entry ∙ h.entries entry;
     columns = λ entry column. at entry column (eqb x.entry entry) (eqb x.column column) refl refl;
@@ -129,7 +129,7 @@ module _ (rows : List ℕ) (n : ℕ) (lists : List ColumnList) (runs : List Run)
 
 -- ---- as bounds of entries
 
-pub bounds_known : (rows : List ℕ) (lists : List ColumnList) (runs : List Run) (held : EntryLists) → Holds rows (length rows) lists runs held → bounds_of held ≡ known rows lists runs
+pub bounds_known : (rows : List ℕ) (lists : List ColumnList) (runs : List Run) (held : EntryLists) → HoldsListed rows (length rows) lists runs held → bounds_of held ≡ known rows lists runs
 bounds_known rows lists runs held h =
     ap (λ (r : ℕ → ℕ). made r (λ entry column. unwrap_or (list_held held entry column) [])) (fun_ext same_rows)
     ∙ ap (made (λ entry. get_or rows entry 0)) (fun_ext (λ (entry : ℕ). fun_ext (same_list entry)))

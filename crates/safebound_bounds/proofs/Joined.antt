@@ -17,7 +17,7 @@ use Rattle.bound_fold.proofs.TestedSets.{each_in_set, each_named, entry_at}
 use Rattle.set_bounds.proofs.Forests.{all_in, each}
 use Rattle.tree_bounds.specs.Scans.{SatisfiesScanned, scanned}
 use Rattle.tree_bounds.specs.SetBounds.{SetHasLists, bound_of_set}
-use Rattle.tree_bounds.specs.Tables.{AreDifferent, Dominates, RowsFit, SetDominates}
+use Rattle.tree_bounds.specs.Tables.{ChoicesAreDifferent, Dominates, RowsFit, SetDominates}
 use Rattle.tree_bounds.proofs.Scanned.{scanned_within}
 use Rattle.safebound_lists.specs.declared.runs.Run.{Run}
 use Rattle.safebound_bounds.specs.declared.arguments.ColumnList.{ColumnList}
@@ -186,7 +186,7 @@ module _ (tables : ValuedTables) where
     }
 
     pub joined_within : SetHasLists (known_in rows lists runs es subset) es subset → (choices : List (ℕ → ℕ))
-        → AllByRecursion (SatisfiesValues tables (entries_of_set subset) own) choices → AreDifferent (entries_of_set subset) choices
+        → AllByRecursion (SatisfiesValues tables (entries_of_set subset) own) choices → ChoicesAreDifferent (entries_of_set subset) choices
         → length choices ≤ bound_of_set (known_in rows lists runs es subset) es subset
     joined_within listed choices satisfy differ =
         scanned_within (known_in rows lists runs es subset) tested key es subset listed fits_set choices (are_scanned own (entries_of_set subset) choices satisfy) differ

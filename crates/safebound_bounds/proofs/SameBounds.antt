@@ -4,7 +4,7 @@ use Rattle.std.specs.List.{AllByRecursion}
 use Rattle.std.proofs.Math.Path.{fun_ext}
 use Rattle.berge_tree.specs.declared.edges.Edge.{Edge}
 use Rattle.berge_tree.specs.Rooted.{IsTreeOf}
-use Rattle.berge_tree.specs.Trees.{Classes, no_class, and_class, Members, one_member, and_member, JoinTree}
+use Rattle.berge_tree.specs.Trees.{Classes, no_class, and_class, Members, one_member, and_member, BergeTree}
 use Rattle.entry_sets.specs.Sets.{entries_of_set}
 use Rattle.join_graph.specs.Kept.{equalities_within, kept_of, turn_count}
 use Rattle.tree_bounds.specs.Columns.{EachColumn, EachColumnBelow, EachColumnWithin, EachNamedColumn}
@@ -29,7 +29,7 @@ module _ (b c : EntryBounds) where
     same_class (one_member entry column below) h = rw (h.0, same_children entry below h.1) refl
     same_class (and_member entry column below rest) h = rw (h.0, same_children entry below h.1, same_class rest h.2) refl
 
-  same_trees : (ts : List JoinTree) → AllByRecursion (EachColumn HaveOneList) ts → AllByRecursion (λ t. HaveOneBound t.root) ts → bound_of_trees b ts ≡ bound_of_trees c ts
+  same_trees : (ts : List BergeTree) → AllByRecursion (EachColumn HaveOneList) ts → AllByRecursion (λ t. HaveOneBound t.root) ts → bound_of_trees b ts ≡ bound_of_trees c ts
   same_trees [] lists rows = refl
   same_trees (t ∷ ts) lists rows = rw (rows.0, same_children t.root t.below lists.0, same_trees ts lists.1 rows.1) refl
 

@@ -75,6 +75,6 @@ pub record IsWrongRun (lists : List ColumnList) (runs : List Run) (place : ℕ) 
   pub at : place ≡ (list_at lists list).first + run
 
 -- ---- both columns of an equality have a list
-pub record AreListed (lists : List ColumnList) (equality : Equality) : Type 0 where
+pub record ColumnsHaveLists (lists : List ColumnList) (equality : Equality) : Type 0 where
   pub left : list_any (is_of equality.left_entry equality.left_column) lists ≡ true
   pub right : list_any (is_of equality.right_entry equality.right_column) lists ≡ true

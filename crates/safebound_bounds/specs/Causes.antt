@@ -8,9 +8,9 @@ use Rattle.safebound_lists.specs.declared.runs.Run.{Run}
 use Rattle.safebound_lists.specs.First.{IsFirstWrong}
 use Rattle.safebound_bounds.specs.declared.arguments.ColumnList.{ColumnList}
 use Rattle.safebound_bounds.specs.declared.arguments.Equality.{Equality}
-use Rattle.safebound_bounds.specs.Meaning.{edges_of, narrowed}
+use Rattle.safebound_bounds.specs.Meaning.{edges_of, in_64_bits}
 use Rattle.safebound_bounds.specs.Work.{work_of}
-use Rattle.safebound_bounds.specs.Arguments.{AreListed, AreRunsRightAt, IsEqualityRight, IsRightListAt, IsRowsRightAt, IsWrongRun, equality_at}
+use Rattle.safebound_bounds.specs.Arguments.{ColumnsHaveLists, AreRunsRightAt, IsEqualityRight, IsRightListAt, IsRowsRightAt, IsWrongRun, equality_at}
 
 -- there are 1 to 12 entries, each with a row bound that is right
 pub record AreRowsRight (rows : List ℕ) : Type 0 where
@@ -37,7 +37,7 @@ pub record IsRight (rows : List ℕ) (equalities : List Equality) (lists : List 
   pub equalities_right : AreEqualitiesRight (length rows) equalities
   pub lists_right : AreListsRight (length rows) (length runs) lists
   pub runs_right : AreRunsRight lists runs
-  pub listed : (i : ℕ) → i < length equalities → AreListed lists (equality_at equalities i)
+  pub listed : (i : ℕ) → i < length equalities → ColumnsHaveLists lists (equality_at equalities i)
 
 -- another number of entries than 1 to 12, a row bound, equality, list or run that is the first wrong one, too many equalities, a column
 -- without a list, too little room, or want of memory, which needs no cause
@@ -57,7 +57,7 @@ IsBoundsCause rows equalities lists runs room (refusal.Run place) =
     × IsWrongRun lists runs place
 IsBoundsCause rows equalities lists runs room (refusal.MissingList place) =
     AreRowsRight rows × AreEqualitiesRight (length rows) equalities × AreListsRight (length rows) (length runs) lists
-    × AreRunsRight lists runs × IsFirstWrong (λ i. AreListed lists (equality_at equalities i)) (length equalities) place
+    × AreRunsRight lists runs × IsFirstWrong (λ i. ColumnsHaveLists lists (equality_at equalities i)) (length equalities) place
 IsBoundsCause rows equalities lists runs room (refusal.Room needed) =
     IsRight rows equalities lists runs × (needed ≡ 2 ^ length rows) × (room < needed)
 IsBoundsCause rows equalities lists runs room refusal.NoMemory = ⊤
@@ -67,7 +67,7 @@ IsBoundsCause rows equalities lists runs room _ = ⊥
 abbrev pub IsWithinCause : List ℕ → List Equality → List ColumnList → List Run → ℕ → ℕ → Refusal → Type 0
 IsWithinCause rows equalities lists runs limit room (refusal.Work needed) =
     IsRight rows equalities lists runs × (2 ^ length rows ≤ room) × (limit < work_of lists (edges_of equalities) (length rows))
-    × (needed ≡ narrowed (work_of lists (edges_of equalities) (length rows)))
+    × (needed ≡ in_64_bits (work_of lists (edges_of equalities) (length rows)))
 IsWithinCause rows equalities lists runs limit room why = IsBoundsCause rows equalities lists runs room why
 
 -- of one set: the same with room enough, and where all else is right, a set with an entry that isn't there

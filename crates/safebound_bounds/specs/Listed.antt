@@ -7,6 +7,6 @@ use Rattle.safebound_bounds.specs.declared.arguments.ColumnList.{ColumnList}
 use Rattle.safebound_bounds.specs.Meaning.{fitted, given}
 
 -- the row bounds of the first n entries, and the lists, each for the rows of its entry
-pub record Holds (rows : List ℕ) (n : ℕ) (lists : List ColumnList) (runs : List Run) (held : EntryLists) : Type 0 where
+pub record HoldsListed (rows : List ℕ) (n : ℕ) (lists : List ColumnList) (runs : List Run) (held : EntryLists) : Type 0 where
   pub entries : (entry : ℕ) → rows_of held entry ≡ (if nat_lt entry n then Some (slice_index rows entry) else None)
   pub columns : (entry column : ℕ) → list_held held entry column ≡ option_map (fitted (slice_index rows entry)) (given lists runs entry column)

@@ -74,12 +74,12 @@ known_in rows lists runs es subset = known (rows_in_set rows lists runs es subse
 abbrev pub no_bound : ℕ
 no_bound = 2 ^ 64 - 1
 
-abbrev pub narrowed : ℕ → ℕ
-narrowed bound = min bound no_bound
+abbrev pub in_64_bits : ℕ → ℕ
+in_64_bits bound = min bound no_bound
 
 -- of a set, by what is known in it
 abbrev pub bound_in : (ℕ → EntryBounds) → List Edge → ℕ → ℕ
-bound_in b es subset = narrowed (bound_of_set (b subset) es subset)
+bound_in b es subset = in_64_bits (bound_of_set (b subset) es subset)
 
 -- of each set of n entries, at the number whose bits are the set
 abbrev pub all_bounds : (ℕ → EntryBounds) → List Edge → ℕ → List ℕ

@@ -3,14 +3,14 @@ ghost use Rattle.std.specs.Prelude.{◌≡◌, ◌⊎◌, ◌^◌, ◌<◌, ◌�
 ghost use Rattle.std.specs.List.{AllByRecursion};
 ghost use Rattle.entry_sets.specs.Sets.{entries_of_set};
 ghost use Rattle.join_graph.specs.Kept.{equalities_within};
-ghost use Rattle.tree_bounds.specs.Tables.{AreDifferent};
+ghost use Rattle.tree_bounds.specs.Tables.{ChoicesAreDifferent};
 ghost use Rattle.safebound_lists.specs.declared.refusal.Refusal.TheVariants as refusal;
 ghost use Rattle.safebound_lists.specs.Written.{IsFilled};
 ghost use Rattle.safebound_bounds.specs.Arguments.{list_at};
 ghost use Rattle.set_bounds.specs.AllSets.{bounds_in_sets as told_in_sets};
 ghost use Rattle.safebound_bounds.specs.Causes.{IsBoundsCause, IsRight, IsSetCause, IsWithinCause};
 ghost use Rattle.safebound_bounds.specs.InSets.{IsFull, known_by};
-ghost use Rattle.safebound_bounds.specs.Meaning.{all_bounds, bound_in, edges_of, given, known_in, narrowed as narrowed_of, no_bound};
+ghost use Rattle.safebound_bounds.specs.Meaning.{all_bounds, bound_in, edges_of, given, known_in, in_64_bits as narrowed_of, no_bound};
 ghost use Rattle.safebound_bounds.specs.Values.{SatisfiesValues, ValuedTables, ValuesFit};
 ghost use Rattle.safebound_bounds.specs.Work.{work_of};
 
@@ -170,7 +170,7 @@ pub fn bounds(
         → (tables : ValuedTables) → ValuesFit rows.now (given lists.now runs.now) tables (edges_of equalities.now) subset
         → (choices : List (ℕ → ℕ))
         → AllByRecursion (SatisfiesValues tables (entries_of_set subset) (equalities_within subset (edges_of equalities.now))) choices
-        → AreDifferent (entries_of_set subset) choices
+        → ChoicesAreDifferent (entries_of_set subset) choices
         → (length choices ≤ slice_index into.new subset) ⊎ (slice_index into.new subset ≡ no_bound)) }
     ensures right { OnOk result (IsRight rows.now equalities.now lists.now runs.now) }
     ensures refused { IfErr result (IsBoundsCause rows.now equalities.now lists.now runs.now (length into.old)) }
@@ -220,7 +220,7 @@ pub fn bounds_within(
         → (tables : ValuedTables) → ValuesFit rows.now (given lists.now runs.now) tables (edges_of equalities.now) subset
         → (choices : List (ℕ → ℕ))
         → AllByRecursion (SatisfiesValues tables (entries_of_set subset) (equalities_within subset (edges_of equalities.now))) choices
-        → AreDifferent (entries_of_set subset) choices
+        → ChoicesAreDifferent (entries_of_set subset) choices
         → (length choices ≤ slice_index into.new subset) ⊎ (slice_index into.new subset ≡ no_bound)) }
     ensures right { OnOk result (IsRight rows.now equalities.now lists.now runs.now) }
     ensures within { OnOk result (work_of lists.now (edges_of equalities.now) (length rows.now) ≤ limit) }
@@ -253,7 +253,7 @@ pub fn set_bound(
         (tables : ValuedTables) → ValuesFit rows.now (given lists.now runs.now) tables (edges_of equalities.now) set
         → (choices : List (ℕ → ℕ))
         → AllByRecursion (SatisfiesValues tables (entries_of_set set) (equalities_within set (edges_of equalities.now))) choices
-        → AreDifferent (entries_of_set set) choices
+        → ChoicesAreDifferent (entries_of_set set) choices
         → (length choices ≤ bound) ⊎ (bound ≡ no_bound)) }
     ensures right { OnOk result (IsRight rows.now equalities.now lists.now runs.now) }
     ensures there { OnOk result (set < 2 ^ length rows.now) }

@@ -2,7 +2,7 @@
 ghost use Rattle.std.specs.Prelude.{◌≡◌, ◌<◌, ◌≤◌, ◌↔◌, ℕ, find, length, IsTrue, MatchOption};
 ghost use Rattle.std.specs.List.{list_any};
 ghost use Rattle.safebound_lists.specs.First.{IsFirstWrong};
-ghost use Rattle.safebound_bounds.specs.Arguments.{AreListed, AreRunsRightAt, AreRunsThere, IsEqualityRight, IsListRight, IsRightListAt, IsRowsRightAt, IsWrongRun, equality_at, is_of, list_at, runs_of};
+ghost use Rattle.safebound_bounds.specs.Arguments.{ColumnsHaveLists, AreRunsRightAt, AreRunsThere, IsEqualityRight, IsListRight, IsRightListAt, IsRowsRightAt, IsWrongRun, equality_at, is_of, list_at, runs_of};
 
 use crate::arguments::{ColumnList, Equality, NO_VALUES};
 use berge_tree::Place;
@@ -123,15 +123,15 @@ pub(crate) fn first_wrong_run_of(lists: &[ColumnList], runs: &[Run]) -> Option<u
 }
 
 fn are_listed(lists: &[ColumnList], equality: Equality) -> bool
-    ensures { IsTrue result ↔ AreListed lists.now equality }
+    ensures { IsTrue result ↔ ColumnsHaveLists lists.now equality }
 {
     is_listed(lists, equality.left_entry, equality.left_column)
         && is_listed(lists, equality.right_entry, equality.right_column)
 }
 
 pub(crate) fn first_missing(lists: &[ColumnList], equalities: &[Equality]) -> Option<usize>
-    ensures { MatchOption result ((i : ℕ) → i < length equalities.now → AreListed lists.now (equality_at equalities.now i))
-        (IsFirstWrong (λ i. AreListed lists.now (equality_at equalities.now i)) (length equalities.now)) }
+    ensures { MatchOption result ((i : ℕ) → i < length equalities.now → ColumnsHaveLists lists.now (equality_at equalities.now i))
+        (IsFirstWrong (λ i. ColumnsHaveLists lists.now (equality_at equalities.now i)) (length equalities.now)) }
 {
     for (place, equality) in equalities.iter().enumerate() {
         if !are_listed(lists, *equality) {

@@ -5,7 +5,7 @@ ghost use Rattle.berge_tree.specs.declared.edges.Edge.{Edge};
 ghost use Rattle.entry_sets.specs.Sets.{entries_of_set};
 ghost use Rattle.join_graph.specs.Kept.{equalities_within};
 ghost use Rattle.tree_bounds.specs.SetBounds.{bound_of_set};
-ghost use Rattle.tree_bounds.specs.Tables.{AreDifferent};
+ghost use Rattle.tree_bounds.specs.Tables.{ChoicesAreDifferent};
 ghost use Rattle.safebound_lists.specs.declared.runs.Run.{Run};
 ghost use Rattle.safebound_bounds.specs.declared.arguments.ColumnList.{ColumnList};
 ghost use Rattle.safebound_bounds.specs.declared.arguments.Equality.{Equality};
@@ -20,7 +20,7 @@ pub fn rows_without_values_join_with_nothing()
         → IsRight rows equalities lists runs → (subset : ℕ) → subset < 2 ^ length rows → (tables : ValuedTables)
         → ValuesFit rows (given lists runs) tables (edges_of equalities) subset → (choices : List (ℕ → ℕ))
         → AllByRecursion (SatisfiesValues tables (entries_of_set subset) (equalities_within subset (edges_of equalities))) choices
-        → AreDifferent (entries_of_set subset) choices
+        → ChoicesAreDifferent (entries_of_set subset) choices
         → length choices ≤ bound_of_set (known_in rows lists runs (edges_of equalities) subset) (edges_of equalities) subset }
     ensures unjoined { (rows : List ℕ) (lists : List ColumnList) (runs : List Run) (es : List Edge) (subset : ℕ)
         → equalities_within subset es ≡ [] → known_in rows lists runs es subset ≡ known rows lists runs }

@@ -4,7 +4,7 @@ ghost use Rattle.std.specs.List.{sum};
 ghost use Rattle.limits.specs.Profile.{greatest_rows, most_entries};
 ghost use Rattle.safebound_lists.specs.Runs.{AreRight, list_of};
 ghost use Rattle.safebound_bounds.specs.Arguments.{AreRunsRightAt, IsEqualityRight, IsRightListAt, IsRowsRightAt, equality_at};
-ghost use Rattle.safebound_bounds.specs.Listed.{Holds};
+ghost use Rattle.safebound_bounds.specs.Listed.{HoldsListed};
 ghost use Rattle.safebound_bounds.specs.Meaning.{edge_of as edge_of_equality, edges_of, fitted as fitted_to};
 
 use crate::arguments::{ColumnList, Equality};
@@ -36,7 +36,7 @@ fn fitted(alloc: Global, rows: u64, runs: &[Run]) -> Result<Pieces, NoMemory>
 // The row bounds, and no lists.
 fn with_rows(alloc: Global, rows: &[u64]) -> Result<EntryLists, NoMemory>
     requires { length rows.now ≤ most_entries }
-    ensures { IfOk result (λ known. Holds rows.now (length rows.now) [] [] known) }
+    ensures { IfOk result (λ known. HoldsListed rows.now (length rows.now) [] [] known) }
 {
     let mut known = EntryLists::new(alloc);
     for entry in 0..rows.len() as u8 {
@@ -56,7 +56,7 @@ pub(crate) fn entry_lists(
     requires rows { (i : ℕ) → i < length rows.now → IsRowsRightAt rows.now i }
     requires lists { (i : ℕ) → i < length lists.now → IsRightListAt (length rows.now) (length runs.now) lists.now i }
     requires runs { (i : ℕ) → i < length lists.now → AreRunsRightAt lists.now runs.now i }
-    ensures { IfOk result (λ known. Holds rows.now (length rows.now) lists.now runs.now known) }
+    ensures { IfOk result (λ known. HoldsListed rows.now (length rows.now) lists.now runs.now known) }
 {
     let mut known = with_rows(alloc, rows)?;
     for list in lists {

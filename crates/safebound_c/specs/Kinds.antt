@@ -1,6 +1,6 @@
 -- The joins as include/safebound.h numbers them.
 use Rattle.std.specs.Prelude.{◌≡◌, ℕ, ◌==◌, if◌then◌else◌, Option, Some, None}
-use Rattle.safebound_bounds.specs.Meaning.{narrowed}
+use Rattle.safebound_bounds.specs.Meaning.{in_64_bits}
 use Rattle.safebound_lists.specs.declared.refusal.Refusal.{Refusal}
 use Rattle.safebound_lists.specs.declared.refusal.Refusal.TheVariants as refusal
 use Rattle.joined_tables.specs.Bounds.{most_joined}
@@ -15,7 +15,7 @@ join_of kind = if kind == 1 then Some Left else if kind == 2 then Some Right els
 pub record IsJoined (kind inner left right bound : ℕ) : Type 0 where
   pub join : Join
   pub named : join_of kind ≡ Some join
-  pub exact : bound ≡ narrowed (most_joined join inner left right)
+  pub exact : bound ≡ in_64_bits (most_joined join inner left right)
 
 -- why none is: no join has the number
 abbrev pub IsKindCause : ℕ → Refusal → Type 0

@@ -3,7 +3,7 @@ ghost use Rattle.std.specs.Prelude.{◌≡◌, ◌⊎◌, ◌^◌, ◌<◌, ◌�
 ghost use Rattle.std.specs.List.{AllByRecursion};
 ghost use Rattle.entry_sets.specs.Sets.{entries_of_set};
 ghost use Rattle.join_graph.specs.Kept.{equalities_within};
-ghost use Rattle.tree_bounds.specs.Tables.{AreDifferent};
+ghost use Rattle.tree_bounds.specs.Tables.{ChoicesAreDifferent};
 ghost use Rattle.safebound_lists.specs.Written.{IsFilled};
 ghost use Rattle.safebound_bounds.specs.Causes.{IsBoundsCause, IsRight, IsSetCause, IsWithinCause};
 ghost use Rattle.safebound_bounds.specs.Meaning.{all_bounds, bound_in, edges_of, given, known_in, no_bound};
@@ -37,7 +37,7 @@ pub extern "C" fn safebound_bounds(
         → (tables : ValuedTables) → ValuesFit rows.now (given lists.now runs.now) tables (edges_of equalities.now) subset
         → (choices : List (ℕ → ℕ))
         → AllByRecursion (SatisfiesValues tables (entries_of_set subset) (equalities_within subset (edges_of equalities.now))) choices
-        → AreDifferent (entries_of_set subset) choices
+        → ChoicesAreDifferent (entries_of_set subset) choices
         → (length choices ≤ slice_index into.new subset) ⊎ (slice_index into.new subset ≡ no_bound) }
 {
     told(bounds(alloc, rows, equalities, lists, runs, into), detail)
@@ -63,7 +63,7 @@ pub extern "C" fn safebound_bounds_within(
         → (tables : ValuedTables) → ValuesFit rows.now (given lists.now runs.now) tables (edges_of equalities.now) subset
         → (choices : List (ℕ → ℕ))
         → AllByRecursion (SatisfiesValues tables (entries_of_set subset) (equalities_within subset (edges_of equalities.now))) choices
-        → AreDifferent (entries_of_set subset) choices
+        → ChoicesAreDifferent (entries_of_set subset) choices
         → (length choices ≤ slice_index into.new subset) ⊎ (slice_index into.new subset ≡ no_bound) }
 {
     told(
@@ -91,7 +91,7 @@ pub extern "C" fn safebound_set_bound(
         → (tables : ValuedTables) → ValuesFit rows.now (given lists.now runs.now) tables (edges_of equalities.now) set
         → (choices : List (ℕ → ℕ))
         → AllByRecursion (SatisfiesValues tables (entries_of_set set) (equalities_within set (edges_of equalities.now))) choices
-        → AreDifferent (entries_of_set set) choices
+        → ChoicesAreDifferent (entries_of_set set) choices
         → (length choices ≤ detail.new) ⊎ (detail.new ≡ no_bound) }
 {
     told(set_bound(alloc, rows, equalities, lists, runs, set), detail)

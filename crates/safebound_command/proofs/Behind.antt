@@ -7,7 +7,7 @@ use Rattle.outcomes.specs.declared.status.Status.{Status}
 use Rattle.safebound_top.specs.Call.{Call, CutThenTold, GrewOrWasCut}
 use Rattle.safebound_top.specs.Faults.{fault_text}
 use Rattle.safebound_top.specs.Headline.{DidNotGrow, DoneIsExact, GrewByLine, GrewWhole, Headline, ReadFaultsHaveTheirCause, RefusalsAreTheVerdict, WantOfMemoryLeavesItsLine, WasCut, WasCutAndTold, WriteFaultsHaveTheirCause, grown}
-use Rattle.prepared_runs.specs.Outcome.{Outcome}
+use Rattle.prepared_runs.specs.RunOutcome.{RunOutcome}
 use Rattle.safebound_top.specs.OutcomeTexts.{notes_text, out_text}
 use Rattle.prepared_runs.specs.Verdict.{verdict}
 
@@ -97,13 +97,13 @@ and_more P Q (Err e) more h = h
 
 -- ---- what an accepted call leaves, by how the call ended
 
-abbrev pub LeftByDone : Growth → Growth → Outcome → Type 0
+abbrev pub LeftByDone : Growth → Growth → RunOutcome → Type 0
 LeftByDone out notes outcome = GrewWhole notes (notes_text outcome) × GrewWhole out (out_text outcome)
 
-abbrev pub LeftByCutNotes : Growth → List ℕ → Outcome → Type 0
+abbrev pub LeftByCutNotes : Growth → List ℕ → RunOutcome → Type 0
 LeftByCutNotes notes line outcome = WasCutAndTold notes (notes_text outcome) line
 
-abbrev pub LeftByCutOut : Growth → Growth → List ℕ → Outcome → Type 0
+abbrev pub LeftByCutOut : Growth → Growth → List ℕ → RunOutcome → Type 0
 LeftByCutOut out notes line outcome = WasCut out (out_text outcome)
     × GrewOrWasCut (grown notes.taken_before (notes_text outcome)) notes.taken_after notes.faults_before notes.faults_after line
 
@@ -137,16 +137,16 @@ module _ (words : List (List ℕ)) (status : Status) (store : Reading)
   line_told : (line : List ℕ) → GrewByLine named_call.notes line → GrewByLine bare_call.notes line
   line_told line h = tells_behind notes_name notes_before notes_after n n' line h
 
-  done_behind : (outcome : Outcome) → LeftByDone named_call.out named_call.notes outcome → LeftByDone bare_call.out bare_call.notes outcome
+  done_behind : (outcome : RunOutcome) → LeftByDone named_call.out named_call.notes outcome → LeftByDone bare_call.out bare_call.notes outcome
   done_behind outcome h = (
     whole_behind notes_name notes_before notes_after n n' (notes_text outcome) h.0,
     whole_behind out_name out_before out_after o o' (out_text outcome) h.1,
   )
 
-  cut_notes_behind : (line : List ℕ) (outcome : Outcome) → LeftByCutNotes named_call.notes line outcome → LeftByCutNotes bare_call.notes line outcome
+  cut_notes_behind : (line : List ℕ) (outcome : RunOutcome) → LeftByCutNotes named_call.notes line outcome → LeftByCutNotes bare_call.notes line outcome
   cut_notes_behind line outcome h = was_cut_and_told_behind notes_name notes_before notes_after n n' (notes_text outcome) line h
 
-  cut_out_behind : (line : List ℕ) (outcome : Outcome) → LeftByCutOut named_call.out named_call.notes line outcome
+  cut_out_behind : (line : List ℕ) (outcome : RunOutcome) → LeftByCutOut named_call.out named_call.notes line outcome
       → LeftByCutOut bare_call.out bare_call.notes line outcome
   cut_out_behind line outcome h = (
     was_cut_behind out_name out_before out_after o o' (out_text outcome) h.0,

@@ -10,7 +10,7 @@ use Rattle.outcomes.specs.declared.status.Status.TheVariants as status
 use Rattle.safebound_top.specs.Call.{Call, CutThenTold, GrewOrWasCut}
 use Rattle.safebound_top.specs.Faults.{fault_text}
 use Rattle.safebound_top.specs.Headline.{DidNotGrow, GrewWhole, Headline, WasCut, WasCutAndTold, grown}
-use Rattle.prepared_runs.specs.Outcome.{Outcome}
+use Rattle.prepared_runs.specs.RunOutcome.{RunOutcome}
 use Rattle.safebound_top.specs.OutcomeTexts.{notes_text as notes_of, out_text as out_of}
 use Rattle.prepared_runs.specs.Shops.{store_read}
 use Rattle.prepared_runs.specs.Verdict.{verdict}
@@ -71,16 +71,16 @@ module _ (words : List (List ℕ)) (store : Reading) (files : Files) (tells : st
   out_name_kept : DidNotGrow (with_name out_name out_before out_after o o') → name_in out_after ≡ out_name
   out_name_kept h = ap name_in h.0
 
-  done_names : (s : Status) (outcome : Outcome) → LeftByDone (call_with s).out (call_with s).notes outcome → Same
+  done_names : (s : Status) (outcome : RunOutcome) → LeftByDone (call_with s).out (call_with s).notes outcome → Same
   done_names s outcome h = (
     whole_name out_name out_before out_after o o' (out_of outcome) h.1,
     whole_name notes_name notes_before notes_after n n' (notes_of outcome) h.0,
   )
 
-  cut_notes_names : (s : Status) (line : List ℕ) (outcome : Outcome) → LeftByCutNotes (call_with s).notes line outcome → name_in notes_after ≡ notes_name
+  cut_notes_names : (s : Status) (line : List ℕ) (outcome : RunOutcome) → LeftByCutNotes (call_with s).notes line outcome → name_in notes_after ≡ notes_name
   cut_notes_names s line outcome h = was_cut_and_told_name notes_name notes_before notes_after n n' (notes_of outcome) line h
 
-  cut_out_names : (s : Status) (line : List ℕ) (outcome : Outcome) → LeftByCutOut (call_with s).out (call_with s).notes line outcome → Same
+  cut_out_names : (s : Status) (line : List ℕ) (outcome : RunOutcome) → LeftByCutOut (call_with s).out (call_with s).notes line outcome → Same
   cut_out_names s line outcome h = (
     was_cut_name out_name out_before out_after o o' (out_of outcome) h.0,
     told_after_name notes_name notes_before notes_after n n' (notes_of outcome) line h.1,

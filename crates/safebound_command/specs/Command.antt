@@ -41,7 +41,7 @@ abbrev pub text_of : Written → List ℕ
 text_of w = take w.count w.room
 
 -- the text is within the room, and a write failed only where it fills the room
-pub record IsWithin (w : Written) (faults : ℕ) : Type 0 where
+pub record TextIsWithin (w : Written) (faults : ℕ) : Type 0 where
   pub within : w.count ≤ length w.room
   pub full : 0 < faults → w.count ≡ length w.room
 
@@ -53,8 +53,8 @@ pub record Ran (words : List (List ℕ)) (files : Files) (out notes : Written) (
   pub files_after : Files
   pub out_faults : ℕ
   pub notes_faults : ℕ
-  pub out_within : IsWithin out out_faults
-  pub notes_within : IsWithin notes notes_faults
+  pub out_within : TextIsWithin out out_faults
+  pub notes_within : TextIsWithin notes notes_faults
   pub headline : Headline (record {
     words = words;
     status = status;

@@ -5,12 +5,12 @@ use Rattle.limits.specs.Profile.{most_accuracy, most_file}
 use Rattle.base_io.specs.Files.{Files}
 use Rattle.csv_tables.specs.Rows.{Row}
 use Rattle.csv_tables.specs.declared.types.Database.{Database}
-use Rattle.filed_bounds.specs.Filed.{filed_statistics}
-use Rattle.filed_exactness.proofs.Exactness.{bounds_same, none_missing, scans_same}
-use Rattle.filed_bounds.specs.Plans.{filed_plan, planned_by_file, unless_missing, where_told}
-use Rattle.filed_stats.proofs.Rules.{file_keeps}
-use Rattle.filed_stats.specs.Databases.{IsOverSchema}
-use Rattle.filed_stats.specs.Files.{file_of_query}
+use Rattle.stats_file_bounds.specs.FileStatistics.{stats_file_statistics}
+use Rattle.stats_file_exactness.proofs.Exactness.{bounds_same, none_missing, scans_same}
+use Rattle.stats_file_bounds.specs.Plans.{stats_file_plan, planned_by_file, unless_missing, where_told}
+use Rattle.stats_file_of_query.proofs.Rules.{file_keeps}
+use Rattle.stats_file_of_query.specs.Databases.{IsOverSchema}
+use Rattle.stats_file_of_query.specs.Files.{file_of_query}
 use Rattle.gathered_stats.specs.Statistics.{statistics_of}
 use Rattle.join_graph.specs.Conjuncts.{equalities_of}
 use Rattle.order_search.specs.declared.refusal.PlanError.{PlanError}
@@ -42,14 +42,14 @@ use Rattle.safebound_words.specs.Commands.{over_query, plan_by}
 use Rattle.safebound_words.specs.declared.command.Work.{Work}
 use Rattle.safebound_words.specs.declared.command.Aim.TheVariants as aims
 use Rattle.safebound_words.specs.declared.command.Work.TheVariants as works
-use Rattle.prepared_runs.specs.Filed.{filed_plan_stage, filed_refusal, filed_within, stats_of_text, stats_stage, tables_filed}
+use Rattle.prepared_runs.specs.StatsFiles.{stats_file_plan_stage, stats_file_refusal, stats_file_plan_within, stats_of_text, stats_stage, stats_file_of_tables}
 use Rattle.prepared_runs.specs.Limits.{within_limit}
-use Rattle.prepared_runs.specs.Outcome.{Outcome, Planned, PlannedByFile}
+use Rattle.prepared_runs.specs.RunOutcome.{RunOutcome, Planned, PlannedFromStats}
 use Rattle.safebound_top.specs.OutcomeTexts.{out_text}
 use Rattle.prepared_runs.specs.Shapes.{planned_by, shape_bytes}
 use Rattle.prepared_runs.specs.Sources.{sets_by, scans_by}
 use Rattle.prepared_runs.specs.Verdict.{aim_run, command_run, plan_asked, plan_stage, query_stage, run_asked, schema_stage, work_run}
-use Rattle.prepared_runs.specs.declared.shapes.Shaped.TheVariants as shaped
+use Rattle.prepared_runs.specs.declared.shapes.AnyPlan.TheVariants as shaped
 use Rattle.safebound_words.specs.declared.command.ListSource.TheVariants as sources
 use Rattle.safebound_words.specs.declared.command.OutText.TheVariants as out
 use Rattle.safebound_words.specs.declared.command.PlanWork.{PlanWork}
@@ -64,13 +64,13 @@ task budget accuracy memory = record { budget = budget; accuracy = accuracy; sou
 
 -- ---- a limit of memory
 
-test_alike : (test : Bool) (r : Refusal) (x y : Outcome) → printed x ≡ printed y
+test_alike : (test : Bool) (r : Refusal) (x y : RunOutcome) → printed x ≡ printed y
     → seen printed (if test then Ok x else Err r) ≡ seen printed (if test then Ok y else Err r)
 test_alike true r x y same = ap (λ (p : Option (List ℕ) × Option (List ℕ)). Ok p) same
 test_alike false r x y same = refl
 
 -- values that print alike, behind the same limit
-limits_alike : (memory : Option ℕ) (bytes : ℕ) (x y : Outcome) → printed x ≡ printed y
+limits_alike : (memory : Option ℕ) (bytes : ℕ) (x y : RunOutcome) → printed x ≡ printed y
     → seen printed (within_limit memory bytes x) ≡ seen printed (within_limit memory bytes y)
 limits_alike None bytes x y same = ap (λ (p : Option (List ℕ) × Option (List ℕ)). Ok p) same
 limits_alike (Some limit) bytes x y same = test_alike (nat_le bytes limit) (refusal.MemoryLimit bytes) x y same
@@ -79,19 +79,19 @@ limits_alike (Some limit) bytes x y same = test_alike (nat_le bytes limit) (refu
 
 module _ (query : Query) (file : StatsFile) (rows : List (List Row)) (budget accuracy : ℕ) (memory : Option ℕ) where
   -- from a plan that is made by a file, and by tables
-  by_file : Result Plan PlanError → Result Outcome Refusal
-  by_file answer = told filed_refusal (where_told answer) >>= λ plan. filed_within query file plan memory
+  by_file : Result Plan PlanError → Result RunOutcome Refusal
+  by_file answer = told stats_file_refusal (where_told answer) >>= λ plan. stats_file_plan_within query file plan memory
 
-  by_tables : Result Plan PlanError → Result Outcome Refusal
-  by_tables answer = told plan_refusal (seen (λ plan. shaped.Along plan) answer)
+  by_tables : Result Plan PlanError → Result RunOutcome Refusal
+  by_tables answer = told plan_refusal (seen (λ plan. shaped.OrderPlan plan) answer)
       >>= λ plan. within_limit memory (shape_bytes plan) (Planned (run_asked (task budget accuracy memory) query rows plan))
 
   print_alike : (answer : Result Plan PlanError) → seen printed (by_file answer) ≡ seen printed (by_tables answer)
   unfolding by_file by_tables
   print_alike (Ok plan) =
       limits_alike memory (plan_bytes plan.order plan.scans plan.levels)
-      (PlannedByFile (record { query = query; file = file; plan = plan; memory = memory }))
-      (Planned (run_asked (task budget accuracy memory) query rows (shaped.Along plan))) refl
+      (PlannedFromStats (record { query = query; file = file; plan = plan; memory = memory }))
+      (Planned (run_asked (task budget accuracy memory) query rows (shaped.OrderPlan plan))) refl
   print_alike (Err e) = refl
 
 module _ (schema : Schema) (query : Query) (db : Database) (over : IsOverSchema schema query db) (accuracy : ℕ) (least : 0 < accuracy)
@@ -102,22 +102,22 @@ module _ (schema : Schema) (query : Query) (db : Database) (over : IsOverSchema 
   same_plan : planned_by_file query file_of budget ≡ planned query (tables_of db) accuracy budget
   unfolding planned_by_file planned
   same_plan =
-      ap (λ bounds. planned_from (in_every_set bounds) (scan_bounds query (filed_statistics query file_of)) (equalities_of query) (length query.from) budget)
+      ap (λ bounds. planned_from (in_every_set bounds) (scan_bounds query (stats_file_statistics query file_of)) (equalities_of query) (length query.from) budget)
       (bounds_same schema query db over accuracy least most)
       ∙ ap (λ scans. planned_from (in_every_set (entry_bounds query (statistics_of (tables_of db) accuracy))) scans (equalities_of query) (length query.from) budget)
       (scans_same schema query db over accuracy least most)
 
-  filed_same : filed_plan query file_of budget ≡ where_told (planned query (tables_of db) accuracy budget)
-  unfolding filed_plan
+  filed_same : stats_file_plan query file_of budget ≡ where_told (planned query (tables_of db) accuracy budget)
+  unfolding stats_file_plan
   filed_same =
       ap (λ missing. unless_missing missing (planned_by_file query file_of budget)) (none_missing schema query db over accuracy least most)
       ∙ ap where_told same_plan
 
-  from_file : filed_plan_stage query file_of budget memory ≡ by_file query file_of (entry_rows db) budget accuracy memory (planned query (tables_of db) accuracy budget)
-  unfolding filed_plan_stage by_file
+  from_file : stats_file_plan_stage query file_of budget memory ≡ by_file query file_of (entry_rows db) budget accuracy memory (planned query (tables_of db) accuracy budget)
+  unfolding stats_file_plan_stage by_file
   from_file = rw filed_same refl
 
-  asked_same : plan_asked (task budget accuracy memory) schema query (tables_of db) ≡ seen (λ plan. shaped.Along plan) (planned query (tables_of db) accuracy budget)
+  asked_same : plan_asked (task budget accuracy memory) schema query (tables_of db) ≡ seen (λ plan. shaped.OrderPlan plan) (planned query (tables_of db) accuracy budget)
   unfolding planned planned_by sets_by scans_by
   asked_same = refl
 
@@ -137,9 +137,9 @@ module _ (schema : Schema) (query : Query) (db : Database) (over : IsOverSchema 
 
   pub works_alike : (name : List ℕ) (files : Files) → HasByteColumns schema → tables_in (entry_rows db) ≡ tables_of db
       → tables_stage schema query.from files ≡ Ok (entry_rows db) → read file.Stats most_file name files ≡ Ok (file_text schema file_of)
-      → seen printed (work_run (works.PlanFrom name budget memory) schema query files) ≡ seen printed (work_run (works.Plan (task budget accuracy memory)) schema query files)
+      → seen printed (work_run (works.PlanFromStats name budget memory) schema query files) ≡ seen printed (work_run (works.Plan (task budget accuracy memory)) schema query files)
   works_alike name files columns tables rows there =
-      ap (λ stats. seen printed (stats >>= λ stats. filed_plan_stage query stats budget memory)) (read_back name files columns there)
+      ap (λ stats. seen printed (stats >>= λ stats. stats_file_plan_stage query stats budget memory)) (read_back name files columns there)
       ∙ ap (seen printed) from_file
       ∙ print_alike query file_of (entry_rows db) budget accuracy memory (planned query (tables_of db) accuracy budget)
       ∙ sym (ap (seen printed) (from_tables tables))
@@ -158,22 +158,22 @@ module _ (schema_file query_file : List ℕ) (files : Files) (schema : Schema) (
 -- ---- what `stats` writes
 
 -- the schema, the query and the rows that a file of statistics is made of
-pub record FileMade (schema_file query_file : List ℕ) (accuracy : ℕ) (files : Files) (written : Outcome) : Type 0 where
+pub record FileMade (schema_file query_file : List ℕ) (accuracy : ℕ) (files : Files) (written : RunOutcome) : Type 0 where
   pub schema : Schema
   pub schema_is : schema_stage schema_file files ≡ Ok schema
   pub query : Query
   pub query_is : query_stage query_file schema files ≡ Ok query
   pub rows : List (List Row)
   pub rows_are : tables_stage schema query.from files ≡ Ok rows
-  pub is : tables_filed schema query rows accuracy ≡ written
+  pub is : stats_file_of_tables schema query rows accuracy ≡ written
 
-pub file_made : (schema_file query_file : List ℕ) (accuracy : ℕ) (files : Files) (written : Outcome) → command_run (over_query None schema_file query_file (works.File accuracy)) files ≡ Ok written
+pub file_made : (schema_file query_file : List ℕ) (accuracy : ℕ) (files : Files) (written : RunOutcome) → command_run (over_query None schema_file query_file (works.WriteStats accuracy)) files ≡ Ok written
     → FileMade schema_file query_file accuracy files written
 unfolding command_run
 file_made schema_file query_file accuracy files written ran =
-    let read = two_steps (schema_stage schema_file files) (λ s. aim_run (aims.Query query_file (works.File accuracy)) s files) written ran in
-    let asked = two_steps (query_stage query_file read.0 files) (λ q. work_run (works.File accuracy) read.0 q files) written read.2 in
-    let filed = two_steps (tables_stage read.0 asked.0.from files) (λ rows. Ok (tables_filed read.0 asked.0 rows accuracy)) written asked.2 in
+    let read = two_steps (schema_stage schema_file files) (λ s. aim_run (aims.Query query_file (works.WriteStats accuracy)) s files) written ran in
+    let asked = two_steps (query_stage query_file read.0 files) (λ q. work_run (works.WriteStats accuracy) read.0 q files) written read.2 in
+    let filed = two_steps (tables_stage read.0 asked.0.from files) (λ rows. Ok (stats_file_of_tables read.0 asked.0 rows accuracy)) written asked.2 in
     record {
       schema = read.0;
       schema_is = read.1;
@@ -186,11 +186,11 @@ file_made schema_file query_file accuracy files written ran =
 
 -- ---- both commands
 
-pub files_alike : (schema_file query_file stats_file : List ℕ) (accuracy budget : ℕ) (memory : Option ℕ) (files : Files) (written : Outcome) (text : List ℕ)
+pub files_alike : (schema_file query_file stats_file : List ℕ) (accuracy budget : ℕ) (memory : Option ℕ) (files : Files) (written : RunOutcome) (text : List ℕ)
     → 0 < accuracy → accuracy ≤ most_accuracy
-    → command_run (over_query None schema_file query_file (works.File accuracy)) files ≡ Ok written → out_text written ≡ Some text
+    → command_run (over_query None schema_file query_file (works.WriteStats accuracy)) files ≡ Ok written → out_text written ≡ Some text
     → read file.Stats most_file stats_file files ≡ Ok text
-    → seen printed (command_run (over_query None schema_file query_file (works.PlanFrom stats_file budget memory)) files)
+    → seen printed (command_run (over_query None schema_file query_file (works.PlanFromStats stats_file budget memory)) files)
     ≡ seen printed (command_run (over_query None schema_file query_file (plan_by out.Nothing budget accuracy false false false memory)) files)
 files_alike schema_file query_file stats_file accuracy budget memory files outcome text least most ran wrote there =
     let made = file_made schema_file query_file accuracy files outcome ran in
@@ -205,7 +205,7 @@ files_alike schema_file query_file stats_file accuracy budget memory files outco
     let those : file_text schema (file_of_query schema query (tables_in made.rows) accuracy) ≡ text = cc in
     let is : text ≡ file_text schema (file_of_query schema query (tables_of found.database) accuracy)
     = sym those ∙ ap (λ tables. file_text schema (file_of_query schema query tables accuracy)) tables in
-    ap (seen printed) (asked_work schema_file query_file files schema query made.schema_is made.query_is (works.PlanFrom stats_file budget memory))
+    ap (seen printed) (asked_work schema_file query_file files schema query made.schema_is made.query_is (works.PlanFromStats stats_file budget memory))
     ∙ works_alike schema query found.database found.over accuracy least most budget memory stats_file files columns found.tables_are
     (made.rows_are ∙ ap (λ rows. Ok rows) found.rows_are) (there ∙ ap (λ text. Ok text) is)
     ∙ sym (ap (seen printed) (asked_work schema_file query_file files schema query made.schema_is made.query_is (works.Plan (task budget accuracy memory))))

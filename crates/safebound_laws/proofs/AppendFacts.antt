@@ -23,12 +23,12 @@ use Rattle.safebound_words.specs.Commands.{with_rows}
 use Rattle.safebound_words.specs.declared.command.Command.{Command}
 use Rattle.safebound_words.specs.declared.command.NewRows.{NewRows}
 use Rattle.safebound_words.specs.declared.command.Aim.TheVariants as aims
-use Rattle.prepared_runs.specs.Filed.{stats_stage}
-use Rattle.prepared_runs.specs.Outcome.{Appended, HoldsWhereItStands, NoBoundIsTooLow, Outcome, PlannedByFile}
+use Rattle.prepared_runs.specs.StatsFiles.{stats_stage}
+use Rattle.prepared_runs.specs.RunOutcome.{Appended, HoldsWhereItStands, NoBoundIsTooLow, RunOutcome, PlannedFromStats}
 use Rattle.prepared_runs.specs.Verdict.{aim_run, command_run, command_stage, or_usage, schema_stage, verdict}
-use Rattle.prepared_runs.proofs.FiledRuns.{stats_keep}
+use Rattle.prepared_runs.proofs.StatsFileRuns.{stats_keep}
 use Rattle.prepared_runs.proofs.Runs.{bounds_hold, schema_ok}
-use Rattle.safebound_laws.specs.Appends.{Grows, PlansAfter, StandsAfter}
+use Rattle.safebound_laws.specs.Appends.{GrowsByFile, PlansAfter, StandsAfter}
 
 holds_of : {A : Type 0} (P : A → Type 0) (r : Result A Refusal) (x : A) → r ≡ Ok x → IfOk r P → P x
 holds_of P r x is holds = subst (λ (s : Result _ Refusal). IfOk s P) is holds
@@ -37,19 +37,19 @@ few_if : (n most : ℕ) → nat_le n most ≡ true → n ≤ most
 few_if n most is = grind (arith, nat_tests)
 
 module _ (schema : Schema) (stats : StatsFile) (table before : ℕ) (rows : List Row) where
-  abbrev made : Outcome
+  abbrev made : RunOutcome
   made = Appended (record { schema = schema; table = table; rows = rows; file = file_after stats table rows })
 
   -- only where the rows are few enough something comes of them, and this is it
-  grown_so : (outcome : Outcome) → grown_stage schema stats table before rows ≡ Ok outcome → (before + length rows ≤ most_rows) × (outcome ≡ made)
+  grown_so : (outcome : RunOutcome) → grown_stage schema stats table before rows ≡ Ok outcome → (before + length rows ≤ most_rows) × (outcome ≡ made)
   unfolding grown_stage
   grown_so outcome is = elim (cases_Bool (nat_le (before + length rows) most_rows)) [
-    | inl few ↦ (let so : ◌≡◌ {A = Result Outcome Refusal} (Ok made) (Ok outcome) = rw few at is in (few_if (before + length rows) most_rows few, cc))
+    | inl few ↦ (let so : ◌≡◌ {A = Result RunOutcome Refusal} (Ok made) (Ok outcome) = rw few at is in (few_if (before + length rows) most_rows few, cc))
     | inr many ↦ absurd (let no = rw many at is in cc)
   ]
 
-module _ (files : Files) (schema_file : List ℕ) (append : NewRows) (outcome : Outcome) where
-  pub grows_so : command_run (with_rows schema_file append) files ≡ Ok outcome → Grows files schema_file append.stats_file append.table append.rows_file outcome
+module _ (files : Files) (schema_file : List ℕ) (append : NewRows) (outcome : RunOutcome) where
+  pub grows_so : command_run (with_rows schema_file append) files ≡ Ok outcome → GrowsByFile files schema_file append.stats_file append.table append.rows_file outcome
   unfolding command_run append_run stats_run rows_run
   grows_so is =
       let first = two_steps (schema_stage schema_file files) (λ schema. aim_run (aims.Append append) schema files) outcome is in
@@ -72,15 +72,15 @@ module _ (files : Files) (schema_file : List ℕ) (append : NewRows) (outcome : 
         written = last.1;
       }
 
-pub append_grows : (words : List (List ℕ)) (files : Files) (schema stats name rows : List ℕ) (outcome : Outcome) → command_of words ≡ Some (with_rows schema (record { stats_file = stats; table = name; rows_file = rows }))
-    → verdict words files ≡ Ok outcome → Grows files schema stats name rows outcome
+pub append_grows : (words : List (List ℕ)) (files : Files) (schema stats name rows : List ℕ) (outcome : RunOutcome) → command_of words ≡ Some (with_rows schema (record { stats_file = stats; table = name; rows_file = rows }))
+    → verdict words files ≡ Ok outcome → GrowsByFile files schema stats name rows outcome
 unfolding verdict
 append_grows words files schema stats name rows outcome command is =
     let append : NewRows = record { stats_file = stats; table = name; rows_file = rows } in
     let asked : command_stage words ≡ Ok (with_rows schema append) = ap or_usage command in
     grows_so files schema append outcome (sym (ap (λ (r : Result Command Refusal). r >>= (λ ask. command_run ask files)) asked) ∙ is)
 
-module _ (files : Files) (schema stats name rows : List ℕ) (outcome : Outcome) (grows : Grows files schema stats name rows outcome) where
+module _ (files : Files) (schema stats name rows : List ℕ) (outcome : RunOutcome) (grows : GrowsByFile files schema stats name rows outcome) where
   pub keeps : KeepsRules grows.schema grows.before
   keeps =
       let valid : IsValid grows.schema = holds_of IsValid (schema_stage schema files) grows.schema grows.schema_is (schema_ok schema files) in
@@ -92,5 +92,5 @@ module _ (files : Files) (schema stats name rows : List ℕ) (outcome : Outcome)
 
   pub append_plans : PlansAfter grows.before grows.section.table grows.rows grows.after
   append_plans words later plan tables grown is from' stood has =
-      let holds : HoldsWhereItStands plan = holds_of NoBoundIsTooLow (verdict words later) (PlannedByFile plan) is (bounds_hold words later) in
+      let holds : HoldsWhereItStands plan = holds_of NoBoundIsTooLow (verdict words later) (PlannedFromStats plan) is (bounds_hold words later) in
       holds grown (rw from' (append_stands plan.query tables grown stood has))

@@ -33,8 +33,8 @@ use Rattle.table_files.proofs.EntryLaws.{two_steps}
 use Rattle.table_files.proofs.StagedFiles.{read_ok, told_ok}
 use Rattle.prepared_runs.proofs.AppendStages.{section_alone, section_there}
 use Rattle.prepared_runs.specs.Appending.{is_of_table, or_missing, section_stage}
-use Rattle.prepared_runs.specs.Outcome.{Outcome}
-use Rattle.safebound_laws.specs.Appends.{Grows}
+use Rattle.prepared_runs.specs.RunOutcome.{RunOutcome}
+use Rattle.safebound_laws.specs.Appends.{GrowsByFile}
 use Rattle.safebound_laws.proofs.AppendFacts as appends
 use Rattle.safebound_laws.proofs.TableCells.{IsPool, TableFound, table_found}
 use Rattle.safebound_top.proofs.Promises.{declares}
@@ -50,7 +50,7 @@ found_section : (found : Option TableStats) (section : TableStats) → or_missin
 found_section None section is = absurd (cc)
 found_section (Some s) section is = (let same : s ≡ section = cc in ap Some same)
 
-module _ (files : Files) (schema_file stats_file name rows_file : List ℕ) (outcome : Outcome) (grows : Grows files schema_file stats_file name rows_file outcome) where
+module _ (files : Files) (schema_file stats_file name rows_file : List ℕ) (outcome : RunOutcome) (grows : GrowsByFile files schema_file stats_file name rows_file outcome) where
   said : DeclaresSchema files schema_file grows.schema
   said = declares schema_file files grows.schema grows.schema_is
 

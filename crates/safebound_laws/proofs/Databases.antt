@@ -8,14 +8,14 @@ use Rattle.std.proofs.lemmas.Slice.Eq.{bytes_eq-Decides}
 use Rattle.base_io.specs.Files.{Files}
 use Rattle.csv_tables.specs.Cells.{rows_of_cells}
 use Rattle.csv_tables.specs.Files.{rows_of_file}
-use Rattle.csv_tables.specs.Pools.{BeginsWith}
+use Rattle.csv_tables.specs.Pools.{PoolBeginsWith}
 use Rattle.csv_tables.specs.Rows.{Row}
 use Rattle.csv_tables.specs.declared.types.Cells.{Cells}
 use Rattle.csv_tables.specs.declared.types.Database.{Database}
 use Rattle.csv_tables.proofs.GrowFacts.{begins_itself, begins_then}
 use Rattle.csv_tables.proofs.TableFacts.{columns-grown, rows_of_columns-grown}
-use Rattle.filed_stats.proofs.Read.{over_all}
-use Rattle.filed_stats.specs.Databases.{IsOverSchema}
+use Rattle.stats_file_of_query.proofs.Read.{over_all}
+use Rattle.stats_file_of_query.specs.Databases.{IsOverSchema}
 use Rattle.outcomes.specs.Reads.{◌>>=◌}
 use Rattle.query_types.specs.Validity.{IsOf}
 use Rattle.query_types.specs.declared.types.Query.{Query}
@@ -39,7 +39,7 @@ record EachFound (schema : Schema) (numbers : List ℕ) (rows : List (List Row))
   new : List (List ℕ)
   cells : List Cells
   pool : IsPool new
-  begins : BeginsWith old new
+  begins : PoolBeginsWith old new
   are : AreCellsOfEach schema new numbers cells
   same : rows_of_tables new cells ≡ rows
   few : AllByRecursion HasFewRows cells

@@ -28,8 +28,8 @@ use Rattle.stats_reading.specs.Names.{HasByteColumns}
 use Rattle.table_files.specs.TableFile.{read}
 use Rattle.table_files.proofs.EntryLaws.{two_steps}
 use Rattle.table_files.proofs.StagedFiles.{read_ok, told_ok}
-use Rattle.prepared_runs.specs.Filed.{stats_of_text, stats_stage}
-use Rattle.prepared_runs.specs.Outcome.{NoBoundIsTooLow, Outcome}
+use Rattle.prepared_runs.specs.StatsFiles.{stats_of_text, stats_stage}
+use Rattle.prepared_runs.specs.RunOutcome.{NoBoundIsTooLow, RunOutcome}
 use Rattle.prepared_runs.specs.Verdict.{command_run, command_stage, or_usage, schema_stage, verdict}
 use Rattle.prepared_runs.proofs.CommandFacts.{has_ranges}
 use Rattle.safebound_top.specs.Call.{Call, Grew}
@@ -58,7 +58,7 @@ same_ok a b e = cc
 
 module _ (call : Call) (command : Command) (files : Files) (done : IsDone call command files) where
   pub record Ended : Type 0 where
-    pub outcome : Outcome
+    pub outcome : RunOutcome
     pub ran : command_run command files ≡ Ok outcome
     pub notes : GrewWhole call.notes (notes_text outcome)
     pub out : GrewWhole call.out (out_text outcome)

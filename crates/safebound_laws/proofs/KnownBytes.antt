@@ -7,13 +7,13 @@ use Rattle.std.proofs.lemmas.Option.{slice_get-get_or}
 use Rattle.appended_stats.specs.Conditions.{HasNewRows}
 use Rattle.csv_tables.specs.Rows.{Row}
 use Rattle.csv_tables.specs.declared.types.Database.{Database}
-use Rattle.filed_stats.proofs.Finding.{found_in}
-use Rattle.filed_stats.proofs.Rules.{file_keeps}
-use Rattle.filed_stats.proofs.Standing.{file_stands, share_rows}
-use Rattle.filed_stats.specs.Databases.{IsOverSchema}
-use Rattle.filed_stats.specs.Files.{file_of_query, first_entry, section_of_table}
-use Rattle.filed_stats.specs.Needs.{table_of}
-use Rattle.filed_stats.specs.Standing.{StandsFor, section_of}
+use Rattle.stats_file_of_query.proofs.Finding.{found_in}
+use Rattle.stats_file_of_query.proofs.Rules.{file_keeps}
+use Rattle.stats_file_of_query.proofs.Standing.{file_stands, share_rows}
+use Rattle.stats_file_of_query.specs.Databases.{IsOverSchema}
+use Rattle.stats_file_of_query.specs.Files.{file_of_query, first_entry, section_of_table}
+use Rattle.stats_file_of_query.specs.Needs.{table_of}
+use Rattle.stats_file_of_query.specs.Standing.{StandsFor, section_of}
 use Rattle.level_bounds.proofs.Lists.{from_filter_map}
 use Rattle.limits.specs.Profile.{most_accuracy}
 use Rattle.query_types.specs.Validity.{IsOf}
@@ -32,10 +32,10 @@ use Rattle.table_files.specs.EntryTables.{tables_in}
 use Rattle.table_files.specs.Stage.{no_table, table_at, table_rows, tables_stage}
 use Rattle.table_files.proofs.StagedFiles.{entries_are}
 use Rattle.prepared_runs.specs.Appending.{is_of_table}
-use Rattle.prepared_runs.specs.Filed.{stats_stage, tables_filed}
-use Rattle.prepared_runs.specs.Outcome.{Outcome}
+use Rattle.prepared_runs.specs.StatsFiles.{stats_stage, stats_file_of_tables}
+use Rattle.prepared_runs.specs.RunOutcome.{RunOutcome}
 use Rattle.prepared_runs.specs.Verdict.{query_stage}
-use Rattle.safebound_laws.specs.Appends.{Grows}
+use Rattle.safebound_laws.specs.Appends.{GrowsByFile}
 use Rattle.safebound_laws.proofs.Alike.{FileMade, file_made}
 use Rattle.safebound_laws.proofs.AppendFacts.{append_stands, grows_so}
 use Rattle.safebound_laws.proofs.Databases.{DatabaseFound, database_found}
@@ -44,7 +44,7 @@ use Rattle.safebound_top.specs.Headline.{GrewWhole}
 use Rattle.safebound_top.specs.OutcomeTexts.{out_text}
 use Rattle.safebound_laws.specs.FileCalls.{AppendCall, AppendedEach, AppendedTo, StatsCall, WroteStats, last_bytes}
 use Rattle.safebound_laws.specs.OtherQueries.{IsOfTables}
-use Rattle.safebound_laws.specs.FilePlans.{AddEach, Added, Adds, with_added}
+use Rattle.safebound_laws.specs.FilePlans.{AddEach, Added, AddsRowsOfFile, with_added}
 use Rattle.safebound_laws.proofs.Appended.{after_keeps, its_section, rows_read, section_before, table_there}
 use Rattle.safebound_laws.proofs.Ended.{byte_columns, ended, is_valid, ranges, same_schema, stats_are, took_text}
 
@@ -87,16 +87,16 @@ pub record FromStats (made : StatsCall) (bytes : List ℕ) (schema : Schema) : T
 
 module _ (made : StatsCall) (schema : Schema) (bytes : List ℕ) (wrote : WroteStats made schema bytes) where
   abbrev asked : Command
-  asked = over_query None made.schema_file made.query_file (works.File made.accuracy)
+  asked = over_query None made.schema_file made.query_file (works.WriteStats made.accuracy)
 
-  abbrev outcome : Outcome
+  abbrev outcome : RunOutcome
   outcome = (ended made.call asked made.files wrote.done).outcome
 
   made_from : FileMade made.schema_file made.query_file made.accuracy made.files outcome
   made_from = file_made made.schema_file made.query_file made.accuracy made.files outcome (ended made.call asked made.files wrote.done).ran
 
   from_read : (read : Schema) (query : Query) (rows : List (List Row)) → IsValid read → query_stage made.query_file read made.files ≡ Ok query
-      → tables_stage read query.from made.files ≡ Ok rows → tables_filed read query rows made.accuracy ≡ outcome → FromStats made bytes read
+      → tables_stage read query.from made.files ≡ Ok rows → stats_file_of_tables read query rows made.accuracy ≡ outcome → FromStats made bytes read
   from_read read query rows valid query_read staged is =
       let within = ranges made.call asked made.files wrote.done in
       let of : IsOf read query = query_of_schema made.query_file made.files read query query_read in
@@ -104,7 +104,7 @@ module _ (made : StatsCall) (schema : Schema) (bytes : List ℕ) (wrote : WroteS
       let tables : tables_in rows ≡ tables_of found.database = ap tables_in found.rows_are ∙ found.tables_are in
       let file : StatsFile = file_of_query read query (tables_of found.database) made.accuracy in
       let text : GrewWhole made.call.out (Some (file_text read (file_of_query read query (tables_in rows) made.accuracy))) =
-      subst (λ (o : Outcome). GrewWhole made.call.out (out_text o)) (sym is) (ended made.call asked made.files wrote.done).out in
+      subst (λ (o : RunOutcome). GrewWhole made.call.out (out_text o)) (sym is) (ended made.call asked made.files wrote.done).out in
       record {
         query = query;
         database = found.database;
@@ -148,15 +148,15 @@ added_then query tables one more = fun_ext (λ entry.
 -- what an append added, and what is known of the bytes that it wrote
 pub record FromAppend (query : Query) (tables : Tables) (append : AppendCall) (schema : Schema) : Type 0 where
   pub added : Added
-  pub adds : Adds schema append added
+  pub adds : AddsRowsOfFile schema append added
   pub known : Known schema query append.bytes (with_added query tables (added ∷ []))
 
 module _ (schema : Schema) (query : Query) (before : List ℕ) (tables : Tables) (known : Known schema query before tables) (append : AppendCall) (did : AppendedTo schema before append) where
-  abbrev its_outcome : Outcome
+  abbrev its_outcome : RunOutcome
   its_outcome = (ended append.call (with_rows append.schema_file append.names) append.files did.done).outcome
 
   abbrev GrowsSo : Type 0
-  GrowsSo = Grows append.files append.schema_file append.names.stats_file append.names.table append.names.rows_file its_outcome
+  GrowsSo = GrowsByFile append.files append.schema_file append.names.stats_file append.names.table append.names.rows_file its_outcome
 
   grows : GrowsSo
   grows = grows_so append.files append.schema_file append.names its_outcome (ended append.call (with_rows append.schema_file append.names) append.files did.done).ran
@@ -176,7 +176,7 @@ module _ (schema : Schema) (query : Query) (before : List ℕ) (tables : Tables)
   its_added : Added
   its_added = record { table = grows.section.table; rows = grows.rows }
 
-  it_adds : Adds grows.schema append its_added
+  it_adds : AddsRowsOfFile grows.schema append its_added
   unfolding its_added
   it_adds =
       let read = rows_read append.files append.schema_file append.names.stats_file append.names.table append.names.rows_file its_outcome grows in
@@ -203,7 +203,7 @@ module _ (schema : Schema) (query : Query) (before : List ℕ) (tables : Tables)
       record {
         file = grows.after;
         is = sym (took_text append.call.out (file_text grows.schema grows.after) append.bytes
-            (subst (λ (o : Outcome). GrewWhole append.call.out (out_text o)) grows.written end.out) did.wrote);
+            (subst (λ (o : RunOutcome). GrewWhole append.call.out (out_text o)) grows.written end.out) did.wrote);
         keeps = after_keeps append.files append.schema_file append.names.stats_file append.names.table append.names.rows_file its_outcome grows;
         stands = append_stands append.files append.schema_file append.names.stats_file append.names.table append.names.rows_file its_outcome grows
             query tables (with_added query tables (its_added ∷ [])) stands_before (has_added query tables grows.section.table grows.rows);

@@ -2,18 +2,18 @@
 use Rattle.std.proofs.Common.{◌≡◌, ℕ, ◌<◌, false, List, length, Some, Ok, ap, sym, ◌∙◌, subst}
 use Rattle.appended_stats.specs.Appended.{alone}
 use Rattle.csv_tables.specs.Rows.{Row}
-use Rattle.filed_bounds.proofs.Telling.{IsThere, is_there, section_is}
-use Rattle.filed_bounds.specs.Filed.{filed_statistics}
-use Rattle.filed_bounds.specs.Found.{is_missing, pair_in, section_for}
-use Rattle.filed_bounds.specs.Plans.{planned_by_file}
-use Rattle.filed_exactness.proofs.Exactness.{KnowsTables, bounds_known, scans_known}
-use Rattle.filed_exactness.proofs.Sections as sections
-use Rattle.filed_exactness.proofs.Sections.{IsSectionOf, found_is}
-use Rattle.filed_stats.proofs.SameSections.{first_is}
-use Rattle.filed_stats.specs.Files.{file_of_query}
-use Rattle.filed_stats.specs.Needs.{table_of}
-use Rattle.filed_stats.specs.Pairs.{pair_in_table}
-use Rattle.filed_stats.specs.Standing.{StandsFor, section_of}
+use Rattle.stats_file_bounds.proofs.Telling.{IsThere, is_there, section_is}
+use Rattle.stats_file_bounds.specs.FileStatistics.{stats_file_statistics}
+use Rattle.stats_file_bounds.specs.Found.{is_missing, pair_in, section_for}
+use Rattle.stats_file_bounds.specs.Plans.{planned_by_file}
+use Rattle.stats_file_exactness.proofs.Exactness.{KnowsTables, bounds_known, scans_known}
+use Rattle.stats_file_exactness.proofs.Sections as sections
+use Rattle.stats_file_exactness.proofs.Sections.{IsSectionOf, found_is}
+use Rattle.stats_file_of_query.proofs.SameSections.{first_is}
+use Rattle.stats_file_of_query.specs.Files.{file_of_query}
+use Rattle.stats_file_of_query.specs.Needs.{table_of}
+use Rattle.stats_file_of_query.specs.Pairs.{pair_in_table}
+use Rattle.stats_file_of_query.specs.Standing.{StandsFor, section_of}
 use Rattle.gathered_stats.specs.Statistics.{statistics_of}
 use Rattle.join_graph.proofs.FromEntries.{names_its_entries}
 use Rattle.join_graph.specs.Conjuncts.{equalities_of}
@@ -105,7 +105,7 @@ module _ (schema : Schema) (bytes : List ℕ) (made : StatsCall) (planned : Plan
   plans_same : planned_by_file outcome_query file planned.budget ≡ planned_over outcome_query tables made.accuracy planned.budget
   unfolding planned_by_file planned_over
   plans_same =
-      ap (λ bounds. planned_from (in_every_set bounds) (scan_bounds outcome_query (filed_statistics outcome_query file)) (equalities_of outcome_query) (length outcome_query.from) planned.budget)
+      ap (λ bounds. planned_from (in_every_set bounds) (scan_bounds outcome_query (stats_file_statistics outcome_query file)) (equalities_of outcome_query) (length outcome_query.from) planned.budget)
       (bounds_known outcome_query file tables made.accuracy knows)
       ∙ ap (λ scans. planned_from (in_every_set (entry_bounds outcome_query (statistics_of tables made.accuracy))) scans (equalities_of outcome_query) (length outcome_query.from) planned.budget)
       (scans_known outcome_query file tables made.accuracy knows)

@@ -18,16 +18,16 @@ use Rattle.sql_meaning.specs.Tables.{Tables}
 use Rattle.outcomes.specs.Reads.{◌>>=◌, seen}
 use Rattle.outcomes.specs.declared.refusal.Refusal.{Refusal}
 use Rattle.table_files.specs.EntryTables.{tables_in}
-use Rattle.prepared_runs.specs.Accepted.{Accepted, tables}
+use Rattle.prepared_runs.specs.AcceptedQuery.{AcceptedQuery, tables}
 use Rattle.safebound_words.specs.Commands.{over_query}
 use Rattle.safebound_words.specs.declared.command.Command.{Command}
 use Rattle.safebound_words.specs.declared.command.Work.TheVariants as works
-use Rattle.prepared_runs.specs.Outcome.{Planned}
+use Rattle.prepared_runs.specs.RunOutcome.{Planned}
 use Rattle.prepared_runs.specs.Shapes.{answer_of, planned_by}
 use Rattle.prepared_runs.specs.Sources.{sets_by, scans_by, sourced}
 use Rattle.prepared_runs.specs.Verdict.{command_run, command_stage, run_asked, verdict}
-use Rattle.prepared_runs.specs.declared.shapes.Shaped.{Shaped}
-use Rattle.prepared_runs.specs.declared.shapes.Shaped.TheVariants as shaped
+use Rattle.prepared_runs.specs.declared.shapes.AnyPlan.{AnyPlan}
+use Rattle.prepared_runs.specs.declared.shapes.AnyPlan.TheVariants as shaped
 use Rattle.safebound_words.specs.declared.command.ListSource.{ListSource}
 use Rattle.safebound_words.specs.declared.command.ListSource.TheVariants as sources
 use Rattle.safebound_words.specs.declared.command.PlanWork.{PlanWork}
@@ -36,48 +36,48 @@ use Rattle.safebound_words.specs.declared.command.Shape.TheVariants as shapes
 use Rattle.safebound_top.proofs.Promises.{Stages, query_of_schema, stages}
 
 -- an order is the answer where an order is asked for, and a tree where a tree is
-seen_along : (r : Result Plan PlanError) (plan : Plan) → seen (λ p. shaped.Along p) r ≡ Ok (shaped.Along plan) → r ≡ Ok plan
+seen_along : (r : Result Plan PlanError) (plan : Plan) → seen (λ p. shaped.OrderPlan p) r ≡ Ok (shaped.OrderPlan plan) → r ≡ Ok plan
 seen_along (Ok p) plan e = (let same : p ≡ plan = cc in ap Ok same)
 seen_along (Err s) plan e = cc
 
-seen_over : (r : Result BushyPlan PlanError) (plan : BushyPlan) → seen (λ p. shaped.Over p) r ≡ Ok (shaped.Over plan) → r ≡ Ok plan
+seen_over : (r : Result BushyPlan PlanError) (plan : BushyPlan) → seen (λ p. shaped.TreePlan p) r ≡ Ok (shaped.TreePlan plan) → r ≡ Ok plan
 seen_over (Ok p) plan e = (let same : p ≡ plan = cc in ap Ok same)
 seen_over (Err s) plan e = cc
 
-no_order : (r : Result BushyPlan PlanError) (plan : Plan) → seen (λ p. shaped.Over p) r ≡ Ok (shaped.Along plan) → ⊥
+no_order : (r : Result BushyPlan PlanError) (plan : Plan) → seen (λ p. shaped.TreePlan p) r ≡ Ok (shaped.OrderPlan plan) → ⊥
 no_order (Ok p) plan e = cc
 no_order (Err s) plan e = cc
 
-no_tree : (r : Result Plan PlanError) (plan : BushyPlan) → seen (λ p. shaped.Along p) r ≡ Ok (shaped.Over plan) → ⊥
+no_tree : (r : Result Plan PlanError) (plan : BushyPlan) → seen (λ p. shaped.OrderPlan p) r ≡ Ok (shaped.TreePlan plan) → ⊥
 no_tree (Ok p) plan e = cc
 no_tree (Err s) plan e = cc
 
-order_answer : (shape : Shape) (sets scans : List ℕ) (budget : ℕ) (plan : Plan) → answer_of shape sets scans budget ≡ Ok (shaped.Along plan)
+order_answer : (shape : Shape) (sets scans : List ℕ) (budget : ℕ) (plan : Plan) → answer_of shape sets scans budget ≡ Ok (shaped.OrderPlan plan)
     → plan_answer sets scans budget ≡ Ok plan
 order_answer shapes.Order sets scans budget plan e = seen_along (plan_answer sets scans budget) plan e
 order_answer shapes.Tree sets scans budget plan e = absurd (no_order (tree_answer sets scans budget) plan e)
 
-tree_is_answer : (shape : Shape) (sets scans : List ℕ) (budget : ℕ) (plan : BushyPlan) → answer_of shape sets scans budget ≡ Ok (shaped.Over plan)
+tree_is_answer : (shape : Shape) (sets scans : List ℕ) (budget : ℕ) (plan : BushyPlan) → answer_of shape sets scans budget ≡ Ok (shaped.TreePlan plan)
     → tree_answer sets scans budget ≡ Ok plan
 tree_is_answer shapes.Tree sets scans budget plan e = seen_over (tree_answer sets scans budget) plan e
 tree_is_answer shapes.Order sets scans budget plan e = absurd (no_tree (plan_answer sets scans budget) plan e)
 
 -- a plan from whole columns is planning's
 order_planned : (shape : Shape) (schema : Schema) (query : Query) (ts : Tables) (accuracy budget : ℕ) (plan : Plan)
-    → planned_by shape (sourced sources.Columns schema query ts) accuracy budget ≡ Ok (shaped.Along plan)
+    → planned_by shape (sourced sources.Columns schema query ts) accuracy budget ≡ Ok (shaped.OrderPlan plan)
     → planned query ts accuracy budget ≡ Ok plan
 unfolding planned_by sets_by scans_by planned
 order_planned shape schema query ts accuracy budget plan e = order_answer shape _ _ budget plan e
 
 tree_planned : (shape : Shape) (schema : Schema) (query : Query) (ts : Tables) (accuracy budget : ℕ) (plan : BushyPlan)
-    → planned_by shape (sourced sources.Columns schema query ts) accuracy budget ≡ Ok (shaped.Over plan)
+    → planned_by shape (sourced sources.Columns schema query ts) accuracy budget ≡ Ok (shaped.TreePlan plan)
     → tree_answer (set_bounds_of query ts accuracy) (scan_bounds_of query ts accuracy) budget ≡ Ok plan
 unfolding planned_by sets_by scans_by
 tree_planned shape schema query ts accuracy budget plan e = tree_is_answer shape _ _ budget plan e
 
 -- ---- of an accepted run
 
-module _ (schema_file query_file : List ℕ) (task : PlanWork) (files : Files) (run : Accepted) (s : Stages schema_file query_file task files (Planned run))
+module _ (schema_file query_file : List ℕ) (task : PlanWork) (files : Files) (run : AcceptedQuery) (s : Stages schema_file query_file task files (Planned run))
     (source : run.source ≡ sources.Columns) (none : FiltersNoEntry run.query) where
   same_run : run_asked task s.query s.rows s.plan ≡ run
   same_run = cc (s.is_run)
@@ -86,30 +86,30 @@ module _ (schema_file query_file : List ℕ) (task : PlanWork) (files : Files) (
   of = query_of_schema query_file files s.schema s.query s.query_read
 
   its_own : FiltersNoEntry s.query
-  its_own = subst (λ (r : Accepted). FiltersNoEntry r.query) (sym same_run) none
+  its_own = subst (λ (r : AcceptedQuery). FiltersNoEntry r.query) (sym same_run) none
 
   its_source : task.source ≡ sources.Columns
-  its_source = ap (λ (r : Accepted). r.source) same_run ∙ source
+  its_source = ap (λ (r : AcceptedQuery). r.source) same_run ∙ source
 
-  made : (plan : Shaped) → run.plan ≡ plan
+  made : (plan : AnyPlan) → run.plan ≡ plan
       → planned_by task.shape (sourced sources.Columns s.schema s.query (tables_in s.rows)) task.accuracy task.budget ≡ Ok plan
   made plan is =
       ap (λ (from : ListSource). planned_by task.shape (sourced from s.schema s.query (tables_in s.rows)) task.accuracy task.budget) (sym its_source)
-      ∙ s.planned ∙ ap (λ (p : Shaped). Ok p) (ap (λ (r : Accepted). r.plan) same_run ∙ is)
+      ∙ s.planned ∙ ap (λ (p : AnyPlan). Ok p) (ap (λ (r : AcceptedQuery). r.plan) same_run ∙ is)
 
-  pub run_levels : (plan : Plan) → run.plan ≡ shaped.Along plan → LevelsAreNear run.query (tables run) task.accuracy plan
+  pub run_levels : (plan : Plan) → run.plan ≡ shaped.OrderPlan plan → LevelsAreNear run.query (tables run) task.accuracy plan
   run_levels plan is =
-      subst (λ (r : Accepted). LevelsAreNear r.query (tables r) task.accuracy plan) same_run
+      subst (λ (r : AcceptedQuery). LevelsAreNear r.query (tables r) task.accuracy plan) same_run
       (levels_near s.query (tables_in s.rows) task.accuracy task.budget plan its_own of.few
-      (order_planned task.shape s.schema s.query (tables_in s.rows) task.accuracy task.budget plan (made (shaped.Along plan) is)))
+      (order_planned task.shape s.schema s.query (tables_in s.rows) task.accuracy task.budget plan (made (shaped.OrderPlan plan) is)))
 
-  pub run_nodes : (plan : BushyPlan) → run.plan ≡ shaped.Over plan → NodesAreNear run.query (tables run) task.accuracy plan
+  pub run_nodes : (plan : BushyPlan) → run.plan ≡ shaped.TreePlan plan → NodesAreNear run.query (tables run) task.accuracy plan
   run_nodes plan is =
-      subst (λ (r : Accepted). NodesAreNear r.query (tables r) task.accuracy plan) same_run
+      subst (λ (r : AcceptedQuery). NodesAreNear r.query (tables r) task.accuracy plan) same_run
       (nodes_near s.query (tables_in s.rows) task.accuracy task.budget plan its_own (omega (arith, of.some)) of.few
-      (tree_planned task.shape s.schema s.query (tables_in s.rows) task.accuracy task.budget plan (made (shaped.Over plan) is)))
+      (tree_planned task.shape s.schema s.query (tables_in s.rows) task.accuracy task.budget plan (made (shaped.TreePlan plan) is)))
 
-pub stages_of : (words : List (List ℕ)) (files : Files) (shop : Option ℕ) (schema query : List ℕ) (task : PlanWork) (run : Accepted)
+pub stages_of : (words : List (List ℕ)) (files : Files) (shop : Option ℕ) (schema query : List ℕ) (task : PlanWork) (run : AcceptedQuery)
     → command_stage words ≡ Ok (over_query shop schema query (works.Plan task)) → verdict words files ≡ Ok (Planned run) → Stages schema query task files (Planned run)
 unfolding verdict
 stages_of words files shop schema query task run asked is =

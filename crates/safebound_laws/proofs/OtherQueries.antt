@@ -2,9 +2,9 @@
 use Rattle.std.proofs.Common.{ℕ, List, get_or, ap, ◌∙◌, subst}
 use Rattle.appended_stats.specs.Appended.{alone}
 use Rattle.csv_tables.specs.Rows.{Row}
-use Rattle.filed_stats.proofs.SameSections.{first_is}
-use Rattle.filed_stats.specs.Needs.{table_of}
-use Rattle.filed_stats.specs.Standing.{PairStandsFor, SectionStandsFor, StandsFor, section_of}
+use Rattle.stats_file_of_query.proofs.SameSections.{first_is}
+use Rattle.stats_file_of_query.specs.Needs.{table_of}
+use Rattle.stats_file_of_query.specs.Standing.{PairStandsFor, SectionStandsFor, StandsFor, section_of}
 use Rattle.query_types.specs.declared.types.Query.{Query}
 use Rattle.sql_meaning.specs.Tables.{Tables}
 use Rattle.stats_file.specs.declared.types.Pair.{Pair}

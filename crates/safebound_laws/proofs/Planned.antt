@@ -6,15 +6,15 @@ use Rattle.std.proofs.lemmas.List.{get_or-map}
 use Rattle.std.proofs.lemmas.Option.{slice_get-get_or}
 use Rattle.base_io.specs.Files.{Files}
 use Rattle.csv_tables.specs.Rows.{Row}
-use Rattle.filed_bounds.proofs.Finding.{none_passes}
-use Rattle.filed_bounds.proofs.Telling.{IsThere, is_there}
-use Rattle.filed_bounds.specs.Found.{first_missing, is_missing}
-use Rattle.filed_bounds.specs.Plans.{filed_plan, planned_by_file, unless_missing}
-use Rattle.filed_stats.proofs.SameSections.{first_is}
-use Rattle.filed_stats.proofs.Standing.{share_rows}
-use Rattle.filed_stats.specs.Files.{first_entry}
-use Rattle.filed_stats.specs.Needs.{table_of}
-use Rattle.filed_stats.specs.Standing.{ShareRows, StandsFor, section_of}
+use Rattle.stats_file_bounds.proofs.Finding.{none_passes}
+use Rattle.stats_file_bounds.proofs.Telling.{IsThere, is_there}
+use Rattle.stats_file_bounds.specs.Found.{first_missing, is_missing}
+use Rattle.stats_file_bounds.specs.Plans.{stats_file_plan, planned_by_file, unless_missing}
+use Rattle.stats_file_of_query.proofs.SameSections.{first_is}
+use Rattle.stats_file_of_query.proofs.Standing.{share_rows}
+use Rattle.stats_file_of_query.specs.Files.{first_entry}
+use Rattle.stats_file_of_query.specs.Needs.{table_of}
+use Rattle.stats_file_of_query.specs.Standing.{ShareRows, StandsFor, section_of}
 use Rattle.join_steps.specs.Lists.{scans_of}
 use Rattle.join_steps.specs.Plans.{IsPlanOf}
 use Rattle.order_search.specs.declared.refusal.PlanError.{PlanError}
@@ -35,14 +35,14 @@ use Rattle.table_files.specs.Stage.{no_table, table_at, table_rows}
 use Rattle.table_files.proofs.EntryLaws.{two_steps}
 use Rattle.table_files.proofs.StagedFiles.{table_ok, told_ok}
 use Rattle.prepared_runs.proofs.LimitFacts.{within_ok}
-use Rattle.prepared_runs.specs.Filed.{filed_plan_stage, filed_refusal, filed_within, stats_stage}
-use Rattle.prepared_runs.specs.Limits.{AreWithin}
-use Rattle.prepared_runs.specs.Outcome.{FiledPlan, HoldsWhereItStands, NoBoundIsTooLow, Outcome, PlannedByFile}
+use Rattle.prepared_runs.specs.StatsFiles.{stats_file_plan_stage, stats_file_refusal, stats_file_plan_within, stats_stage}
+use Rattle.prepared_runs.specs.Limits.{IsWithinLimit}
+use Rattle.prepared_runs.specs.RunOutcome.{PlanFromStatsFile, HoldsWhereItStands, NoBoundIsTooLow, RunOutcome, PlannedFromStats}
 use Rattle.prepared_runs.specs.Verdict.{aim_run, command_run, query_stage, schema_stage, work_run}
 use Rattle.safebound_top.proofs.Promises.{asks, query_of_schema}
 use Rattle.safebound_top.specs.Call.{Grew}
 use Rattle.safebound_top.specs.Headline.{GrewWhole}
-use Rattle.safebound_top.specs.OutcomeTexts.{filed_plan_text, notes_text}
+use Rattle.safebound_top.specs.OutcomeTexts.{stats_file_plan_text, notes_text}
 use Rattle.safebound_top.specs.Promise.{AreInFile, PrintsOrder}
 use Rattle.safebound_laws.specs.FileCalls.{AppendCall, AppendedEach, PlanCall, PlannedFrom, StatsCall, WroteStats, last_bytes}
 use Rattle.safebound_laws.specs.OtherQueries.{HaveSameRows}
@@ -58,7 +58,7 @@ there_is None (Ok p) plan e = (refl, cc)
 there_is None (Err s) plan e = absurd (cc)
 there_is (Some from) r plan e = absurd (cc)
 
-pub record PlanMade (schema_file query_file stats_file : List ℕ) (budget : ℕ) (memory : Option ℕ) (files : Files) (outcome : Outcome) : Type 0 where
+pub record PlanMade (schema_file query_file stats_file : List ℕ) (budget : ℕ) (memory : Option ℕ) (files : Files) (outcome : RunOutcome) : Type 0 where
   pub schema : Schema
   pub schema_is : schema_stage schema_file files ≡ Ok schema
   pub query : Query
@@ -66,22 +66,22 @@ pub record PlanMade (schema_file query_file stats_file : List ℕ) (budget : ℕ
   pub stats : StatsFile
   pub stats_is : stats_stage stats_file schema files ≡ Ok stats
   pub plan : Plan
-  pub planned : filed_plan query stats budget ≡ Ok plan
-  pub within : AreWithin memory (plan_bytes plan.order plan.scans plan.levels)
-  pub is : PlannedByFile (record { query = query; file = stats; plan = plan; memory = memory }) ≡ outcome
+  pub planned : stats_file_plan query stats budget ≡ Ok plan
+  pub within : IsWithinLimit memory (plan_bytes plan.order plan.scans plan.levels)
+  pub is : PlannedFromStats (record { query = query; file = stats; plan = plan; memory = memory }) ≡ outcome
 
-plan_made : (schema_file query_file stats_file : List ℕ) (budget : ℕ) (memory : Option ℕ) (files : Files) (outcome : Outcome)
-    → command_run (over_query None schema_file query_file (works.PlanFrom stats_file budget memory)) files ≡ Ok outcome
+plan_made : (schema_file query_file stats_file : List ℕ) (budget : ℕ) (memory : Option ℕ) (files : Files) (outcome : RunOutcome)
+    → command_run (over_query None schema_file query_file (works.PlanFromStats stats_file budget memory)) files ≡ Ok outcome
     → PlanMade schema_file query_file stats_file budget memory files outcome
-unfolding command_run filed_plan_stage
+unfolding command_run stats_file_plan_stage
 plan_made schema_file query_file stats_file budget memory files outcome ran =
-    let work = works.PlanFrom stats_file budget memory in
+    let work = works.PlanFromStats stats_file budget memory in
     let first = two_steps (schema_stage schema_file files) (λ s. aim_run (aims.Query query_file work) s files) outcome ran in
     let second = two_steps (query_stage query_file first.0 files) (λ q. work_run work first.0 q files) outcome first.2 in
-    let third = two_steps (stats_stage stats_file first.0 files) (λ stats. filed_plan_stage second.0 stats budget memory) outcome second.2 in
-    let last = two_steps (told filed_refusal (filed_plan second.0 third.0 budget)) (λ plan. filed_within second.0 third.0 plan memory) outcome third.2 in
+    let third = two_steps (stats_stage stats_file first.0 files) (λ stats. stats_file_plan_stage second.0 stats budget memory) outcome second.2 in
+    let last = two_steps (told stats_file_refusal (stats_file_plan second.0 third.0 budget)) (λ plan. stats_file_plan_within second.0 third.0 plan memory) outcome third.2 in
     let kept = within_ok memory (plan_bytes last.0.order last.0.scans last.0.levels)
-    (PlannedByFile (record { query = second.0; file = third.0; plan = last.0; memory = memory })) outcome last.2 in
+    (PlannedFromStats (record { query = second.0; file = third.0; plan = last.0; memory = memory })) outcome last.2 in
     record {
       schema = first.0;
       schema_is = first.1;
@@ -90,7 +90,7 @@ plan_made schema_file query_file stats_file budget memory files outcome ran =
       stats = third.0;
       stats_is = third.1;
       plan = last.0;
-      planned = told_ok filed_refusal (filed_plan second.0 third.0 budget) last.0 last.1;
+      planned = told_ok stats_file_refusal (stats_file_plan second.0 third.0 budget) last.0 last.1;
       within = kept.1;
       is = kept.0;
     }
@@ -145,7 +145,7 @@ in_file files schema query entry rows of low staged =
 module _ (made : StatsCall) (schema : Schema) (first_bytes : List ℕ) (start : FromStats made first_bytes schema) (bytes : List ℕ) (tables : Tables)
     (known : Known schema start.query bytes tables) (planned : PlanCall) (from : PlannedFrom schema bytes planned) where
   abbrev command : Command
-  command = over_query None planned.schema_file planned.query_file (works.PlanFrom planned.stats_file planned.budget planned.memory)
+  command = over_query None planned.schema_file planned.query_file (works.PlanFromStats planned.stats_file planned.budget planned.memory)
 
   pub its : PlanMade planned.schema_file planned.query_file planned.stats_file planned.budget planned.memory planned.files (ended planned.call command planned.files from.done).outcome
   its =
@@ -173,7 +173,7 @@ module _ (made : StatsCall) (schema : Schema) (first_bytes : List ℕ) (start : 
   -- ---- the rows of its entries
 
   pub made_so : (first_missing its.query its.stats ≡ None) × (planned_by_file its.query its.stats planned.budget ≡ Ok its.plan)
-  unfolding filed_plan
+  unfolding stats_file_plan
   made_so = there_is (first_missing its.query its.stats) (planned_by_file its.query its.stats planned.budget) its.plan its.planned
 
   pub not_missing : (place : ℕ) → place < length its.query.from → is_missing its.query its.stats place ≡ false
@@ -199,11 +199,11 @@ module _ (made : StatsCall) (schema : Schema) (first_bytes : List ℕ) (start : 
 
   -- ---- its text
 
-  abbrev pub its_plan : FiledPlan
+  abbrev pub its_plan : PlanFromStatsFile
   its_plan = record { query = its.query; file = its.stats; plan = its.plan; memory = planned.memory }
 
   pub holds_for : (grown : Tables) → StandsFor its.query known.file grown
-      → PrintsOrder planned.memory its.query grown (scans_of its.query grown) (filed_plan_text (record { query = its.query; file = its.stats; plan = its.plan; memory = planned.memory }))
+      → PrintsOrder planned.memory its.query grown (scans_of its.query grown) (stats_file_plan_text (record { query = its.query; file = its.stats; plan = its.plan; memory = planned.memory }))
   holds_for grown stands =
       let holds : HoldsWhereItStands its_plan = subst NoBoundIsTooLow (sym its.is) (ended planned.call command planned.files from.done).holds in
       let plan : IsPlanOf its.query grown (scans_of its.query grown) its.plan = holds grown (subst (λ (f : StatsFile). StandsFor its.query f grown) (sym stats_same) stands) in
@@ -214,8 +214,8 @@ module _ (made : StatsCall) (schema : Schema) (first_bytes : List ℕ) (start : 
         prints = refl;
       }
 
-  pub written : Grew planned.call.notes (filed_plan_text (record { query = its.query; file = its.stats; plan = its.plan; memory = planned.memory }))
-  written = subst (λ (o : Outcome). GrewWhole planned.call.notes (notes_text o)) (sym its.is) (ended planned.call command planned.files from.done).notes
+  pub written : Grew planned.call.notes (stats_file_plan_text (record { query = its.query; file = its.stats; plan = its.plan; memory = planned.memory }))
+  written = subst (λ (o : RunOutcome). GrewWhole planned.call.notes (notes_text o)) (sym its.is) (ended planned.call command planned.files from.done).notes
 
 -- ---- from what `stats` wrote
 
@@ -232,7 +232,7 @@ module _ (schema : Schema) (bytes : List ℕ) (made : StatsCall) (planned : Plan
         query = plan.query;
         tables = tables;
         over = over made schema bytes s bytes (tables_of s.database) s.known planned from;
-        text = filed_plan_text (record { query = plan.query; file = plan.stats; plan = plan.plan; memory = planned.memory });
+        text = stats_file_plan_text (record { query = plan.query; file = plan.stats; plan = plan.plan; memory = planned.memory });
         plan = holds_for made schema bytes s bytes (tables_of s.database) s.known planned from tables
             (stands_for_other s.query plan.query s.known.file (tables_of s.database) tables s.known.stands s.known.of
             (same_old made schema bytes s bytes (tables_of s.database) s.known planned from));
@@ -263,7 +263,7 @@ module _ (schema : Schema) (bytes : List ℕ) (made : StatsCall) (appends : List
         over = over made schema bytes s last grown more.known planned from;
         added = more.added;
         adds = more.adds;
-        text = filed_plan_text (record { query = plan.query; file = plan.stats; plan = plan.plan; memory = planned.memory });
+        text = stats_file_plan_text (record { query = plan.query; file = plan.stats; plan = plan.plan; memory = planned.memory });
         plan = holds_for made schema bytes s last grown more.known planned from (with_added plan.query tables more.added)
             (stands_for_other s.query plan.query more.known.file grown (with_added plan.query tables more.added) more.known.stands more.known.of
             (added_same s.query read plan.query tables more.added (same_old made schema bytes s last grown more.known planned from)));

@@ -30,8 +30,8 @@ use Rattle.csv_tables.specs.Cells.{AreCellsOf, rows_of_cells, rows_of_columns}
 use Rattle.csv_tables.specs.Files.{after_header, header_of, rows_in_records, rows_of_file, rows_under_header}
 use Rattle.csv_tables.specs.Header.{column_place, column_places}
 use Rattle.csv_tables.specs.Keys.{rows_with_keys}
-use Rattle.csv_tables.specs.Numbers.{bits_of, decimal_after, greatest, is_minus, is_numeral, signed, size_of, without_sign}
-use Rattle.csv_tables.specs.Pools.{BeginsWith}
+use Rattle.csv_tables.specs.Numbers.{bits_of, decimal_after, greatest_magnitude, is_minus, is_numeral, signed, size_of, without_sign}
+use Rattle.csv_tables.specs.Pools.{PoolBeginsWith}
 use Rattle.csv_tables.specs.Reads.{AreCellsOfRow, IsCellOf, add_row, kinds_of}
 use Rattle.csv_tables.specs.Records.{Record, records_of}
 use Rattle.csv_tables.specs.Rows.{Row, row_of_record, rows_of_records, values_of_record}
@@ -54,9 +54,9 @@ pub record IsPool (texts : List (List ℕ)) : Type 0 where
   pub once : IsDistinct bytes_eq texts
 
 -- a pool that begins with the old texts, and has at most so many more
-pub record Grows (old new : List (List ℕ)) (most : ℕ) : Type 0 where
+pub record GrowsByFile (old new : List (List ℕ)) (most : ℕ) : Type 0 where
   pub pool : IsPool new
-  pub begins : BeginsWith old new
+  pub begins : PoolBeginsWith old new
   pub few : length new ≤ length old + most
 
 -- ---- the cell of a value
@@ -71,7 +71,7 @@ bytes_alike = record {
 record CellFound (k : Kind) (value : Value) (old : List (List ℕ)) : Type 0 where
   new : List (List ℕ)
   cell : ℕ
-  grows : Grows old new 1
+  grows : GrowsByFile old new 1
   is : IsCellOf new k value cell
 
 record PlaceIn (texts : List (List ℕ)) (text : List ℕ) : Type 0 where
@@ -106,7 +106,7 @@ text_cell most text old pool utf8 = elim (list_any (bytes_eq text) old) as (λ b
   }
 ] refl
 
-number_fits : (minus : Bool) (size : ℕ) → size ≤ greatest minus → SFits w64 (signed minus size)
+number_fits : (minus : Bool) (size : ℕ) → size ≤ greatest_magnitude minus → SFits w64 (signed minus size)
 number_fits true zero low = record { sfits = omega arith }
 number_fits true (suc size) low = record { sfits = omega (arith, low) }
 number_fits false size low = record { sfits = omega (arith, low) }
@@ -116,7 +116,7 @@ sized true true n most size is e = (let same : n ≡ size = cc in grind (arith, 
 sized true false n most size is e = absurd cc
 sized false fits n most size is e = absurd cc
 
-number_cell : (minus : Bool) (found : Option ℕ) (value : Value) (old : List (List ℕ)) → IsPool old → ((size : ℕ) → found ≡ Some size → size ≤ greatest minus)
+number_cell : (minus : Bool) (found : Option ℕ) (value : Value) (old : List (List ℕ)) → IsPool old → ((size : ℕ) → found ≡ Some size → size ≤ greatest_magnitude minus)
     → option_map Int (option_map (signed minus) found) ≡ Some value → CellFound kind.Int value old
 number_cell minus None value old pool fits e = absurd cc
 number_cell minus (Some size) value old pool fits e =
@@ -139,9 +139,9 @@ text_value most false field value old pool utf8 e = absurd cc
 
 value_cell : (k : Kind) (field : List ℕ) (value : Value) (old : List (List ℕ)) → IsPool old → IsUtf8 field → value_of_field k field ≡ Some value → CellFound k value old
 value_cell kind.Int field value old pool utf8 e =
-    number_cell (is_minus field) (size_of (greatest (is_minus field)) (without_sign field)) value old pool
-    (λ size is. sized (is_numeral (without_sign field)) (nat_le (decimal_after 0 (without_sign field)) (greatest (is_minus field)))
-    (decimal_after 0 (without_sign field)) (greatest (is_minus field)) size refl is) e
+    number_cell (is_minus field) (size_of (greatest_magnitude (is_minus field)) (without_sign field)) value old pool
+    (λ size is. sized (is_numeral (without_sign field)) (nat_le (decimal_after 0 (without_sign field)) (greatest_magnitude (is_minus field)))
+    (decimal_after 0 (without_sign field)) (greatest_magnitude (is_minus field)) size refl is) e
 value_cell (kind.Text most) field value old pool utf8 e = text_value most (nat_le (length (chars field)) most) field value old pool utf8 e
 
 -- ---- steps that gave something
@@ -177,7 +177,7 @@ text_at (field ∷ fields) (suc place) all = text_at fields place all.1
 record RowFound (kinds : List Kind) (row : Row) (old : List (List ℕ)) (most : ℕ) : Type 0 where
   new : List (List ℕ)
   cells : List ℕ
-  grows : Grows old new most
+  grows : GrowsByFile old new most
   are : AreCellsOfRow new kinds row cells
 
 row_found : (number at : ℕ) (columns : List Column) (places : List ℕ) (fields : Record) (row : Row) (old : List (List ℕ)) → IsPool old → AllText fields
@@ -259,7 +259,7 @@ pub record TableFound (table : Table) (rows : List Row) (old : List (List ℕ)) 
   pub new : List (List ℕ)
   pub cells : Cells
   pub pool : IsPool new
-  pub begins : BeginsWith old new
+  pub begins : PoolBeginsWith old new
   pub are : AreCellsOf table new cells
   pub same : rows_of_cells new cells ≡ rows
 

@@ -4,7 +4,7 @@ use Rattle.appended_stats.specs.Appended.{file_after}
 use Rattle.appended_stats.specs.Conditions.{HasNewRows}
 use Rattle.base_io.specs.Files.{Files}
 use Rattle.csv_tables.specs.Rows.{Row}
-use Rattle.filed_stats.specs.Standing.{StandsFor}
+use Rattle.stats_file_of_query.specs.Standing.{StandsFor}
 use Rattle.join_steps.specs.Lists.{scans_of}
 use Rattle.join_steps.specs.Plans.{IsPlanOf}
 use Rattle.limits.specs.Profile.{most_rows}
@@ -16,13 +16,13 @@ use Rattle.stats_file.specs.declared.types.TableStats.{TableStats}
 use Rattle.table_files.specs.Stage.{table_at}
 use Rattle.table_files.specs.TableFile.{rows_in}
 use Rattle.prepared_runs.specs.Appending.{section_stage}
-use Rattle.prepared_runs.specs.Filed.{stats_stage}
-use Rattle.prepared_runs.specs.Outcome.{Appended, FiledPlan, Outcome, PlannedByFile}
+use Rattle.prepared_runs.specs.StatsFiles.{stats_stage}
+use Rattle.prepared_runs.specs.RunOutcome.{Appended, PlanFromStatsFile, RunOutcome, PlannedFromStats}
 use Rattle.prepared_runs.specs.Verdict.{schema_stage, verdict}
 
 -- the schema, the statistics file, its section of the table and the new rows are those in the files that the command names, the table has no more
 -- rows with them than a table may have, and what is written is that file after these rows
-pub record Grows (files : Files) (schema_file stats_file name rows_file : List ℕ) (outcome : Outcome) : Type 0 where
+pub record GrowsByFile (files : Files) (schema_file stats_file name rows_file : List ℕ) (outcome : RunOutcome) : Type 0 where
   pub schema : Schema
   pub schema_is : schema_stage schema_file files ≡ Ok schema
   pub before : StatsFile
@@ -43,7 +43,7 @@ StandsAfter before table rows after = (query : Query) (tables grown : Tables) �
 
 -- and each plan from the other file has no bound that is too low for the grown tables
 abbrev pub PlansAfter : StatsFile → ℕ → List Row → StatsFile → Type 0
-PlansAfter before table rows after = (words : List (List ℕ)) (files : Files) (plan : FiledPlan) (tables grown : Tables)
-    → verdict words files ≡ Ok (PlannedByFile plan) → plan.file ≡ after
+PlansAfter before table rows after = (words : List (List ℕ)) (files : Files) (plan : PlanFromStatsFile) (tables grown : Tables)
+    → verdict words files ≡ Ok (PlannedFromStats plan) → plan.file ≡ after
     → StandsFor plan.query before tables → HasNewRows plan.query table rows tables grown
     → IsPlanOf plan.query grown (scans_of plan.query grown) plan.plan

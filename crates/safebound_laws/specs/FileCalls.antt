@@ -37,7 +37,7 @@ pub record StatsCall : Type 0 where
 
 -- over this schema `stats` wrote these bytes
 pub record WroteStats (made : StatsCall) (schema : Schema) (bytes : List ℕ) : Type 0 where
-  pub done : IsDone made.call (over_query None made.schema_file made.query_file (works.File made.accuracy)) made.files
+  pub done : IsDone made.call (over_query None made.schema_file made.query_file (works.WriteStats made.accuracy)) made.files
   pub declares : DeclaresSchema made.files made.schema_file schema
   pub wrote : Took made.call.out bytes
 
@@ -82,6 +82,6 @@ pub record PlanCall : Type 0 where
 
 -- over this schema `plan --stats` read these bytes as its statistics file
 pub record PlannedFrom (schema : Schema) (bytes : List ℕ) (planned : PlanCall) : Type 0 where
-  pub done : IsDone planned.call (over_query None planned.schema_file planned.query_file (works.PlanFrom planned.stats_file planned.budget planned.memory)) planned.files
+  pub done : IsDone planned.call (over_query None planned.schema_file planned.query_file (works.PlanFromStats planned.stats_file planned.budget planned.memory)) planned.files
   pub declares : DeclaresSchema planned.files planned.schema_file schema
   pub there : file_of planned.files planned.stats_file ≡ Some bytes

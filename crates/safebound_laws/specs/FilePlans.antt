@@ -5,7 +5,7 @@ use Rattle.std.specs.Str.{str_eq_ignore_ascii_case}
 use Rattle.base_io.specs.Files.{file_of}
 use Rattle.csv_tables.specs.Files.{rows_of_file}
 use Rattle.csv_tables.specs.Rows.{Row}
-use Rattle.filed_stats.specs.Needs.{table_of}
+use Rattle.stats_file_of_query.specs.Needs.{table_of}
 use Rattle.join_steps.specs.Lists.{scans_of}
 use Rattle.plan_nearness.specs.Nearness.{LevelsAreNear}
 use Rattle.planning.specs.Plans.{planned as planned_over}
@@ -63,7 +63,7 @@ pub record Added : Type 0 where
   pub rows : List Row
 
 -- they are those in the file of new rows that the words name, of the table that the words name
-pub record Adds (schema : Schema) (append : AppendCall) (added : Added) : Type 0 where
+pub record AddsRowsOfFile (schema : Schema) (append : AppendCall) (added : Added) : Type 0 where
   pub table : Table
   pub is_table : slice_get schema.tables added.table ≡ Some table
   pub named : str_eq_ignore_ascii_case table.name append.names.table ≡ true
@@ -76,7 +76,7 @@ abbrev pub AddEach : Schema → List AppendCall → List Added → Type 0
 AddEach schema [] [] = ⊤
 AddEach schema [] (added ∷ more) = ⊥
 AddEach schema (append ∷ appends) [] = ⊥
-AddEach schema (append ∷ appends) (added ∷ more) = Adds schema append added × AddEach schema appends more
+AddEach schema (append ∷ appends) (added ∷ more) = AddsRowsOfFile schema append added × AddEach schema appends more
 
 -- what was added to a table, in the order of the calls
 abbrev pub added_rows : ℕ → List Added → List Row

@@ -1,8 +1,8 @@
 -- One file of statistics, and two queries over the same tables.
 use Rattle.std.specs.Prelude.{ℕ, ◌≡◌, ◌<◌, length, Some}
-use Rattle.filed_stats.specs.Files.{first_entry}
-use Rattle.filed_stats.specs.Needs.{table_of}
-use Rattle.filed_stats.specs.Standing.{section_of}
+use Rattle.stats_file_of_query.specs.Files.{first_entry}
+use Rattle.stats_file_of_query.specs.Needs.{table_of}
+use Rattle.stats_file_of_query.specs.Standing.{section_of}
 use Rattle.query_types.specs.declared.types.Query.{Query}
 use Rattle.sql_meaning.specs.Tables.{Tables}
 use Rattle.stats_file.specs.declared.types.StatsFile.{StatsFile}

@@ -3,27 +3,27 @@ ghost use Rattle.std.specs.Prelude.{◌≡◌, ℕ, List, Ok, Some};
 ghost use Rattle.base_io.specs.Files.{Files};
 ghost use Rattle.safebound_words.specs.Answer.{command_of};
 ghost use Rattle.safebound_words.specs.Commands.{with_rows};
-ghost use Rattle.prepared_runs.specs.Outcome.{Outcome};
+ghost use Rattle.prepared_runs.specs.RunOutcome.{RunOutcome};
 ghost use Rattle.prepared_runs.specs.Verdict.{verdict};
-ghost use Rattle.safebound_laws.specs.Appends.{Grows, PlansAfter, StandsAfter};
+ghost use Rattle.safebound_laws.specs.Appends.{GrowsByFile, PlansAfter, StandsAfter};
 
 /// If `append` writes a file, then it read the schema, the statistics file and the new rows from the files that its words name, and the file
 /// that it writes is that statistics file after these rows.
 pub fn appended_files_are_read()
-    ensures { (words : List (List ℕ)) (files : Files) (schema stats name rows : List ℕ) (outcome : Outcome)
+    ensures { (words : List (List ℕ)) (files : Files) (schema stats name rows : List ℕ) (outcome : RunOutcome)
         → command_of words ≡ Some (with_rows schema (record { stats_file = stats; table = name; rows_file = rows })) → verdict words files ≡ Ok outcome
-        → Grows files schema stats name rows outcome }
+        → GrowsByFile files schema stats name rows outcome }
 {}
 
 /// If a section of the file that `append` read stood for the rows of its table, then the section in the file that it writes stands for these
 /// rows followed by the new ones. The same holds of the whole file and the tables of a query.
 pub fn appended_files_stand()
-    ensures { (files : Files) (schema stats name rows : List ℕ) (outcome : Outcome) (grows : Grows files schema stats name rows outcome)
+    ensures { (files : Files) (schema stats name rows : List ℕ) (outcome : RunOutcome) (grows : GrowsByFile files schema stats name rows outcome)
         → StandsAfter grows.before grows.section.table grows.rows grows.after }
 {}
 
 /// So no plan from the file that `append` writes has a bound that is too low for the grown table.
 pub fn plans_after_an_append_are_never_under()
-    ensures { (files : Files) (schema stats name rows : List ℕ) (outcome : Outcome) (grows : Grows files schema stats name rows outcome)
+    ensures { (files : Files) (schema stats name rows : List ℕ) (outcome : RunOutcome) (grows : GrowsByFile files schema stats name rows outcome)
         → PlansAfter grows.before grows.section.table grows.rows grows.after }
 {}

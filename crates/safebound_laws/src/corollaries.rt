@@ -7,16 +7,16 @@ ghost use Rattle.outcomes.specs.declared.status.Status.TheVariants as status;
 ghost use Rattle.plans.specs.declared.left_deep.Plan.{Plan};
 ghost use Rattle.tree_plans.specs.declared.bushy.BushyPlan.{BushyPlan};
 ghost use Rattle.plan_nearness.specs.Nearness.{FiltersNoEntry, LevelsAreNear, NodesAreNear};
-ghost use Rattle.prepared_runs.specs.Accepted.{Accepted, tables};
+ghost use Rattle.prepared_runs.specs.AcceptedQuery.{AcceptedQuery, tables};
 ghost use Rattle.safebound_words.specs.Commands.{over_query};
 ghost use Rattle.safebound_words.specs.declared.command.Work.TheVariants as works;
 ghost use Rattle.safebound_top.specs.Call.{Call};
 ghost use Rattle.safebound_top.specs.Headline.{Headline};
-ghost use Rattle.prepared_runs.specs.Outcome.{Planned};
+ghost use Rattle.prepared_runs.specs.RunOutcome.{Planned};
 ghost use Rattle.safebound_top.specs.Promise.{Promise};
 ghost use Rattle.prepared_runs.specs.Shops.{shop_of, shop_store};
 ghost use Rattle.prepared_runs.specs.Verdict.{command_stage, verdict};
-ghost use Rattle.prepared_runs.specs.declared.shapes.Shaped.TheVariants as shaped;
+ghost use Rattle.prepared_runs.specs.declared.shapes.AnyPlan.TheVariants as shaped;
 ghost use Rattle.safebound_words.specs.declared.command.ListSource.TheVariants as sources;
 ghost use Rattle.safebound_words.specs.declared.command.PlanWork.{PlanWork};
 
@@ -36,12 +36,12 @@ pub fn demo_meets_no_read_fault()
 /// Printed bounds are near the uncompressed ones, if no conjunct names one entry alone and neither `--reduce` nor `--keys` is given. At
 /// accuracy K, K^n times the printed bound of a level or inner node of n entries is at most (K + 1)^n times its uncompressed bound.
 pub fn printed_bounds_are_near()
-    ensures levels { (words : List (List ℕ)) (files : Files) (shop : Option ℕ) (schema query : List ℕ) (task : PlanWork) (run : Accepted) (plan : Plan)
+    ensures levels { (words : List (List ℕ)) (files : Files) (shop : Option ℕ) (schema query : List ℕ) (task : PlanWork) (run : AcceptedQuery) (plan : Plan)
         → command_stage words ≡ Ok (over_query shop schema query (works.Plan task)) → verdict words files ≡ Ok (Planned run)
         → run.source ≡ sources.Columns → FiltersNoEntry run.query
-        → run.plan ≡ shaped.Along plan → LevelsAreNear run.query (tables run) task.accuracy plan }
-    ensures nodes { (words : List (List ℕ)) (files : Files) (shop : Option ℕ) (schema query : List ℕ) (task : PlanWork) (run : Accepted) (plan : BushyPlan)
+        → run.plan ≡ shaped.OrderPlan plan → LevelsAreNear run.query (tables run) task.accuracy plan }
+    ensures nodes { (words : List (List ℕ)) (files : Files) (shop : Option ℕ) (schema query : List ℕ) (task : PlanWork) (run : AcceptedQuery) (plan : BushyPlan)
         → command_stage words ≡ Ok (over_query shop schema query (works.Plan task)) → verdict words files ≡ Ok (Planned run)
         → run.source ≡ sources.Columns → FiltersNoEntry run.query
-        → run.plan ≡ shaped.Over plan → NodesAreNear run.query (tables run) task.accuracy plan }
+        → run.plan ≡ shaped.TreePlan plan → NodesAreNear run.query (tables run) task.accuracy plan }
 {}

@@ -17,7 +17,7 @@ ghost use Rattle.stats_file.specs.declared.types.StatsError.{StatsError};
 ghost use Rattle.stats_file.specs.declared.types.StatsError.TheVariants as error;
 ghost use Rattle.stats_file.specs.declared.types.StatsFile.{StatsFile};
 ghost use Rattle.table_files.specs.TableFile.{read};
-ghost use Rattle.prepared_runs.specs.Outcome.{Outcome};
+ghost use Rattle.prepared_runs.specs.RunOutcome.{RunOutcome};
 ghost use Rattle.safebound_top.specs.OutcomeTexts.{out_text};
 ghost use Rattle.prepared_runs.specs.Verdict.{command_run};
 ghost use Rattle.safebound_laws.specs.Printed.{printed};
@@ -36,10 +36,10 @@ pub fn files_of_declared_schemas_are_read()
 /// `plan --stats` with this file prints what `plan` prints at the accuracy of the text, or both are refused for the same cause. This holds for
 /// each budget and each limit of memory.
 pub fn files_plan_as_their_tables()
-    ensures { (schema_file query_file stats_file : List ℕ) (accuracy budget : ℕ) (memory : Option ℕ) (files : Files) (written : Outcome) (text : List ℕ)
+    ensures { (schema_file query_file stats_file : List ℕ) (accuracy budget : ℕ) (memory : Option ℕ) (files : Files) (written : RunOutcome) (text : List ℕ)
         → 0 < accuracy → accuracy ≤ most_accuracy
-        → command_run (over_query None schema_file query_file (works.File accuracy)) files ≡ Ok written → out_text written ≡ Some text
+        → command_run (over_query None schema_file query_file (works.WriteStats accuracy)) files ≡ Ok written → out_text written ≡ Some text
         → read file.Stats most_file stats_file files ≡ Ok text
-        → seen printed (command_run (over_query None schema_file query_file (works.PlanFrom stats_file budget memory)) files)
+        → seen printed (command_run (over_query None schema_file query_file (works.PlanFromStats stats_file budget memory)) files)
         ≡ seen printed (command_run (over_query None schema_file query_file (plan_by out_text.Nothing budget accuracy false false false memory)) files) }
 {}

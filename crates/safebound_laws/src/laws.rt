@@ -3,8 +3,8 @@ ghost use Rattle.std.specs.Prelude.{◌≡◌, ◌≢◌, ◌∷◌, [], ℕ, Li
 ghost use Rattle.base_io.specs.Files.{Files};
 ghost use Rattle.csv_tables.specs.Files.{rows_of_file};
 ghost use Rattle.csv_tables.specs.Rows.{Row};
-ghost use Rattle.filed_bounds.specs.Plans.{filed_plan};
-ghost use Rattle.filed_bounds.specs.declared.errors.FiledPlanError.TheVariants as filed_error;
+ghost use Rattle.stats_file_bounds.specs.Plans.{stats_file_plan};
+ghost use Rattle.stats_file_bounds.specs.declared.errors.StatsFilePlanError.TheVariants as filed_error;
 ghost use Rattle.csv_tables.specs.declared.types.TableError.TheVariants as table_error;
 ghost use Rattle.order_search.specs.declared.refusal.PlanError.TheVariants as plan_error;
 ghost use Rattle.query_types.specs.Validity.{IsOf};
@@ -23,7 +23,7 @@ ghost use Rattle.text_answers.specs.QueryTexts.{query_answer};
 ghost use Rattle.text_answers.specs.SchemaTexts.{schema_answer};
 ghost use Rattle.safebound_words.specs.Answer.{command_of};
 ghost use Rattle.safebound_words.specs.Commands.{demo_of};
-ghost use Rattle.prepared_runs.specs.Outcome.{KeepsItsLimit, NoBoundIsTooLow, PrintsTheAnswer};
+ghost use Rattle.prepared_runs.specs.RunOutcome.{KeepsItsLimit, NoBoundIsTooLow, PrintsTheAnswer};
 ghost use Rattle.prepared_runs.specs.Shapes.{planned_by};
 ghost use Rattle.prepared_runs.specs.Sources.{Needs, Sourced, sourced};
 ghost use Rattle.prepared_runs.specs.Standing.{IsSource};
@@ -67,5 +67,5 @@ pub fn no_reader_wants_memory()
         → planned_by shape given accuracy budget ≢ Err plan_error.NoMemory }
     ensures statistics { (schema : Schema) (text : List ℕ) → stats_answer schema text ≢ Err stats_error.NoMemory }
     ensures filed_plans { (query : Query) (file : StatsFile) (budget : ℕ)
-        → filed_plan query file budget ≢ Err (filed_error.Plan plan_error.NoMemory) }
+        → stats_file_plan query file budget ≢ Err (filed_error.Plan plan_error.NoMemory) }
 {}

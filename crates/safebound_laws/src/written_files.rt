@@ -1,26 +1,26 @@
 //! What the laws on plans rest on: no law computes anything, and the contract is the law.
 ghost use Rattle.std.specs.Prelude.{◌≡◌, ℕ, List, Ok};
 ghost use Rattle.base_io.specs.Files.{Files};
-ghost use Rattle.filed_stats.specs.Standing.{StandsFor};
+ghost use Rattle.stats_file_of_query.specs.Standing.{StandsFor};
 ghost use Rattle.query_types.specs.declared.types.Query.{Query};
 ghost use Rattle.sql_meaning.specs.Tables.{Tables};
 ghost use Rattle.stats_answers.specs.StatsTexts.{stats_answer};
 ghost use Rattle.stats_file.specs.FileText.{file_text};
 ghost use Rattle.stats_file.specs.Rules.{KeepsRules};
 ghost use Rattle.stats_file.specs.declared.types.StatsFile.{StatsFile};
-ghost use Rattle.prepared_runs.specs.Outcome.{Outcome};
-ghost use Rattle.safebound_laws.specs.Appends.{Grows};
+ghost use Rattle.prepared_runs.specs.RunOutcome.{RunOutcome};
+ghost use Rattle.safebound_laws.specs.Appends.{GrowsByFile};
 ghost use Rattle.safebound_laws.specs.OtherQueries.{HaveSameRows, IsOfTables};
 
 /// The file that `append` writes keeps the rules of files.
 pub fn appended_files_keep_the_rules()
-    ensures { (files : Files) (schema stats name rows : List ℕ) (outcome : Outcome) (grows : Grows files schema stats name rows outcome)
+    ensures { (files : Files) (schema stats name rows : List ℕ) (outcome : RunOutcome) (grows : GrowsByFile files schema stats name rows outcome)
         → KeepsRules grows.schema grows.after }
 {}
 
 /// The text that `append` writes is read back as that file.
 pub fn appended_texts_are_read_back()
-    ensures { (files : Files) (schema stats name rows : List ℕ) (outcome : Outcome) (grows : Grows files schema stats name rows outcome)
+    ensures { (files : Files) (schema stats name rows : List ℕ) (outcome : RunOutcome) (grows : GrowsByFile files schema stats name rows outcome)
         → stats_answer grows.schema (file_text grows.schema grows.after) ≡ Ok grows.after }
 {}
 

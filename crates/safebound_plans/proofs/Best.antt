@@ -7,14 +7,14 @@ use Rattle.order_search.specs.declared.refusal.PlanError.TheVariants as plan_err
 use Rattle.tree_plans.specs.declared.bushy.Join.{Join}
 use Rattle.bushy_plan.specs.BestTree.{AreOfBest, IsBest as IsBestOver, cost as tree_cost}
 use Rattle.bushy_plan.specs.Causes.{IsCause as IsTreeCauseOver}
-use Rattle.bushy_plan.specs.JoinTrees.{joins_from}
+use Rattle.bushy_plan.specs.PlanTrees.{joins_from}
 use Rattle.safebound_lists.specs.Written.{IsFilled}
 use Rattle.safebound_plans.specs.declared.ordering.Level.{Level}
 use Rattle.safebound_plans.specs.declared.shaping.JoinNode.{JoinNode}
 use Rattle.safebound_plans.specs.Given.{MayPlan}
 use Rattle.safebound_plans.specs.Orders.{AreLevels, IsBestOrder}
 use Rattle.safebound_plans.specs.Trees.{IsBestTree, node_of}
-use Rattle.safebound_plans.specs.Widened.{all_widened}
+use Rattle.safebound_plans.specs.Bits.{all_widened}
 use Rattle.safebound_plans.proofs.Costs.{order_narrow, tree_narrow}
 
 module _ (bounds wide : List ℕ) (n scans budget : ℕ) (same : wide ≡ all_widened bounds) (count : scans ≡ n) where

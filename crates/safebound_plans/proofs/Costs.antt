@@ -5,14 +5,14 @@ use Rattle.std.specs.Prelude.{if◌then◌else◌}
 use Rattle.entry_sets.specs.Sets.{set_of}
 use Rattle.order_search.specs.Orders.{cost as order_cost, greatest, levels, prefixes}
 use Rattle.bushy_plan.specs.BestTree.{cost as tree_cost, inner_greatest}
-use Rattle.bushy_plan.specs.JoinTrees.{JoinTree, entries_of, leaf, node}
-use Rattle.safebound_plans.specs.Widened.{all_widened, no_bound, widened}
+use Rattle.bushy_plan.specs.PlanTrees.{PlanTree, leaf_set, leaf, node}
+use Rattle.safebound_plans.specs.Bits.{all_widened, no_bound, in_128_bits}
 
 -- 64 bits tell it, or not even 128 do
 abbrev IsNarrow : ℕ → Type 0
 IsNarrow x = (x < 2 ^ 64) ⊎ (x ≡ 2 ^ 128 - 1)
 
-widened_narrow : (b : ℕ) → b < 2 ^ 64 → IsNarrow (widened b)
+widened_narrow : (b : ℕ) → b < 2 ^ 64 → IsNarrow (in_128_bits b)
 widened_narrow b fits = by (eqb b no_bound)
   where
     by : (t : Bool) → IsNarrow (if t then 2 ^ 128 - 1 else b)
@@ -52,21 +52,21 @@ either_narrow : (x rest : ℕ) → IsNarrow x → max x rest ≤ 2 ^ 128 - 2 →
 either_narrow x rest (inl small) low h = omega arith
 either_narrow x rest (inr top) low h = absurd (omega arith)
 
-inner_narrow : (bounds : List ℕ) → ((k : ℕ) → get_or bounds k 0 < 2 ^ 64) → (t : JoinTree) → inner_greatest (all_widened bounds) t ≤ 2 ^ 128 - 2
+inner_narrow : (bounds : List ℕ) → ((k : ℕ) → get_or bounds k 0 < 2 ^ 64) → (t : PlanTree) → inner_greatest (all_widened bounds) t ≤ 2 ^ 128 - 2
     → inner_greatest (all_widened bounds) t < 2 ^ 64
 inner_narrow bounds fits (leaf entry) low = omega arith
 inner_narrow bounds fits (node left right) low =
     let l : inner_greatest (all_widened bounds) left < 2 ^ 64 = inner_narrow bounds fits left (omega arith) in
     let r : inner_greatest (all_widened bounds) right < 2 ^ 64 = inner_narrow bounds fits right (omega arith) in
-    either_narrow (get_or (all_widened bounds) (entries_of left + entries_of right) 0)
+    either_narrow (get_or (all_widened bounds) (leaf_set left + leaf_set right) 0)
     (max (inner_greatest (all_widened bounds) left) (inner_greatest (all_widened bounds) right))
-    (narrow_at bounds fits (entries_of left + entries_of right)) low (omega arith)
+    (narrow_at bounds fits (leaf_set left + leaf_set right)) low (omega arith)
 
 alone_narrow : (x : ℕ) → IsNarrow x → x ≤ 2 ^ 128 - 2 → x < 2 ^ 64
 alone_narrow x (inl small) low = small
 alone_narrow x (inr top) low = absurd (omega arith)
 
-pub tree_narrow : (bounds : List ℕ) → ((k : ℕ) → get_or bounds k 0 < 2 ^ 64) → (t : JoinTree) → tree_cost (all_widened bounds) t ≤ 2 ^ 128 - 2
+pub tree_narrow : (bounds : List ℕ) → ((k : ℕ) → get_or bounds k 0 < 2 ^ 64) → (t : PlanTree) → tree_cost (all_widened bounds) t ≤ 2 ^ 128 - 2
     → tree_cost (all_widened bounds) t < 2 ^ 64
 tree_narrow bounds fits (leaf entry) low = alone_narrow (get_or (all_widened bounds) (2 ^ entry) 0) (narrow_at bounds fits (2 ^ entry)) low
 tree_narrow bounds fits (node left right) low = inner_narrow bounds fits (node left right) low

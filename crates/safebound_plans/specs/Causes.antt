@@ -8,7 +8,7 @@ use Rattle.bushy_plan.specs.Causes.{IsCause as IsBushyCause}
 use Rattle.safebound_lists.specs.declared.refusal.Refusal.{Refusal}
 use Rattle.safebound_lists.specs.declared.refusal.Refusal.TheVariants as refusal
 use Rattle.safebound_plans.specs.Given.{AreOfSets, MayPlan}
-use Rattle.safebound_plans.specs.Widened.{all_widened}
+use Rattle.safebound_plans.specs.Bits.{all_widened}
 
 -- there are not as many bounds as sets of 1 to 12 entries
 abbrev pub AreOfNoSets : List ℕ → ℕ → Type 0

@@ -1,4 +1,4 @@
-pub mod Widened
+pub mod Bits
 pub mod Given
 pub mod Orders
 pub mod Trees

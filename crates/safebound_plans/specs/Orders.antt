@@ -4,7 +4,7 @@ use Rattle.order_search.specs.Orders.{IsBest, cost, levels}
 use Rattle.safebound_lists.specs.Written.{IsFilled}
 use Rattle.safebound_plans.specs.declared.ordering.Level.{Level}
 use Rattle.safebound_plans.specs.Given.{MayPlan}
-use Rattle.safebound_plans.specs.Widened.{all_widened}
+use Rattle.safebound_plans.specs.Bits.{all_widened}
 
 abbrev pub entries_in : List Level → List ℕ
 entries_in front = map (λ (level : Level). level.entry) front

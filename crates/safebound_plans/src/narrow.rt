@@ -1,7 +1,7 @@
 //! Bounds of 64 bits, as the searches take them.
 ghost use Rattle.std.specs.Prelude.{◌≡◌, ℕ, length, IfOk, MatchOption};
 ghost use Rattle.safebound_plans.specs.Given.{AreOfSets};
-ghost use Rattle.safebound_plans.specs.Widened.{all_widened, widened as widened_of};
+ghost use Rattle.safebound_plans.specs.Bits.{all_widened, in_128_bits as widened_of};
 
 use base_io::{NoMemory, Seq};
 use limits::{MOST_ENTRIES, TOP_BOUND};

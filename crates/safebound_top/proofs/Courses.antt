@@ -15,10 +15,10 @@ use Rattle.outcomes.specs.declared.refusal.Refusal.TheVariants as refusal
 use Rattle.outcomes.specs.declared.status.Status.TheVariants as status
 use Rattle.outcomes.proofs.StatusFacts.{ended_fault, ended_not_cut, ended_not_done, ended_refused}
 use Rattle.safebound_top.specs.Call.{Call, GrewOrWasCut}
-use Rattle.safebound_top.specs.Course.{Course, Ended, Done, CutInNotes, CutInOut, How, Unasked, Asked, Ran, Stopped, Went, Told}
+use Rattle.safebound_top.specs.Course.{Course, TextsEnded, Done, CutInNotes, CutInOut, How, Unasked, Asked, StageRan, Stopped, Went, StatusTold}
 use Rattle.safebound_top.specs.Faults.{fault_text}
 use Rattle.safebound_top.specs.Headline as say
-use Rattle.prepared_runs.specs.Outcome.{Outcome}
+use Rattle.prepared_runs.specs.RunOutcome.{RunOutcome}
 use Rattle.safebound_top.specs.OutcomeTexts.{notes_text, out_text}
 use Rattle.prepared_runs.specs.Verdict.{IsReached, command_stage, verdict}
 use Rattle.prepared_runs.proofs.Runs.{bounds_hold, limits_hold, rows_are_the_answer}
@@ -34,7 +34,7 @@ unasked_is r is = cc
 
 module _ (call : Call) (course : Course call) where
   -- a line that was told is the fault text, where the store tells its files
-  line_told : Told call.notes course.line → (files : Files) → call.store.files ≡ Some files → say.GrewByLine call.notes (fault_text call.status call.words files)
+  line_told : StatusTold call.notes course.line → (files : Files) → call.store.files ≡ Some files → say.GrewByLine call.notes (fault_text call.status call.words files)
   line_told told files is = subst (say.GrewByLine call.notes) (course.is_line files is) told.tells
 
   -- a reading that ended
@@ -59,8 +59,8 @@ module _ (call : Call) (course : Course call) where
         by ending.NoMemory is = inr (status_is ∙ ap ended is)
 
   -- a run that was read to its end
-  module _ (run : Outcome) (reads : Reads call.store (verdict call.words) (IsReached call.words) (Ok run))
-      (written : Ended call.status call.out call.notes run course.line) where
+  module _ (run : RunOutcome) (reads : Reads call.store (verdict call.words) (IsReached call.words) (Ok run))
+      (written : TextsEnded call.status call.out call.notes run course.line) where
     went_verdict : (files : Files) → call.store.files ≡ Some files → verdict call.words files ≡ Ok run
     went_verdict = reads.gives
 
@@ -68,7 +68,7 @@ module _ (call : Call) (course : Course call) where
     went_on : (e : Ending) → call.status ≡ ended e → ⊥
     went_on e is = by written
       where
-        by : Ended call.status call.out call.notes run course.line → ⊥
+        by : TextsEnded call.status call.out call.notes run course.line → ⊥
         by (Done s notes out) = ended_not_done e (sym is ∙ s)
         by (CutInNotes s rose out line) = ended_not_cut e sink.Notes (sym is ∙ s)
         by (CutInOut s rose out line) = ended_not_cut e sink.Out (sym is ∙ s)
@@ -76,9 +76,9 @@ module _ (call : Call) (course : Course call) where
     went_done : call.status ≡ status.Done → (files : Files) → call.store.files ≡ Some files
         → IsOkAnd (verdict call.words files) (λ run. say.GrewWhole call.notes (notes_text run) × say.GrewWhole call.out (out_text run))
     went_done is files told =
-        subst (λ (v : Result Outcome Refusal). IsOkAnd v (λ run. say.GrewWhole call.notes (notes_text run) × say.GrewWhole call.out (out_text run))) (sym (went_verdict files told)) (by written)
+        subst (λ (v : Result RunOutcome Refusal). IsOkAnd v (λ run. say.GrewWhole call.notes (notes_text run) × say.GrewWhole call.out (out_text run))) (sym (went_verdict files told)) (by written)
       where
-        by : Ended call.status call.out call.notes run course.line → say.GrewWhole call.notes (notes_text run) × say.GrewWhole call.out (out_text run)
+        by : TextsEnded call.status call.out call.notes run course.line → say.GrewWhole call.notes (notes_text run) × say.GrewWhole call.out (out_text run)
         by (Done e notes out) = (notes, out)
         by (CutInNotes e rose out line) = absurd (let no : status.Done ≡ status.WriteFault sink.Notes = sym is ∙ e in cc)
         by (CutInOut e rose out line) = absurd (let no : status.Done ≡ status.WriteFault sink.Out = sym is ∙ e in cc)
@@ -87,14 +87,14 @@ module _ (call : Call) (course : Course call) where
         × say.OverFiles call (λ files v. IsOkAnd v (λ run. say.WasCutAndTold call.notes (notes_text run) (fault_text call.status call.words files)))
     went_cut_notes is = by written
       where
-        by : Ended call.status call.out call.notes run course.line → say.FaultsRose call.notes × say.DidNotGrow call.out
+        by : TextsEnded call.status call.out call.notes run course.line → say.FaultsRose call.notes × say.DidNotGrow call.out
             × say.OverFiles call (λ files v. IsOkAnd v (λ run. say.WasCutAndTold call.notes (notes_text run) (fault_text call.status call.words files)))
         by (Done e notes out) = absurd (let no : status.Done ≡ status.WriteFault sink.Notes = sym e ∙ is in cc)
         by (CutInNotes e rose out line) = (
           rose,
           out,
           (λ files told.
-              subst (λ (v : Result Outcome Refusal). IsOkAnd v (λ run. say.WasCutAndTold call.notes (notes_text run) (fault_text call.status call.words files)))
+              subst (λ (v : Result RunOutcome Refusal). IsOkAnd v (λ run. say.WasCutAndTold call.notes (notes_text run) (fault_text call.status call.words files)))
               (sym (went_verdict files told)) (subst (say.WasCutAndTold call.notes (notes_text run)) (course.is_line files told) line)),
         )
         by (CutInOut e rose out line) = absurd (let no : status.WriteFault sink.Out ≡ status.WriteFault sink.Notes = sym e ∙ is in cc)
@@ -104,7 +104,7 @@ module _ (call : Call) (course : Course call) where
         × GrewOrWasCut (say.grown call.notes.taken_before (notes_text run)) call.notes.taken_after call.notes.faults_before call.notes.faults_after (fault_text call.status call.words files)))
     went_cut_out is = by written
       where
-        by : Ended call.status call.out call.notes run course.line → say.FaultsRose call.out
+        by : TextsEnded call.status call.out call.notes run course.line → say.FaultsRose call.out
             × say.OverFiles call (λ files v. IsOkAnd v (λ run. say.WasCut call.out (out_text run)
             × GrewOrWasCut (say.grown call.notes.taken_before (notes_text run)) call.notes.taken_after call.notes.faults_before call.notes.faults_after (fault_text call.status call.words files)))
         by (Done e notes out) = absurd (let no : status.Done ≡ status.WriteFault sink.Out = sym e ∙ is in cc)
@@ -112,7 +112,7 @@ module _ (call : Call) (course : Course call) where
         by (CutInOut e rose out line) = (
           rose,
           (λ files told.
-              subst (λ (v : Result Outcome Refusal). IsOkAnd v (λ run. say.WasCut call.out (out_text run)
+              subst (λ (v : Result RunOutcome Refusal). IsOkAnd v (λ run. say.WasCut call.out (out_text run)
               × GrewOrWasCut (say.grown call.notes.taken_before (notes_text run)) call.notes.taken_after call.notes.faults_before call.notes.faults_after (fault_text call.status call.words files)))
               (sym (went_verdict files told))
               (out, subst (GrewOrWasCut (say.grown call.notes.taken_before (notes_text run)) call.notes.taken_after call.notes.faults_before call.notes.faults_after) (course.is_line files told) line)),
@@ -122,7 +122,7 @@ module _ (call : Call) (course : Course call) where
         → (call.status ≡ say.status_of (verdict call.words files)) ⊎ ((which : SinkId) × (call.status ≡ status.WriteFault which)) ⊎ (call.status ≡ status.NoMemory)
     went_by_the_store files told = by written
       where
-        by : Ended call.status call.out call.notes run course.line
+        by : TextsEnded call.status call.out call.notes run course.line
             → (call.status ≡ say.status_of (verdict call.words files)) ⊎ ((which : SinkId) × (call.status ≡ status.WriteFault which)) ⊎ (call.status ≡ status.NoMemory)
         by (Done e notes out) = inl (e ∙ sym (ap say.status_of (went_verdict files told)))
         by (CutInNotes e rose out line) = inr (inl (sink.Notes, e))
@@ -132,7 +132,7 @@ module _ (call : Call) (course : Course call) where
         → (call.status ≡ say.status_of (verdict call.words files)) ⊎ (call.status ≡ status.NoMemory)
     went_by_the_sinks calm_out calm_notes files told = by written
       where
-        by : Ended call.status call.out call.notes run course.line → (call.status ≡ say.status_of (verdict call.words files)) ⊎ (call.status ≡ status.NoMemory)
+        by : TextsEnded call.status call.out call.notes run course.line → (call.status ≡ say.status_of (verdict call.words files)) ⊎ (call.status ≡ status.NoMemory)
         by (Done e notes out) = inl (e ∙ sym (ap say.status_of (went_verdict files told)))
         by (CutInNotes e rose out line) = absurd (calm_notes rose)
         by (CutInOut e rose out line) = absurd (calm_out rose)
@@ -144,7 +144,7 @@ module _ (call : Call) (course : Course call) where
   done (Unasked h) is = absurd (let no : status.Refused refusal.Usage ≡ status.Done = sym h.status ∙ is in cc)
   done (Asked h) is = by h.ran
     where
-      by : Ran call.status call.store call.out call.notes (verdict call.words) (IsReached call.words) course.line
+      by : StageRan call.status call.store call.out call.notes (verdict call.words) (IsReached call.words) course.line
           → say.OverFiles call (λ files v. IsOkAnd v (λ run. say.GrewWhole call.notes (notes_text run) × say.GrewWhole call.out (out_text run)))
       by (Stopped e s reads out told) = absurd (ended_not_done e (sym s ∙ is))
       by (Went run reads written) = went_done run reads written is
@@ -154,7 +154,7 @@ module _ (call : Call) (course : Course call) where
   memory (Unasked h) is = absurd (let no : status.Refused refusal.Usage ≡ status.NoMemory = sym h.status ∙ is in cc)
   memory (Asked h) is = by h.ran
     where
-      by : Ran call.status call.store call.out call.notes (verdict call.words) (IsReached call.words) course.line → say.GrewByLine call.notes (codes "error memory\n") × say.DidNotGrow call.out
+      by : StageRan call.status call.store call.out call.notes (verdict call.words) (IsReached call.words) course.line → say.GrewByLine call.notes (codes "error memory\n") × say.DidNotGrow call.out
       by (Stopped e s reads out told) = (subst (say.GrewByLine call.notes) (course.memory is) told.tells, out)
       by (Went run reads written) = absurd (went_on run reads written ending.NoMemory is)
 
@@ -166,7 +166,7 @@ module _ (call : Call) (course : Course call) where
   }
   cuts (Asked h) = by h.ran
     where
-      by : Ran call.status call.store call.out call.notes (verdict call.words) (IsReached call.words) course.line → say.WriteFaultsHaveTheirCause call
+      by : StageRan call.status call.store call.out call.notes (verdict call.words) (IsReached call.words) course.line → say.WriteFaultsHaveTheirCause call
       by (Stopped e s reads out told) = record {
         of_notes = λ is. absurd (ended_not_cut e sink.Notes (sym s ∙ is));
         of_out = λ is. absurd (ended_not_cut e sink.Out (sym s ∙ is));
@@ -184,7 +184,7 @@ module _ (call : Call) (course : Course call) where
   }
   refusals (Asked h) = by h.ran
     where
-      by : Ran call.status call.store call.out call.notes (verdict call.words) (IsReached call.words) course.line → say.RefusalsAreTheVerdict call
+      by : StageRan call.status call.store call.out call.notes (verdict call.words) (IsReached call.words) course.line → say.RefusalsAreTheVerdict call
       by (Stopped e s reads out told) = record {
         usage = ((λ is. absurd ((by_refusal e s reads refusal.Usage is).2 refl)), (λ is. absurd (h.words is)));
         told = λ r is. (out, (λ files is_told. ((by_refusal e s reads r is).0 files is_told, line_told told files is_told)));
@@ -204,7 +204,7 @@ module _ (call : Call) (course : Course call) where
   }
   faults (Asked h) = by h.ran
     where
-      by : Ran call.status call.store call.out call.notes (verdict call.words) (IsReached call.words) course.line → say.ReadFaultsHaveTheirCause call
+      by : StageRan call.status call.store call.out call.notes (verdict call.words) (IsReached call.words) course.line → say.ReadFaultsHaveTheirCause call
       by (Stopped e s reads out told) = record {
         told = λ file is.
             let ends = by_fault e s reads file is in
@@ -223,7 +223,7 @@ module _ (call : Call) (course : Course call) where
       record { by_the_store = λ calm files told. inl (so files); by_the_sinks = λ calm calm_out calm_notes files told. inl (so files) }
   causes (Asked h) = by h.ran
     where
-      by : Ran call.status call.store call.out call.notes (verdict call.words) (IsReached call.words) course.line → say.NothingIsRefusedWithoutCause call
+      by : StageRan call.status call.store call.out call.notes (verdict call.words) (IsReached call.words) course.line → say.NothingIsRefusedWithoutCause call
       by (Stopped e s reads out told) = record {
         by_the_store = λ calm files is_told. elim (stopped_so e s reads calm files is_told) [ inl is ↦ inl is | inr is ↦ inr (inr is) ];
         by_the_sinks = λ calm calm_out calm_notes files is_told. stopped_so e s reads calm files is_told;

@@ -45,23 +45,23 @@ use Rattle.tree_rows.specs.Trees.{entries_at}
 use Rattle.bushy_join.specs.Trees.{is_joined_leaf}
 use Rattle.safebound_words.specs.Answer.{command_of}
 use Rattle.safebound_words.proofs.Readings.{asked_computed}
-use Rattle.prepared_runs.specs.Accepted.{BoundsHold, printed}
+use Rattle.prepared_runs.specs.AcceptedQuery.{BoundsHold, printed}
 use Rattle.safebound_words.specs.Commands.{over_query}
 use Rattle.safebound_words.specs.declared.command.Command.{Command}
 use Rattle.safebound_words.specs.declared.command.Aim.TheVariants as aims
 use Rattle.safebound_words.specs.declared.command.Work.TheVariants as works
 use Rattle.safebound_top.specs.Call.{Call, Grew}
 use Rattle.safebound_top.specs.Headline.{GrewWhole, Headline}
-use Rattle.prepared_runs.specs.Limits.{AreWithin, within_limit}
+use Rattle.prepared_runs.specs.Limits.{IsWithinLimit, within_limit}
 use Rattle.safebound_top.specs.Promise.{AreInFile, AreScans, AsksQuery, DeclaresSchema, HoldsAlong, HoldsOver, IsTheOne, PrintsOrder, PrintsPlan, PrintsTree, Promise, RanWhole, choices_over}
 use Rattle.prepared_runs.specs.Shapes.{part_rows, planned_by, shape_bytes}
 use Rattle.prepared_runs.specs.Sources.{lists_by, sourced}
-use Rattle.prepared_runs.specs.Outcome.{NoBoundIsTooLow, Outcome, Planned, PrintsTheAnswer}
+use Rattle.prepared_runs.specs.RunOutcome.{NoBoundIsTooLow, RunOutcome, Planned, PrintsTheAnswer}
 use Rattle.safebound_top.specs.OutcomeTexts.{notes_text, out_text}
 use Rattle.safebound_top.specs.Texts.{plan_text, rows_text, text_for}
 use Rattle.prepared_runs.specs.Verdict.{aim_run, command_run, command_stage, plan_asked, plan_stage, query_of_text, query_stage, or_usage, run_asked, schema_of_text, schema_stage, verdict, work_run}
-use Rattle.prepared_runs.specs.declared.shapes.Shaped.{Shaped}
-use Rattle.prepared_runs.specs.declared.shapes.Shaped.TheVariants as shaped
+use Rattle.prepared_runs.specs.declared.shapes.AnyPlan.{AnyPlan}
+use Rattle.prepared_runs.specs.declared.shapes.AnyPlan.TheVariants as shaped
 use Rattle.safebound_words.specs.declared.command.ListSource.{ListSource}
 use Rattle.safebound_words.specs.declared.command.ListSource.TheVariants as sources
 use Rattle.safebound_words.specs.declared.command.OutText.{OutText}
@@ -154,7 +154,7 @@ module _ (task : PlanWork) (query : Query) (rows : List (List Row)) where
   scans_are sources.Reduced = reduced_scans_by_rounds query (tables_in rows)
   scans_are sources.Counted = reduced_scans_by_rounds query (tables_in rows)
 
-  along : (plan : Plan) → BoundsHold (run_asked task query rows (shaped.Along plan))
+  along : (plan : Plan) → BoundsHold (run_asked task query rows (shaped.OrderPlan plan))
       → HoldsAlong query (tables_in rows) (lists_by task.source query (tables_in rows)) plan
   along plan h = record {
     each_entry = h.plan;
@@ -162,7 +162,7 @@ module _ (task : PlanWork) (query : Query) (rows : List (List Row)) where
     levels_fit = λ k low. h.parts k (omega (arith, h.plan.order.all));
   }
 
-  module _ (plan : BushyPlan) (h : BoundsHold (run_asked task query rows (shaped.Over plan))) where
+  module _ (plan : BushyPlan) (h : BoundsHold (run_asked task query rows (shaped.TreePlan plan))) where
     node_bound : (k : ℕ) (join : Join) → slice_get plan.joins k ≡ Some join → bound_at plan (length plan.scans + k) ≡ join.bound
     node_bound k join is =
         get_or-append-add plan.scans (map (λ (j : Join). j.bound) plan.joins) k 0
@@ -175,7 +175,7 @@ module _ (task : PlanWork) (query : Query) (rows : List (List Row)) where
     node_fits : (k : ℕ) (join : Join) → slice_get plan.joins k ≡ Some join
         → length (choices_over query (tables_in rows) (lists_by task.source query (tables_in rows)) (entries_at plan (length plan.scans + k))) ≤ join.bound
     node_fits k join is =
-        let fits : length (part_rows query (tables_in rows) (lists_over task.source) (shaped.Over plan) k) ≤ bound_at plan (length plan.scans + k) =
+        let fits : length (part_rows query (tables_in rows) (lists_over task.source) (shaped.TreePlan plan) k) ≤ bound_at plan (length plan.scans + k) =
         h.parts k (slice_get_within plan.joins k join is) in
         let inner : length (choices_over query (tables_in rows) (lists_over task.source) (entries_at plan (length plan.scans + k))) ≤ bound_at plan (length plan.scans + k) =
         rw (no_leaf k) at fits in
@@ -197,8 +197,8 @@ seen_ok view (Ok x) y e = (x, cc)
 seen_ok view (Err s) y e = cc
 
 -- the text of a plan of the shape that was asked for
-prints : (task : PlanWork) (schema : Schema) (query : Query) (rows : List (List Row)) (plan : Shaped)
-    → plan_asked task schema query (tables_in rows) ≡ Ok plan → BoundsHold (run_asked task query rows plan) → AreWithin task.memory (shape_bytes plan)
+prints : (task : PlanWork) (schema : Schema) (query : Query) (rows : List (List Row)) (plan : AnyPlan)
+    → plan_asked task schema query (tables_in rows) ≡ Ok plan → BoundsHold (run_asked task query rows plan) → IsWithinLimit task.memory (shape_bytes plan)
     → PrintsPlan task.shape task.memory query (tables_in rows) (lists_by task.source query (tables_in rows)) (plan_text (run_asked task query rows plan))
 unfolding planned_by
 prints task schema query rows plan made h within = by task.shape made
@@ -206,39 +206,39 @@ prints task schema query rows plan made h within = by task.shape made
     by : (shape : Shape) → planned_by shape (sourced task.source schema query (tables_in rows)) task.accuracy task.budget ≡ Ok plan
         → PrintsPlan shape task.memory query (tables_in rows) (lists_by task.source query (tables_in rows)) (plan_text (run_asked task query rows plan))
     by shapes.Order e =
-        let found = seen_ok (λ p. shaped.Along p) _ plan e in
-        subst (λ (p : Shaped). PrintsOrder task.memory query (tables_in rows) (lists_by task.source query (tables_in rows)) (plan_text (run_asked task query rows p))) found.1
+        let found = seen_ok (λ p. shaped.OrderPlan p) _ plan e in
+        subst (λ (p : AnyPlan). PrintsOrder task.memory query (tables_in rows) (lists_by task.source query (tables_in rows)) (plan_text (run_asked task query rows p))) found.1
         (record {
           plan = found.0;
-          holds = along task query rows found.0 (subst (λ (p : Shaped). BoundsHold (run_asked task query rows p)) (sym found.1) h);
-          within = subst (λ (p : Shaped). AreWithin task.memory (shape_bytes p)) (sym found.1) within;
+          holds = along task query rows found.0 (subst (λ (p : AnyPlan). BoundsHold (run_asked task query rows p)) (sym found.1) h);
+          within = subst (λ (p : AnyPlan). IsWithinLimit task.memory (shape_bytes p)) (sym found.1) within;
           prints = refl;
         })
     by shapes.Tree e =
-        let found = seen_ok (λ p. shaped.Over p) _ plan e in
-        subst (λ (p : Shaped). PrintsTree task.memory query (tables_in rows) (lists_by task.source query (tables_in rows)) (plan_text (run_asked task query rows p))) found.1
+        let found = seen_ok (λ p. shaped.TreePlan p) _ plan e in
+        subst (λ (p : AnyPlan). PrintsTree task.memory query (tables_in rows) (lists_by task.source query (tables_in rows)) (plan_text (run_asked task query rows p))) found.1
         (record {
           plan = found.0;
-          holds = over task query rows found.0 (subst (λ (p : Shaped). BoundsHold (run_asked task query rows p)) (sym found.1) h);
-          within = subst (λ (p : Shaped). AreWithin task.memory (shape_bytes p)) (sym found.1) within;
+          holds = over task query rows found.0 (subst (λ (p : AnyPlan). BoundsHold (run_asked task query rows p)) (sym found.1) h);
+          within = subst (λ (p : AnyPlan). IsWithinLimit task.memory (shape_bytes p)) (sym found.1) within;
           prints = refl;
         })
 
 -- ---- the stages of a run
 
-pub record Stages (schema_file query_file : List ℕ) (task : PlanWork) (files : Files) (outcome : Outcome) : Type 0 where
+pub record Stages (schema_file query_file : List ℕ) (task : PlanWork) (files : Files) (outcome : RunOutcome) : Type 0 where
   pub schema : Schema
   pub schema_read : schema_stage schema_file files ≡ Ok schema
   pub query : Query
   pub query_read : query_stage query_file schema files ≡ Ok query
   pub rows : List (List Row)
   pub rows_read : tables_stage schema query.from files ≡ Ok rows
-  pub plan : Shaped
+  pub plan : AnyPlan
   pub planned : plan_asked task schema query (tables_in rows) ≡ Ok plan
-  pub within : AreWithin task.memory (shape_bytes plan)
+  pub within : IsWithinLimit task.memory (shape_bytes plan)
   pub is_run : Planned (run_asked task query rows plan) ≡ outcome
 
-pub stages : (shop : Option ℕ) (schema_file query_file : List ℕ) (task : PlanWork) (files : Files) (outcome : Outcome)
+pub stages : (shop : Option ℕ) (schema_file query_file : List ℕ) (task : PlanWork) (files : Files) (outcome : RunOutcome)
     → command_run (over_query shop schema_file query_file (works.Plan task)) files ≡ Ok outcome → Stages schema_file query_file task files outcome
 unfolding command_run plan_stage
 stages shop schema_file query_file task files outcome e =
@@ -270,12 +270,12 @@ if_ok : {A E : Type 0} (P : A → Type 0) (r : Result A E) (x : A) → r ≡ Ok 
 if_ok P r x e h = subst (λ s. IfOk s P) e h
 
 -- the rows text goes out where it is asked for
-rows_written : (task : PlanWork) (query : Query) (rows : List (List Row)) (plan : Shaped) (out : Growth) → task.out ≡ out_texts.Rows
+rows_written : (task : PlanWork) (query : Query) (rows : List (List Row)) (plan : AnyPlan) (out : Growth) → task.out ≡ out_texts.Rows
     → GrewWhole out (out_text (Planned (run_asked task query rows plan))) → Grew out (rows_text (run_asked task query rows plan))
 rows_written task query rows plan out is written = subst (λ (t : OutText). GrewWhole out (text_for t (run_asked task query rows plan))) is written
 
 module _ (schema_file query_file : List ℕ) (task : PlanWork) (is_run : task.out ≡ out_texts.Rows) (files : Files) (notes out : Growth) where
-  ran_whole : (outcome : Outcome) → command_run (over_query None schema_file query_file (works.Plan task)) files ≡ Ok outcome
+  ran_whole : (outcome : RunOutcome) → command_run (over_query None schema_file query_file (works.Plan task)) files ≡ Ok outcome
       → GrewWhole notes (notes_text outcome) → GrewWhole out (out_text outcome) → NoBoundIsTooLow outcome → PrintsTheAnswer outcome
       → RanWhole files schema_file query_file task notes out
   ran_whole outcome e noted written bounds answered =
@@ -292,14 +292,14 @@ module _ (schema_file query_file : List ℕ) (task : PlanWork) (is_run : task.ou
         are_scans = scans_are task s.query s.rows task.source;
         plan_text = plan_text (run_asked task s.query s.rows s.plan);
         plan = prints task s.schema s.query s.rows s.plan s.planned (subst NoBoundIsTooLow back bounds) s.within;
-        plan_written = subst (λ (o : Outcome). GrewWhole notes (notes_text o)) back noted;
+        plan_written = subst (λ (o : RunOutcome). GrewWhole notes (notes_text o)) back noted;
         rows_text = rows_text (run_asked task s.query s.rows s.plan);
         answer = record {
           rows = printed (run_asked task s.query s.rows s.plan);
           is_answer = subst PrintsTheAnswer back answered;
           prints = refl;
         };
-        answer_written = rows_written task s.query s.rows s.plan out is_run (subst (λ (o : Outcome). GrewWhole out (out_text o)) back written);
+        answer_written = rows_written task s.query s.rows s.plan out is_run (subst (λ (o : RunOutcome). GrewWhole out (out_text o)) back written);
       }
 
 pub keeps_promise : (call : Call) → Headline call → Promise call

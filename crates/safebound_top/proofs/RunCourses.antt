@@ -16,9 +16,9 @@ use Rattle.outcomes.specs.declared.status.Status.{Status}
 use Rattle.outcomes.specs.declared.status.Status.TheVariants as status
 use Rattle.outcomes.proofs.ReadFacts.{Meets, joined, reads_as, then_reads, then_stops}
 use Rattle.printed_texts.specs.Faults.{error_line, fault_line}
-use Rattle.prepared_runs.specs.Outcome.{Outcome}
+use Rattle.prepared_runs.specs.RunOutcome.{RunOutcome}
 use Rattle.safebound_top.specs.Call.{Call}
-use Rattle.safebound_top.specs.Course.{Asked, Course, Ran, Stopped, Told, Unasked, Went}
+use Rattle.safebound_top.specs.Course.{Asked, Course, StageRan, Stopped, StatusTold, Unasked, Went}
 use Rattle.safebound_top.specs.Faults.{fault_text, names_by, status_line, where_ok}
 use Rattle.safebound_top.specs.Headline.{DidNotGrow}
 use Rattle.safebound_words.specs.declared.command.Aim.{Aim}
@@ -42,7 +42,7 @@ memory_told s ask schema is = ap (λ (x : Status). status_line x ask schema) is 
 
 -- words that are no command
 pub course_unasked : (call : Call) → call.status ≡ status.Refused refusal.Usage → command_stage call.words ≡ Err refusal.Usage → call.store.misses_after ≡ call.store.misses_before → DidNotGrow call.out
-    → Told call.notes (status_line call.status None None) → Course call
+    → StatusTold call.notes (status_line call.status None None) → Course call
 course_unasked call is words misses out told = record {
   line = status_line call.status None None;
   is_line = λ files _. ap (λ (s : Status). status_line s None None) is ∙ same files ∙ ap (λ (s : Status). fault_text s call.words files) (sym is);
@@ -111,7 +111,7 @@ module _ (ask : Command) (words : List (List ℕ)) (command : command_stage word
         reads_as store (command_run ask) (verdict words) (IsReached words) (IsReached words) (Err e) verdict_of (λ files id at'. at')
         (then_stops (schema_stage ask.schema_file) (aim_run ask.aim) store (AtFile file.Schema) (IsReached words) e reached_schema reads)
 
-    pub course_stopped : DidNotGrow out → Told notes (status_line s (Some ask) None) → Course (record { words = words; status = s; store = store; out = out; notes = notes })
+    pub course_stopped : DidNotGrow out → StatusTold notes (status_line s (Some ask) None) → Course (record { words = words; status = s; store = store; out = out; notes = notes })
     course_stopped still told = record {
       line = status_line s (Some ask) None;
       is_line = stopped_line;
@@ -123,19 +123,19 @@ module _ (ask : Command) (words : List (List ℕ)) (command : command_stage word
 
   module _ (s : Status) (first second : Reading) (out notes : Growth) (schema : Schema) (meets : Meets first second)
       (reads : Reads first (schema_stage ask.schema_file) (AtFile file.Schema) (Ok schema)) where
-    ran_reads : (answer : Result Outcome Ending) → Reads second (aim_run ask.aim schema) (IsAimFile ask.aim schema) answer → Reads (joined first second) (verdict words) (IsReached words) answer
+    ran_reads : (answer : Result RunOutcome Ending) → Reads second (aim_run ask.aim schema) (IsAimFile ask.aim schema) answer → Reads (joined first second) (verdict words) (IsReached words) answer
     unfolding command_run
     ran_reads answer h =
         reads_as (joined first second) (command_run ask) (verdict words) (IsReached words) (IsReached words) answer verdict_of (λ files id at'. at')
         (then_reads (schema_stage ask.schema_file) (aim_run ask.aim) first second (AtFile file.Schema) (IsAimFile ask.aim schema) (IsReached words) schema answer meets
         (reached_later schema) reads h)
 
-    ran_so : Ran s second out notes (aim_run ask.aim schema) (IsAimFile ask.aim schema) (status_line s (Some ask) (Some schema))
-        → Ran s (joined first second) out notes (verdict words) (IsReached words) (status_line s (Some ask) (Some schema))
+    ran_so : StageRan s second out notes (aim_run ask.aim schema) (IsAimFile ask.aim schema) (status_line s (Some ask) (Some schema))
+        → StageRan s (joined first second) out notes (verdict words) (IsReached words) (status_line s (Some ask) (Some schema))
     ran_so (Stopped e is h still told) = Stopped e is (ran_reads (Err e) h) still told
     ran_so (Went outcome h written) = Went outcome (ran_reads (Ok outcome) h) written
 
-    pub course_ran : Ran s second out notes (aim_run ask.aim schema) (IsAimFile ask.aim schema) (status_line s (Some ask) (Some schema))
+    pub course_ran : StageRan s second out notes (aim_run ask.aim schema) (IsAimFile ask.aim schema) (status_line s (Some ask) (Some schema))
         → Course (record { words = words; status = s; store = joined first second; out = out; notes = notes })
     course_ran ran = record {
       line = status_line s (Some ask) (Some schema);

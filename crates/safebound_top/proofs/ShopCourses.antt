@@ -11,10 +11,10 @@ use Rattle.outcomes.specs.declared.names.FileId.{FileId}
 use Rattle.outcomes.specs.declared.refusal.Refusal.{Refusal}
 use Rattle.outcomes.specs.declared.status.Status.{Status}
 use Rattle.outcomes.specs.declared.status.Status.TheVariants as status
-use Rattle.prepared_runs.specs.Outcome.{Outcome}
+use Rattle.prepared_runs.specs.RunOutcome.{RunOutcome}
 use Rattle.safebound_words.specs.declared.command.Command.{Command}
 use Rattle.safebound_top.specs.Call.{Call}
-use Rattle.safebound_top.specs.Course.{Asked, Course, How, Ran, Stopped, Told, Unasked, Went}
+use Rattle.safebound_top.specs.Course.{Asked, Course, How, StageRan, Stopped, StatusTold, Unasked, Went}
 use Rattle.safebound_top.specs.Faults.{status_line, where_ok}
 use Rattle.safebound_top.specs.Headline.{DidNotGrow}
 use Rattle.prepared_runs.specs.Shops.{shop_of, shop_store, store_read}
@@ -47,8 +47,8 @@ module _ (number : ℕ) (store : Reading) (is : store.files ≡ Some (demo_files
       given (Ok x) w = λ files told. w files (is ∙ told)
       given (Err e) w = ends e w
 
-  ran_shop : (s : Status) (out notes : Growth) (stage : Files → Result Outcome Refusal) (C : Files → FileId → Type 0) (line : List ℕ)
-      → Ran s store out notes stage C line → Ran s (shop_store number) out notes stage C line
+  ran_shop : (s : Status) (out notes : Growth) (stage : Files → Result RunOutcome Refusal) (C : Files → FileId → Type 0) (line : List ℕ)
+      → StageRan s store out notes stage C line → StageRan s (shop_store number) out notes stage C line
   ran_shop s out notes stage C line (Stopped e ended reads still told) = Stopped e ended (reads_shop stage C (Err e) reads) still told
   ran_shop s out notes stage C line (Went outcome reads written) = Went outcome (reads_shop stage C (Ok outcome) reads) written
 
@@ -70,7 +70,7 @@ module _ (number : ℕ) (store : Reading) (is : store.files ≡ Some (demo_files
 -- ---- no memory for the files
 
 pub course_unmade : (ask : Command) (words : List (List ℕ)) → command_stage words ≡ Ok ask → (number : ℕ) (s : Status) (out notes : Growth)
-    → s ≡ status.NoMemory → DidNotGrow out → Told notes (status_line s (Some ask) None)
+    → s ≡ status.NoMemory → DidNotGrow out → StatusTold notes (status_line s (Some ask) None)
     → Course (record { words = words; status = s; store = shop_store number; out = out; notes = notes })
 course_unmade ask words command number s out notes is still told = record {
   line = status_line s (Some ask) None;

@@ -11,15 +11,15 @@ use Rattle.outcomes.specs.declared.names.SinkId.{SinkId}
 use Rattle.outcomes.specs.declared.names.SinkId.TheVariants as sink
 use Rattle.outcomes.specs.declared.status.Status.{Status}
 use Rattle.outcomes.specs.declared.status.Status.TheVariants as status
-use Rattle.prepared_runs.specs.Accepted.{Accepted}
-use Rattle.safebound_top.specs.Course.{CutInNotes, CutInOut, Ended, Told, Written, WroteIfAny}
+use Rattle.prepared_runs.specs.AcceptedQuery.{AcceptedQuery}
+use Rattle.safebound_top.specs.Course.{CutInNotes, CutInOut, TextsEnded, StatusTold, TextsWritten, WroteIfAny}
 use Rattle.safebound_top.specs.Headline.{DidNotGrow, GrewWhole, WasCut, WasCutAndTold, grown}
-use Rattle.prepared_runs.specs.Outcome.{FiledPlan, Outcome, Planned, PlannedByFile}
-use Rattle.safebound_top.specs.OutcomeTexts.{filed_plan_text, notes_text, out_text}
+use Rattle.prepared_runs.specs.RunOutcome.{PlanFromStatsFile, RunOutcome, Planned, PlannedFromStats}
+use Rattle.safebound_top.specs.OutcomeTexts.{stats_file_plan_text, notes_text, out_text}
 use Rattle.safebound_top.specs.Texts.{out_text_of, plan_text}
 
 -- a line that was written, whole or cut, was told
-pub told_of : (g : Growth) (line : List ℕ) (r : Result (Unit {0}) Failed) → Wrote g line r → Told g line
+pub told_of : (g : Growth) (line : List ℕ) (r : Result (Unit {0}) Failed) → Wrote g line r → StatusTold g line
 told_of g line (Ok u) h = record { tells = record { prefix = h.prefix; whole = λ calm. h.ok }; later = h.later }
 told_of g line (Err e) h = record { tells = record { prefix = h.prefix; whole = λ calm. absurd (calm h.failed) }; later = h.later }
 
@@ -29,16 +29,16 @@ cut_first {t0} {t1} {f0} {f1} {a} {e} b h = record { ok = tt; prefix = prefix_of
 
 -- ---- the plan text, and then the other text, if any
 
-pub notes_cut : (t0 t1 o : Option (List ℕ)) (f0 f1 g : ℕ) (run : Accepted) (text : List ℕ) (e : Failed) → text ≡ plan_text run → Wrote (between t0 t1 f0 f1) text (Err e)
-    → Written (between o o g g) (between t0 t1 f0 f1) (Planned run) (Err sink.Notes)
+pub notes_cut : (t0 t1 o : Option (List ℕ)) (f0 f1 g : ℕ) (run : AcceptedQuery) (text : List ℕ) (e : Failed) → text ≡ plan_text run → Wrote (between t0 t1 f0 f1) text (Err e)
+    → TextsWritten (between o o g g) (between t0 t1 f0 f1) (Planned run) (Err sink.Notes)
 notes_cut t0 t1 o f0 f1 g run text e is h = record {
   texts = (h.failed, (refl, refl), subst (GrewByPrefix t0 t1) is h.prefix);
   later_out = omega arith;
   later_notes = h.later;
 }
 
-pub both_wrote : (t0 t1 o0 o1 : Option (List ℕ)) (f0 f1 g0 g1 : ℕ) (run : Accepted) (text : List ℕ) (other : Option (List ℕ)) (u v : Unit {0}) → text ≡ plan_text run → out_text_of run ≡ other
-    → Wrote (between t0 t1 f0 f1) text (Ok u) → WroteIfAny (between o0 o1 g0 g1) other (Ok v) → Written (between o0 o1 g0 g1) (between t0 t1 f0 f1) (Planned run) (Ok tt)
+pub both_wrote : (t0 t1 o0 o1 : Option (List ℕ)) (f0 f1 g0 g1 : ℕ) (run : AcceptedQuery) (text : List ℕ) (other : Option (List ℕ)) (u v : Unit {0}) → text ≡ plan_text run → out_text_of run ≡ other
+    → Wrote (between t0 t1 f0 f1) text (Ok u) → WroteIfAny (between o0 o1 g0 g1) other (Ok v) → TextsWritten (between o0 o1 g0 g1) (between t0 t1 f0 f1) (Planned run) (Ok tt)
 both_wrote t0 t1 o0 o1 f0 f1 g0 g1 run text None u v is out h k = record {
   texts = (h.ok ∙ ap (appended t0) is, subst (GrewWhole (between o0 o1 g0 g1)) (sym out) k.0);
   later_out = omega (arith, k.0.1);
@@ -50,8 +50,8 @@ both_wrote t0 t1 o0 o1 f0 f1 g0 g1 run text (Some other) u v is out h k = record
   later_notes = h.later;
 }
 
-pub out_cut : (t0 t1 o0 o1 : Option (List ℕ)) (f0 f1 g0 g1 : ℕ) (run : Accepted) (text : List ℕ) (other : Option (List ℕ)) (u : Unit {0}) (e : Failed) → text ≡ plan_text run → out_text_of run ≡ other
-    → Wrote (between t0 t1 f0 f1) text (Ok u) → WroteIfAny (between o0 o1 g0 g1) other (Err e) → Written (between o0 o1 g0 g1) (between t0 t1 f0 f1) (Planned run) (Err sink.Out)
+pub out_cut : (t0 t1 o0 o1 : Option (List ℕ)) (f0 f1 g0 g1 : ℕ) (run : AcceptedQuery) (text : List ℕ) (other : Option (List ℕ)) (u : Unit {0}) (e : Failed) → text ≡ plan_text run → out_text_of run ≡ other
+    → Wrote (between t0 t1 f0 f1) text (Ok u) → WroteIfAny (between o0 o1 g0 g1) other (Err e) → TextsWritten (between o0 o1 g0 g1) (between t0 t1 f0 f1) (Planned run) (Err sink.Out)
 out_cut t0 t1 o0 o1 f0 f1 g0 g1 run text None u e is out h k = absurd (let no : ◌≡◌ {A = Result (Unit {0}) Failed} (Err e) (Ok tt) = k.1 in cc)
 out_cut t0 t1 o0 o1 f0 f1 g0 g1 run text (Some other) u e is out h k = record {
   texts = (k.failed, h.ok ∙ ap (appended t0) is, subst (WasCut (between o0 o1 g0 g1)) (sym out) k.prefix);
@@ -61,26 +61,26 @@ out_cut t0 t1 o0 o1 f0 f1 g0 g1 run text (Some other) u e is out h k = record {
 
 -- ---- a statistics file, and a plan from one
 
-module _ (out notes : Growth) (outcome : Outcome) (still : DidNotGrow notes) (text : List ℕ) (no_notes : notes_text outcome ≡ None) (its : out_text outcome ≡ Some text) where
+module _ (out notes : Growth) (outcome : RunOutcome) (still : DidNotGrow notes) (text : List ℕ) (no_notes : notes_text outcome ≡ None) (its : out_text outcome ≡ Some text) where
   untouched : GrewWhole notes (notes_text outcome)
   untouched = subst (GrewWhole notes) (sym no_notes) still
 
-  pub file_wrote : (u : Unit {0}) → Wrote out text (Ok u) → Written out notes outcome (Ok tt)
+  pub file_wrote : (u : Unit {0}) → Wrote out text (Ok u) → TextsWritten out notes outcome (Ok tt)
   file_wrote u h = record { texts = (untouched, subst (GrewWhole out) (sym its) h.ok); later_out = h.later; later_notes = omega (arith, still.1) }
 
-  pub file_cut : (e : Failed) → Wrote out text (Err e) → Written out notes outcome (Err sink.Out)
+  pub file_cut : (e : Failed) → Wrote out text (Err e) → TextsWritten out notes outcome (Err sink.Out)
   file_cut e h = record { texts = (h.failed, untouched, subst (WasCut out) (sym its) h.prefix); later_out = h.later; later_notes = omega (arith, still.1) }
 
-module _ (out notes : Growth) (made : FiledPlan) (still : DidNotGrow out) where
-  pub plan_wrote : (u : Unit {0}) → Wrote notes (filed_plan_text made) (Ok u) → Written out notes (PlannedByFile made) (Ok tt)
+module _ (out notes : Growth) (made : PlanFromStatsFile) (still : DidNotGrow out) where
+  pub plan_wrote : (u : Unit {0}) → Wrote notes (stats_file_plan_text made) (Ok u) → TextsWritten out notes (PlannedFromStats made) (Ok tt)
   plan_wrote u h = record { texts = (h.ok, still); later_out = omega (arith, still.1); later_notes = h.later }
 
-  pub plan_cut : (e : Failed) → Wrote notes (filed_plan_text made) (Err e) → Written out notes (PlannedByFile made) (Err sink.Notes)
+  pub plan_cut : (e : Failed) → Wrote notes (stats_file_plan_text made) (Err e) → TextsWritten out notes (PlannedFromStats made) (Err sink.Notes)
   plan_cut e h = record { texts = (h.failed, still, h.prefix); later_out = omega (arith, still.1); later_notes = h.later }
 
 -- ---- a failed write, and its line
 
-module _ (t0 t1 t2 : Option (List ℕ)) (f0 f1 f2 : ℕ) (line : List ℕ) (told : Told (between t1 t2 f1 f2) line) where
+module _ (t0 t1 t2 : Option (List ℕ)) (f0 f1 f2 : ℕ) (line : List ℕ) (told : StatusTold (between t1 t2 f1 f2) line) where
   cut_then_told : (text : Option (List ℕ)) → WasCut (between t0 t1 f0 f1) text → WasCutAndTold (between t0 t2 f0 f2) text line
   cut_then_told None cut = cut
   cut_then_told (Some text) cut = record { mid = t1; cut = cut; told = told.tells.prefix }
@@ -90,8 +90,8 @@ module _ (t0 t1 t2 : Option (List ℕ)) (f0 f1 f2 : ℕ) (line : List ℕ) (told
   told_after None still = still.0
   told_after (Some text) whole = whole
 
-pub ended_cut : (which : SinkId) (s : Status) (t0 t1 t2 o0 o1 : Option (List ℕ)) (f0 f1 f2 g0 g1 : ℕ) (outcome : Outcome) (line : List ℕ) → s ≡ status.WriteFault which
-    → Written (between o0 o1 g0 g1) (between t0 t1 f0 f1) outcome (Err which) → Told (between t1 t2 f1 f2) line → Ended s (between o0 o1 g0 g1) (between t0 t2 f0 f2) outcome line
+pub ended_cut : (which : SinkId) (s : Status) (t0 t1 t2 o0 o1 : Option (List ℕ)) (f0 f1 f2 g0 g1 : ℕ) (outcome : RunOutcome) (line : List ℕ) → s ≡ status.WriteFault which
+    → TextsWritten (between o0 o1 g0 g1) (between t0 t1 f0 f1) outcome (Err which) → StatusTold (between t1 t2 f1 f2) line → TextsEnded s (between o0 o1 g0 g1) (between t0 t2 f0 f2) outcome line
 ended_cut sink.Notes s t0 t1 t2 o0 o1 f0 f1 f2 g0 g1 outcome line is h told =
     CutInNotes is (rose_then_later f0 f1 f2 h.later_notes h.texts.0 told.later) h.texts.1 (cut_then_told t0 t1 t2 f0 f1 f2 line told (notes_text outcome) h.texts.2)
 ended_cut sink.Out s t0 t1 t2 o0 o1 f0 f1 f2 g0 g1 outcome line is h told =

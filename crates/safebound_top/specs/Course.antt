@@ -17,22 +17,22 @@ use Rattle.outcomes.specs.declared.status.Status.TheVariants as status
 use Rattle.safebound_top.specs.Call.{Call, GrewOrWasCut}
 use Rattle.safebound_top.specs.Faults.{fault_text}
 use Rattle.safebound_top.specs.Headline.{DidNotGrow, FaultsRose, GrewByLine, GrewWhole, WasCut, WasCutAndTold, grown}
-use Rattle.prepared_runs.specs.Outcome.{Outcome}
+use Rattle.prepared_runs.specs.RunOutcome.{RunOutcome}
 use Rattle.safebound_top.specs.OutcomeTexts.{notes_text, out_text}
 use Rattle.prepared_runs.specs.Verdict.{IsReached, command_stage, verdict}
 
 -- a status was told in the notes
-pub record Told (notes : Growth) (line : List ℕ) : Type 0 where
+pub record StatusTold (notes : Growth) (line : List ℕ) : Type 0 where
   pub tells : GrewByLine notes line
   pub later : notes.faults_before ≤ notes.faults_after
 
 -- its texts were handed to the sinks, the one for notes and then the one for out, where there are such; the first failure ends it
-abbrev pub AreWritten : Growth → Growth → Outcome → Result (Unit {0}) SinkId → Type 0
+abbrev pub AreWritten : Growth → Growth → RunOutcome → Result (Unit {0}) SinkId → Type 0
 AreWritten out notes outcome (Ok u) = GrewWhole notes (notes_text outcome) × GrewWhole out (out_text outcome)
 AreWritten out notes outcome (Err sink.Notes) = FaultsRose notes × DidNotGrow out × WasCut notes (notes_text outcome)
 AreWritten out notes outcome (Err sink.Out) = FaultsRose out × GrewWhole notes (notes_text outcome) × WasCut out (out_text outcome)
 
-pub record Written (out notes : Growth) (outcome : Outcome) (result : Result (Unit {0}) SinkId) : Type 0 where
+pub record TextsWritten (out notes : Growth) (outcome : RunOutcome) (result : Result (Unit {0}) SinkId) : Type 0 where
   pub texts : AreWritten out notes outcome result
   pub later_out : out.faults_before ≤ out.faults_after
   pub later_notes : notes.faults_before ≤ notes.faults_after
@@ -43,22 +43,22 @@ WroteIfAny out None result = DidNotGrow out × (result ≡ Ok tt)
 WroteIfAny out (Some text) result = Wrote out text result
 
 -- the same, and a failed write told in the notes
-pub data Ended (s : Status) (out notes : Growth) (outcome : Outcome) (line : List ℕ) : Type 0 where
-  Done : s ≡ status.Done → GrewWhole notes (notes_text outcome) → GrewWhole out (out_text outcome) → Ended s out notes outcome line
+pub data TextsEnded (s : Status) (out notes : Growth) (outcome : RunOutcome) (line : List ℕ) : Type 0 where
+  Done : s ≡ status.Done → GrewWhole notes (notes_text outcome) → GrewWhole out (out_text outcome) → TextsEnded s out notes outcome line
   CutInNotes : s ≡ status.WriteFault sink.Notes → FaultsRose notes → DidNotGrow out
-      → WasCutAndTold notes (notes_text outcome) line → Ended s out notes outcome line
+      → WasCutAndTold notes (notes_text outcome) line → TextsEnded s out notes outcome line
   CutInOut : s ≡ status.WriteFault sink.Out → FaultsRose out → WasCut out (out_text outcome)
       → GrewOrWasCut (grown notes.taken_before (notes_text outcome)) notes.taken_after notes.faults_before notes.faults_after line
-      → Ended s out notes outcome line
+      → TextsEnded s out notes outcome line
 
 -- a stage was read to its end and its texts were handed to the sinks, or its reading ended and that was told
-pub data Ran (s : Status) (store : Reading) (out notes : Growth) (stage : Files → Result Outcome Refusal) (ComesTo : Files → FileId
+pub data StageRan (s : Status) (store : Reading) (out notes : Growth) (stage : Files → Result RunOutcome Refusal) (ComesTo : Files → FileId
     → Type 0)
     (line : List ℕ) : Type 0 where
-  Stopped : (e : Ending) → s ≡ ended e → Reads store stage ComesTo (Err e) → DidNotGrow out → Told notes line
-      → Ran s store out notes stage ComesTo line
-  Went : (outcome : Outcome) → Reads store stage ComesTo (Ok outcome) → Ended s out notes outcome line
-      → Ran s store out notes stage ComesTo line
+  Stopped : (e : Ending) → s ≡ ended e → Reads store stage ComesTo (Err e) → DidNotGrow out → StatusTold notes line
+      → StageRan s store out notes stage ComesTo line
+  Went : (outcome : RunOutcome) → Reads store stage ComesTo (Ok outcome) → TextsEnded s out notes outcome line
+      → StageRan s store out notes stage ComesTo line
 
 -- the words are refused: no name was missed, and that was told
 pub record IsUnasked (call : Call) (line : List ℕ) : Type 0 where
@@ -66,12 +66,12 @@ pub record IsUnasked (call : Call) (line : List ℕ) : Type 0 where
   pub words : command_stage call.words ≡ Err refusal.Usage
   pub misses : call.store.misses_after ≡ call.store.misses_before
   pub out : DidNotGrow call.out
-  pub told : Told call.notes line
+  pub told : StatusTold call.notes line
 
 -- the words are a command, and it ran
 pub record IsAsked (call : Call) (line : List ℕ) : Type 0 where
   pub words : command_stage call.words ≡ Err refusal.Usage → ⊥
-  pub ran : Ran call.status call.store call.out call.notes (verdict call.words) (IsReached call.words) line
+  pub ran : StageRan call.status call.store call.out call.notes (verdict call.words) (IsReached call.words) line
 
 pub data How (call : Call) (line : List ℕ) : Type 0 where
   Unasked : IsUnasked call line → How call line

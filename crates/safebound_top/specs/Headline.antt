@@ -17,12 +17,12 @@ use Rattle.outcomes.specs.declared.status.Status.{Status}
 use Rattle.outcomes.specs.declared.status.Status.TheVariants as status
 use Rattle.safebound_top.specs.Call.{Call, CutThenTold, Grew, GrewOrWasCut}
 use Rattle.safebound_top.specs.Faults.{fault_text}
-use Rattle.prepared_runs.specs.Outcome.{KeepsItsLimit, NoBoundIsTooLow, Outcome, PrintsTheAnswer}
+use Rattle.prepared_runs.specs.RunOutcome.{KeepsItsLimit, NoBoundIsTooLow, RunOutcome, PrintsTheAnswer}
 use Rattle.safebound_top.specs.OutcomeTexts.{notes_text, out_text}
 use Rattle.prepared_runs.specs.Verdict.{IsReached, command_stage, verdict}
 
 -- for the files that the store tells, and the verdict of the words over them
-abbrev pub OverFiles : Call → (Files → Result Outcome Refusal → Type 0) → Type 0
+abbrev pub OverFiles : Call → (Files → Result RunOutcome Refusal → Type 0) → Type 0
 OverFiles call P = (files : Files) → call.store.files ≡ Some files → P files (verdict call.words files)
 
 -- it has the bytes that it had, where it tells them, and its count of faults is as before
@@ -111,7 +111,7 @@ pub record ReadFaultsHaveTheirCause (call : Call) : Type 0 where
   -- no name is invented: where the verdict misses no file, the store's count of misses is as before
   pub misses : OverFiles call (λ files v. MissesNothing v → call.store.misses_after ≡ call.store.misses_before)
 
-abbrev pub status_of : Result Outcome Refusal → Status
+abbrev pub status_of : Result RunOutcome Refusal → Status
 status_of (Ok outcome) = status.Done
 status_of (Err r) = status.Refused r
 

@@ -4,24 +4,24 @@ use Rattle.printed_texts.specs.Memory.{memory_text}
 use Rattle.printed_texts.specs.Plans.{plan_lines}
 use Rattle.reserve_plan.specs.Memory.{plan_bytes}
 use Rattle.stats_file.specs.FileText.{file_text}
-use Rattle.prepared_runs.specs.Outcome.{Appended, Filed, FiledPlan, Outcome, Planned, PlannedByFile}
+use Rattle.prepared_runs.specs.RunOutcome.{Appended, StatsMade, PlanFromStatsFile, RunOutcome, Planned, PlannedFromStats}
 use Rattle.safebound_top.specs.Texts.{out_text_of, plan_text}
 
 -- the plan text of a plan from a file, and behind it the line of its bytes, where there is a limit of memory
-abbrev pub filed_plan_text : FiledPlan → List ℕ
-filed_plan_text made =
+abbrev pub stats_file_plan_text : PlanFromStatsFile → List ℕ
+stats_file_plan_text made =
     plan_lines made.query.from made.plan ++ memory_text made.memory (plan_bytes made.plan.order made.plan.scans made.plan.levels)
 
 -- the text for notes, if there is one: the plan text
-abbrev pub notes_text : Outcome → Option (List ℕ)
+abbrev pub notes_text : RunOutcome → Option (List ℕ)
 notes_text (Planned run) = Some (plan_text run)
-notes_text (Filed filed) = None
-notes_text (PlannedByFile made) = Some (filed_plan_text made)
+notes_text (StatsMade made_stats) = None
+notes_text (PlannedFromStats made) = Some (stats_file_plan_text made)
 notes_text (Appended made) = None
 
 -- the text for out, if there is one
-abbrev pub out_text : Outcome → Option (List ℕ)
+abbrev pub out_text : RunOutcome → Option (List ℕ)
 out_text (Planned run) = out_text_of run
-out_text (Filed filed) = Some (file_text filed.schema filed.file)
-out_text (PlannedByFile made) = None
+out_text (StatsMade made_stats) = Some (file_text made_stats.schema made_stats.file)
+out_text (PlannedFromStats made) = None
 out_text (Appended made) = Some (file_text made.schema made.file)

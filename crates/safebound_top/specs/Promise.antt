@@ -65,7 +65,7 @@ use Rattle.safebound_words.specs.declared.command.Shape.TheVariants as shapes
 use Rattle.safebound_words.specs.declared.command.Work.TheVariants as works
 use Rattle.outcomes.specs.declared.status.Status.TheVariants as status
 use Rattle.safebound_top.specs.Call.{Call, Grew}
-use Rattle.prepared_runs.specs.Limits.{AreWithin}
+use Rattle.prepared_runs.specs.Limits.{IsWithinLimit}
 
 -- ---- what the files say
 
@@ -137,13 +137,13 @@ pub record HoldsOver (query : Query) (tables : Tables) (scans : List (List ℕ))
 pub record PrintsOrder (limit : Option ℕ) (query : Query) (tables : Tables) (scans : List (List ℕ)) (text : List ℕ) : Type 0 where
   pub plan : Plan
   pub holds : HoldsAlong query tables scans plan
-  pub within : AreWithin limit (plan_bytes plan.order plan.scans plan.levels)
+  pub within : IsWithinLimit limit (plan_bytes plan.order plan.scans plan.levels)
   pub prints : text ≡ plan_lines query.from plan ++ memory_text limit (plan_bytes plan.order plan.scans plan.levels)
 
 pub record PrintsTree (limit : Option ℕ) (query : Query) (tables : Tables) (scans : List (List ℕ)) (text : List ℕ) : Type 0 where
   pub plan : BushyPlan
   pub holds : HoldsOver query tables scans plan
-  pub within : AreWithin limit (tree_bytes plan)
+  pub within : IsWithinLimit limit (tree_bytes plan)
   pub prints : text ≡ tree_lines query.from plan ++ memory_text limit (tree_bytes plan)
 
 abbrev pub PrintsPlan : Shape → Option ℕ → Query → Tables → List (List ℕ) → List ℕ → Type 0

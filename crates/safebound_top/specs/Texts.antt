@@ -2,29 +2,29 @@
 use Rattle.std.specs.Prelude.{ℕ, List, ◌++◌, Option, None, Some}
 use Rattle.printed_texts.specs.Memory.{memory_text}
 use Rattle.printed_texts.specs.Texts.{rows_lines}
-use Rattle.prepared_runs.specs.Accepted.{Accepted, part_counts, printed}
+use Rattle.prepared_runs.specs.AcceptedQuery.{AcceptedQuery, part_counts, printed}
 use Rattle.prepared_runs.specs.Shapes.{shape_audits, shape_bytes, shape_lines}
 use Rattle.safebound_words.specs.declared.command.OutText.{OutText}
 use Rattle.safebound_words.specs.declared.command.OutText.TheVariants as out_text
 
 -- for notes: a line for each scan, and then one for each level of the plan's order, or inner node of its tree, with their bounds; behind them
 -- the line of the plan's bytes, where there is a limit of memory
-abbrev pub plan_text : Accepted → List ℕ
+abbrev pub plan_text : AcceptedQuery → List ℕ
 plan_text run = shape_lines run.query.from run.plan ++ memory_text run.memory (shape_bytes run.plan)
 
 -- the header, and then a record for each row that is printed
-abbrev pub rows_text : Accepted → List ℕ
+abbrev pub rows_text : AcceptedQuery → List ℕ
 rows_text run = rows_lines run.query.select (printed run)
 
 -- a line for each level of the plan's order, or inner node of its tree: its bound, and how many rows it has
-abbrev pub audit_text : Accepted → List ℕ
+abbrev pub audit_text : AcceptedQuery → List ℕ
 audit_text run = shape_audits run.query.from run.plan (part_counts run)
 
 -- the text for out, if there is one
-abbrev pub text_for : OutText → Accepted → Option (List ℕ)
+abbrev pub text_for : OutText → AcceptedQuery → Option (List ℕ)
 text_for out_text.Rows run = Some (rows_text run)
 text_for out_text.Audit run = Some (audit_text run)
 text_for out_text.Nothing run = None
 
-abbrev pub out_text_of : Accepted → Option (List ℕ)
+abbrev pub out_text_of : AcceptedQuery → Option (List ℕ)
 out_text_of run = text_for run.out run

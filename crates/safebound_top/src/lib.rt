@@ -13,7 +13,7 @@
 //!   (`KeepsItsBuffers` of prepared_runs). The call hands them out.
 //!
 //! The headline speaks of `verdict` (of prepared_runs): what the words and the files determine. Each step that reads has the clause `Reads`
-//! over its stage of the verdict, and `Ran` and `Course` (in `specs/Course.antt`) put the stages together.
+//! over its stage of the verdict, and `StageRan` and `Course` (in `specs/Course.antt`) put the stages together.
 #![tactic(auto)]
 
 mod report;

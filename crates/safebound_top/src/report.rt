@@ -2,7 +2,7 @@
 ghost use Rattle.std.specs.Prelude.{◌≡◌, ◌≢◌, option_copied};
 ghost use Rattle.base_io.specs.Devices.{growth};
 ghost use Rattle.base_io.specs.Writes.{Wrote};
-ghost use Rattle.safebound_top.specs.Course.{Told};
+ghost use Rattle.safebound_top.specs.Course.{StatusTold};
 ghost use Rattle.printed_texts.specs.Words.{named};
 ghost use Rattle.safebound_top.specs.Faults.{names_by as names_in, names_of as names_told, stats_file_of as stats_file_told, status_line};
 
@@ -17,8 +17,8 @@ fn stats_file_of<'a>(work: &'a Work<'a>) -> &'a str
     ensures { result.now ≡ stats_file_told work.now }
 {
     match work {
-        Work::PlanFrom { file, .. } => file.get(),
-        Work::Plan(_) | Work::File { .. } => "",
+        Work::PlanFromStats { file, .. } => file.get(),
+        Work::Plan(_) | Work::WriteStats { .. } => "",
     }
 }
 
@@ -83,7 +83,7 @@ pub fn report<N: Sink>(
     notes: &mut N,
 )
     requires { status ≢ Status.Done }
-    ensures { Told (growth N.taken N.faults notes.old notes.new) (status_line status (option_copied command.entry) (option_copied schema.entry)) }
+    ensures { StatusTold (growth N.taken N.faults notes.old notes.new) (status_line status (option_copied command.entry) (option_copied schema.entry)) }
 {
     match write_fault(status, command, schema, notes) {
         Ok(()) => {}

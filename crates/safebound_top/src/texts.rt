@@ -10,20 +10,22 @@ ghost use Rattle.joined_texts.specs.Printed.{printed_rows};
 ghost use Rattle.plans.specs.LeftDeep.{IsPlan};
 ghost use Rattle.stats_file.specs.FileText.{file_text};
 ghost use Rattle.stats_file.specs.Rules.{KeepsRules};
-ghost use Rattle.safebound_top.specs.Course.{Written, WroteIfAny};
+ghost use Rattle.safebound_top.specs.Course.{TextsWritten, WroteIfAny};
 ghost use Rattle.safebound_top.specs.Headline.{DidNotGrow};
 ghost use Rattle.prepared_runs.specs.Kept.{HasParts, IsJoined, IsKept, IsLeft, counts_in, plan_joined};
-ghost use Rattle.prepared_runs.specs.Outcome.{Outcome};
+ghost use Rattle.prepared_runs.specs.RunOutcome.{RunOutcome};
 ghost use Rattle.safebound_top.specs.OutcomeTexts.{notes_text, out_text};
-ghost use Rattle.prepared_runs.specs.Prepared.{HasRoom, IsPrepared, plan_in, plan_left, text_from};
-ghost use Rattle.prepared_runs.specs.Ready.{CanBeWritten, IsPlanned, outcome_of, plan_from, planned_from};
+ghost use Rattle.prepared_runs.specs.PreparedQuery.{HasRoom, IsPrepared, plan_in, plan_left, text_from};
+ghost use Rattle.prepared_runs.specs.PreparedRun.{CanBeWritten, IsPlanned, outcome_of, plan_from, planned_outcome};
 ghost use Rattle.prepared_runs.specs.Shapes.{IsShapedPlan, joined_entries, shape_audits, shape_lines};
 
 use base_io::{Failed, Sink};
 use csv_tables::Database;
 use joined_texts::{write_audit, write_rows, write_tree_audit, write_tree_rows};
 use outcomes::SinkId;
-use prepared_runs::{Joined, Prepared, PreparedPlan, Ready, Rest, Room, Shaped, join};
+use prepared_runs::{
+    AnyPlan, Joined, PendingOutput, PreparedQuery, PreparedRun, PreparedStatsFilePlan, Room, join,
+};
 use printed_texts::{write_memory, write_plan, write_tree};
 use query_types::{Query, Source};
 use schema_types::Schema;
@@ -63,7 +65,7 @@ fn write_sizes<O: Sink>(joined: &Joined, sources: &[Source], out: &mut O) -> Res
 
 // Does what is left to do. If that is a join, it hands out the buffers with the rows.
 fn write_rest<O: Sink>(
-    rest: Rest,
+    rest: PendingOutput,
     query: &Query,
     db: &Database,
     out: &mut O,
@@ -76,19 +78,19 @@ fn write_rest<O: Sink>(
     ensures kept { IsLeft query.now db.now rest kept.new }
 {
     match rest {
-        Rest::Rows(joins) => {
+        PendingOutput::Rows(joins) => {
             let joined = join(joins, query, db);
             let result = write_joined(&joined, query, db, out);
             *kept = Some(joined);
             result
         }
-        Rest::Audit(joins) => {
+        PendingOutput::Audit(joins) => {
             let joined = join(joins, query, db);
             let result = write_sizes(&joined, query.from.as_slice(), out);
             *kept = Some(joined);
             result
         }
-        Rest::Nothing(_) => Ok(()),
+        PendingOutput::Nothing(_) => Ok(()),
     }
 }
 
@@ -104,31 +106,35 @@ fn write_room<N: Sink>(room: &Room, sources: &[Source], notes: &mut N) -> Result
 }
 
 // Writes the plan text.
-fn write_shaped<N: Sink>(plan: &Shaped, sources: &[Source], notes: &mut N) -> Result<(), Failed>
+fn write_shaped<N: Sink>(plan: &AnyPlan, sources: &[Source], notes: &mut N) -> Result<(), Failed>
     requires { IsShapedPlan (length sources.now) plan.now }
     ensures { Wrote (growth N.taken N.faults notes.old notes.new) (shape_lines sources.now plan.now) result }
 {
     match plan {
-        Shaped::Along(plan) => write_plan(plan, sources, notes),
-        Shaped::Over(plan) => write_tree(plan, sources, notes),
+        AnyPlan::OrderPlan(plan) => write_plan(plan, sources, notes),
+        AnyPlan::TreePlan(plan) => write_tree(plan, sources, notes),
     }
 }
 
 // Writes the plan text of what is left to do.
-fn write_bounds<N: Sink>(rest: &Rest, sources: &[Source], notes: &mut N) -> Result<(), Failed>
+fn write_bounds<N: Sink>(
+    rest: &PendingOutput,
+    sources: &[Source],
+    notes: &mut N,
+) -> Result<(), Failed>
     requires { IsShapedPlan (length sources.now) (plan_left rest.now) }
     ensures { Wrote (growth N.taken N.faults notes.old notes.new) (shape_lines sources.now (plan_left rest.now)) result }
 {
     match rest {
-        Rest::Rows(joins) => write_room(&joins.room, sources, notes),
-        Rest::Audit(joins) => write_room(&joins.room, sources, notes),
-        Rest::Nothing(plan) => write_shaped(plan, sources, notes),
+        PendingOutput::Rows(joins) => write_room(&joins.room, sources, notes),
+        PendingOutput::Audit(joins) => write_room(&joins.room, sources, notes),
+        PendingOutput::Nothing(plan) => write_shaped(plan, sources, notes),
     }
 }
 
 // Writes the plan text of what is left to do. If memory is limited, it adds the line with the bytes of the plan.
 fn write_plan_text<N: Sink>(
-    rest: &Rest,
+    rest: &PendingOutput,
     memory: Option<u64>,
     bytes: u128,
     sources: &[Source],
@@ -144,18 +150,18 @@ fn write_plan_text<N: Sink>(
 
 // Writes the plan text to `notes`. Then it does what is left to do, writes its text to `out`, and hands out the buffers of the joins.
 fn write_texts<O: Sink, N: Sink>(
-    prepared: Prepared,
+    prepared: PreparedQuery,
     out: &mut O,
     notes: &mut N,
     kept: &mut Option<Joined>,
 ) -> Result<(), SinkId>
     requires ready { IsPrepared prepared }
     requires none { kept.old ≡ None }
-    ensures texts { Written (growth O.taken O.faults out.old out.new) (growth N.taken N.faults notes.old notes.new)
-        (planned_from prepared) result }
-    ensures kept { OnOk result (IsKept (planned_from prepared) kept.new) }
+    ensures texts { TextsWritten (growth O.taken O.faults out.old out.new) (growth N.taken N.faults notes.old notes.new)
+        (planned_outcome prepared) result }
+    ensures kept { OnOk result (IsKept (planned_outcome prepared) kept.new) }
 {
-    let Prepared {
+    let PreparedQuery {
         query,
         db,
         source: _,
@@ -176,8 +182,8 @@ fn write_texts<O: Sink, N: Sink>(
 // Writes the text of a statistics file to `out`, and nothing to `notes`.
 fn write_file<O: Sink>(file: &StatsFile, schema: &Schema, out: &mut O) -> Result<(), SinkId>
     requires { KeepsRules schema.now file.now }
-    ensures { (notes : Growth) (outcome : Outcome) → DidNotGrow notes → notes_text outcome ≡ None
-        → out_text outcome ≡ Some (file_text schema.now file.now) → Written (growth O.taken O.faults out.old out.new) notes outcome result }
+    ensures { (notes : Growth) (outcome : RunOutcome) → DidNotGrow notes → notes_text outcome ≡ None
+        → out_text outcome ≡ Some (file_text schema.now file.now) → TextsWritten (growth O.taken O.faults out.old out.new) notes outcome result }
 {
     match write_stats(file, schema, out) {
         Ok(()) => Ok(()),
@@ -186,7 +192,7 @@ fn write_file<O: Sink>(file: &StatsFile, schema: &Schema, out: &mut O) -> Result
 }
 
 // Writes the plan text of a plan from a statistics file. If memory is limited, it adds the line with the bytes of the plan.
-fn write_filed_text<N: Sink>(made: &PreparedPlan, notes: &mut N) -> Result<(), Failed>
+fn write_stats_file_text<N: Sink>(made: &PreparedStatsFilePlan, notes: &mut N) -> Result<(), Failed>
     requires { IsPlan (length made.now.query.from) made.now.plan }
     ensures { Wrote (growth N.taken N.faults notes.old notes.new)
         (plan_lines made.now.query.from made.now.plan ++ memory_text made.now.memory made.now.bytes) result }
@@ -196,11 +202,11 @@ fn write_filed_text<N: Sink>(made: &PreparedPlan, notes: &mut N) -> Result<(), F
 }
 
 // Writes the plan text of a plan from a statistics file to `notes`, and nothing to `out`.
-fn write_filed_plan<N: Sink>(made: PreparedPlan, notes: &mut N) -> Result<(), SinkId>
+fn write_stats_file_plan<N: Sink>(made: PreparedStatsFilePlan, notes: &mut N) -> Result<(), SinkId>
     requires { IsPlanned made }
-    ensures { (out : Growth) → DidNotGrow out → Written out (growth N.taken N.faults notes.old notes.new) (plan_from made) result }
+    ensures { (out : Growth) → DidNotGrow out → TextsWritten out (growth N.taken N.faults notes.old notes.new) (plan_from made) result }
 {
-    match write_filed_text(&made, notes) {
+    match write_stats_file_text(&made, notes) {
         Ok(()) => Ok(()),
         Err(Failed) => Err(SinkId::Notes),
     }
@@ -209,7 +215,7 @@ fn write_filed_plan<N: Sink>(made: PreparedPlan, notes: &mut N) -> Result<(), Si
 /// Writes the texts of a run: first the one for `notes`, if the run has one, and then the one for `out`, if the run has one. If the run
 /// joins, it hands out the buffers with the rows of the joins.
 pub fn write_outcome<O: Sink, N: Sink>(
-    ready: Ready,
+    ready: PreparedRun,
     schema: &Schema,
     out: &mut O,
     notes: &mut N,
@@ -217,14 +223,14 @@ pub fn write_outcome<O: Sink, N: Sink>(
 ) -> Result<(), SinkId>
     requires ready { CanBeWritten schema.now ready }
     requires none { kept.old ≡ None }
-    ensures texts { Written (growth O.taken O.faults out.old out.new) (growth N.taken N.faults notes.old notes.new)
+    ensures texts { TextsWritten (growth O.taken O.faults out.old out.new) (growth N.taken N.faults notes.old notes.new)
         (outcome_of schema.now ready) result }
     ensures kept { OnOk result (IsKept (outcome_of schema.now ready) kept.new) }
 {
     match ready {
-        Ready::Planned(prepared) => write_texts(prepared, out, notes, kept),
-        Ready::Filed(filed) => write_file(&filed.file, schema, out),
-        Ready::PlannedByFile(made) => write_filed_plan(made, notes),
-        Ready::Appended(made) => write_file(&made.file, schema, out),
+        PreparedRun::Planned(prepared) => write_texts(prepared, out, notes, kept),
+        PreparedRun::StatsMade(made_stats) => write_file(&made_stats.file, schema, out),
+        PreparedRun::PlannedFromStats(made) => write_stats_file_plan(made, notes),
+        PreparedRun::Appended(made) => write_file(&made.file, schema, out),
     }
 }

@@ -5,12 +5,12 @@ ghost use Rattle.outcomes.specs.Statuses.{ended};
 ghost use Rattle.schema_types.specs.Validity.{IsValid};
 ghost use Rattle.stats_reading.specs.Names.{HasByteColumns};
 ghost use Rattle.safebound_words.specs.InRange.{HasRanges};
-ghost use Rattle.safebound_top.specs.Course.{Course, Ended, Ran, Told};
+ghost use Rattle.safebound_top.specs.Course.{Course, TextsEnded, StageRan, StatusTold};
 ghost use Rattle.safebound_top.specs.Faults.{status_line};
 ghost use Rattle.safebound_top.specs.Headline.{Headline};
 ghost use Rattle.prepared_runs.specs.Kept.{IsKept, KeepsItsBuffers};
 ghost use Rattle.safebound_top.specs.Promise.{Promise};
-ghost use Rattle.prepared_runs.specs.Ready.{CanBeWritten, outcome_of};
+ghost use Rattle.prepared_runs.specs.PreparedRun.{CanBeWritten, outcome_of};
 ghost use Rattle.prepared_runs.specs.Shops.{shop_of, shop_store, store_read};
 ghost use Rattle.prepared_runs.specs.Verdict.{IsAimFile, aim_run, command_run, command_stage, verdict};
 
@@ -18,7 +18,7 @@ use crate::report::report;
 use crate::texts::write_outcome;
 use base_io::{NoMemory, Sink, Store};
 use outcomes::{Ending, Refusal, Status};
-use prepared_runs::{Joined, Ready, load_schema, open_shop, prepare_run};
+use prepared_runs::{Joined, PreparedRun, load_schema, open_shop, prepare_run};
 use safebound_words::{Command, read_words};
 use schema_types::Schema;
 use std::alloc::Global;
@@ -31,7 +31,7 @@ fn stopped<N: Sink>(
     notes: &mut N,
 ) -> Status
     ensures status { result ≡ ended ending }
-    ensures told { Told (growth N.taken N.faults notes.old notes.new)
+    ensures told { StatusTold (growth N.taken N.faults notes.old notes.new)
         (status_line result (Some command.now) (option_copied schema.entry)) }
 {
     let status = Status::from(ending);
@@ -41,7 +41,7 @@ fn stopped<N: Sink>(
 
 // Writes the texts of the run, and hands out the buffers of its joins. If a write fails, it tells which stream couldn't be written.
 fn written<O: Sink, N: Sink>(
-    ready: Ready,
+    ready: PreparedRun,
     command: &Command,
     schema: &Schema,
     out: &mut O,
@@ -50,7 +50,7 @@ fn written<O: Sink, N: Sink>(
 ) -> Status
     requires ready { CanBeWritten schema.now ready }
     requires none { kept.old ≡ None }
-    ensures ended { Ended result (growth O.taken O.faults out.old out.new) (growth N.taken N.faults notes.old notes.new) (outcome_of schema.now ready)
+    ensures ended { TextsEnded result (growth O.taken O.faults out.old out.new) (growth N.taken N.faults notes.old notes.new) (outcome_of schema.now ready)
         (status_line result (Some command.now) (Some schema.now)) }
     ensures kept { result ≡ Status.Done → IsKept (outcome_of schema.now ready) kept.new }
 {
@@ -78,7 +78,7 @@ fn run_over<S: Store, O: Sink, N: Sink>(
     requires bytes { HasByteColumns schema.now }
     requires ranges { HasRanges command.now.aim }
     requires none { kept.old ≡ None }
-    ensures ran { Ran result (reading S.files S.faults S.misses store.old store.new) (growth O.taken O.faults out.old out.new)
+    ensures ran { StageRan result (reading S.files S.faults S.misses store.old store.new) (growth O.taken O.faults out.old out.new)
         (growth N.taken N.faults notes.old notes.new) (aim_run command.now.aim schema.now)
         (IsAimFile command.now.aim schema.now)
         (status_line result (Some command.now) (Some schema.now)) }
@@ -175,7 +175,7 @@ fn run_command<S: Store, O: Sink, N: Sink>(
 /// Tells that words are no command.
 pub fn refuse_words<N: Sink>(notes: &mut N) -> Status
     ensures status { result ≡ Status.Refused Refusal.Usage }
-    ensures told { Told (growth N.taken N.faults notes.old notes.new) (status_line result None None) }
+    ensures told { StatusTold (growth N.taken N.faults notes.old notes.new) (status_line result None None) }
 {
     let status = Status::Refused(Refusal::Usage);
     report(status, None, None, notes);

@@ -4,11 +4,11 @@ use Rattle.std.specs.Prelude.{nat_le, not, if◌then◌else◌, option_map}
 use Rattle.std.proofs.lemmas.Bool.{cases_Bool}
 use Rattle.std.proofs.lemmas.Bool.Decides.{nat_tests}
 use Rattle.safebound_words.specs.Answer.{command_of, reading_of}
-use Rattle.safebound_words.specs.CommandLines.{Reading, requested}
-use Rattle.safebound_words.specs.Commands.{demo_of, most_budget_of, over_query, plan_over, shape_by, source_by, with_rows}
+use Rattle.safebound_words.specs.CommandLines.{CommandReading, requested}
+use Rattle.safebound_words.specs.Commands.{demo_of, most_budget_of, over_query, plan_work, shape_by, source_by, with_rows}
 use Rattle.safebound_words.specs.InRange.{HasRanges}
 use Rattle.safebound_words.specs.Numbers.{is_number, number_of, number_within}
-use Rattle.safebound_words.specs.Table.{Given, command_row, count_alone, file_of, from_file, is_set, limit_of, of_append, of_number, of_stats, over_files, over_two, planned_from, stands_alone, value_of, ◌>>=◌}
+use Rattle.safebound_words.specs.Table.{Given, command_row, count_alone, option_file, from_file, is_set, limit_of, of_append, of_number, of_stats, over_files, over_two, plan_from_stats_or_tables, stands_alone, value_of, ◌>>=◌}
 use Rattle.safebound_words.specs.Words.{Word}
 use Rattle.safebound_words.specs.declared.command.Command.{Command}
 use Rattle.safebound_words.specs.declared.command.OutText.{OutText}
@@ -85,7 +85,7 @@ abbrev asked_together : OutText → Option ℕ → ℕ → ℕ → Bool → Bool
 asked_together out memory b a s t k c alone schema query =
     if k && (s || t) then None
     else if c && not (alone s k) then None
-    else if nat_le b (most_budget_of (shape_by t)) then Some (over_query None schema query (plan_over out b a (source_by s k c) t memory)) else None
+    else if nat_le b (most_budget_of (shape_by t)) then Some (over_query None schema query (plan_work out b a (source_by s k c) t memory)) else None
 
 values_in : (out : OutText) (memory budget accuracy : Option ℕ) (reduce bushy keys count : Option Bool) (by_itself : Bool → Bool → Bool) (schema query : Word) (r : Command)
     → ((n : ℕ) → accuracy ≡ Some n → (1 ≤ n) × (n ≤ 64))
@@ -97,7 +97,7 @@ values_in out memory (Some b) (Some a) (Some s) None keys count by_itself schema
 values_in out memory (Some b) (Some a) (Some s) (Some t) None count by_itself schema query r close is = absurd (cc)
 values_in out memory (Some b) (Some a) (Some s) (Some t) (Some k) None by_itself schema query r close is = absurd (cc)
 values_in out memory (Some b) (Some a) (Some s) (Some t) (Some k) (Some c) by_itself schema query r close is =
-    let work : Command = over_query None schema query (plan_over out b a (source_by s k c) t memory) in
+    let work : Command = over_query None schema query (plan_work out b a (source_by s k c) t memory) in
     let asks : Option Command = if nat_le b (most_budget_of (shape_by t)) then Some work else None in
     let alone = alone_asks (c && not (by_itself s k)) asks r (alone_asks (k && (s || t)) (if c && not (by_itself s k) then None else asks) r is) in
     let made = request_if (nat_le b (most_budget_of (shape_by t))) work r alone in
@@ -123,10 +123,10 @@ files_in out places given r is =
 
 -- from a statistics file
 filed_in : (budget memory : Option ℕ) (alone : Bool) (schema query file : Word) (r : Command) → ((n : ℕ) → budget ≡ Some n → n ≤ 20000000)
-    → (budget >>= λ b. if alone then Some (over_query None schema query (works.PlanFrom file b memory)) else None) ≡ Some r → IsAsked r
+    → (budget >>= λ b. if alone then Some (over_query None schema query (works.PlanFromStats file b memory)) else None) ≡ Some r → IsAsked r
 filed_in None memory alone schema query file r few is = absurd (cc)
 filed_in (Some b) memory alone schema query file r few is =
-    let made = request_if alone (over_query None schema query (works.PlanFrom file b memory)) r is in subst IsAsked made.1 (of_store (over_query None schema query (works.PlanFrom file b memory)) refl (few b refl))
+    let made = request_if alone (over_query None schema query (works.PlanFromStats file b memory)) r is in subst IsAsked made.1 (of_store (over_query None schema query (works.PlanFromStats file b memory)) refl (few b refl))
 
 file_in : (file : Word) (memory : Option ℕ) (places : List Word) (given : Given) (r : Command) → from_file file memory places given ≡ Some r → IsAsked r
 file_in file memory [] given r is = absurd (cc)
@@ -135,21 +135,21 @@ file_in file memory (schema ∷ query ∷ []) given r is =
     filed_in (value_of option.Budget (given.values option.Budget)) memory (stands_alone given) schema query file r (budget_in (given.values option.Budget)) is
 file_in file memory (schema ∷ query ∷ more ∷ places) given r is = absurd (cc)
 
-planned_in : (file : Option Word) (places : List Word) (given : Given) (r : Command) → planned_from file places given ≡ Some r → IsAsked r
+planned_in : (file : Option Word) (places : List Word) (given : Given) (r : Command) → plan_from_stats_or_tables file places given ≡ Some r → IsAsked r
 planned_in None places given r is = files_in out_text.Nothing places given r is
 planned_in (Some file) places given r is =
     by_value (value_of option.Memory (given.values option.Memory)) (λ bytes. from_file file (limit_of bytes) places given) r
     (λ bytes h. file_in file (limit_of bytes) places given r h) is
 
-plan_in : (file : Option (Option Word)) (places : List Word) (given : Given) (r : Command) → (file >>= λ f. planned_from f places given) ≡ Some r → IsAsked r
+plan_in : (file : Option (Option Word)) (places : List Word) (given : Given) (r : Command) → (file >>= λ f. plan_from_stats_or_tables f places given) ≡ Some r → IsAsked r
 plan_in None places given r is = absurd (cc)
 plan_in (Some file) places given r is = planned_in file places given r is
 
 -- the statistics of a query
 accuracy_has : (accuracy : Option ℕ) (schema query : Word) (r : Command) → ((n : ℕ) → accuracy ≡ Some n → (1 ≤ n) × (n ≤ 64))
-    → option_map (λ a. over_query None schema query (works.File a)) accuracy ≡ Some r → IsAsked r
+    → option_map (λ a. over_query None schema query (works.WriteStats a)) accuracy ≡ Some r → IsAsked r
 accuracy_has None schema query r close is = absurd (cc)
-accuracy_has (Some a) schema query r close is = let same : over_query None schema query (works.File a) ≡ r = cc in subst IsAsked same (of_store (over_query None schema query (works.File a)) refl (omega (arith, (close a refl).0), (close a refl).1))
+accuracy_has (Some a) schema query r close is = let same : over_query None schema query (works.WriteStats a) ≡ r = cc in subst IsAsked same (of_store (over_query None schema query (works.WriteStats a)) refl (omega (arith, (close a refl).0), (close a refl).1))
 
 stats_in : (places : List Word) (given : Given) (r : Command) → of_stats places given ≡ Some r → IsAsked r
 stats_in [] given r is = absurd (cc)
@@ -185,7 +185,7 @@ demo_in (number ∷ more ∷ places) given r is = absurd (cc)
 
 asks_in : (name : CommandName) (places : List Word) (given : Given) (r : Command) → (command_row name).asks places given ≡ Some r → IsAsked r
 asks_in command.Run places given r is = files_in out_text.Rows places given r is
-asks_in command.Plan places given r is = plan_in (file_of (given.values option.Stats)) places given r is
+asks_in command.Plan places given r is = plan_in (option_file (given.values option.Stats)) places given r is
 asks_in command.Audit places given r is = files_in out_text.Audit places given r is
 asks_in command.Stats places given r is = stats_in places given r is
 asks_in command.Append places given r is = append_in places given r is
@@ -193,7 +193,7 @@ asks_in command.Demo places given r is = demo_in places given r is
 
 -- ---- the words
 
-read_in : (reading : Option Reading) (r : Command) → (reading >>= requested) ≡ Some r → IsAsked r
+read_in : (reading : Option CommandReading) (r : Command) → (reading >>= requested) ≡ Some r → IsAsked r
 read_in None r is = absurd (cc)
 read_in (Some reading) r is = asks_in reading.command _ _ r is
 

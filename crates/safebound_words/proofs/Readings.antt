@@ -3,7 +3,7 @@ use Rattle.std.proofs.Common.{◌≡◌, List, [], ◌∷◌, ◌++◌, Option, 
 use Rattle.std.specs.Bool.{IsTrue}
 use Rattle.std.specs.List.{AllByRecursion, flat_map}
 use Rattle.safebound_words.specs.Answer.{Kind, Ends, IsPlace, Sets, Wants, Gives, Unknown, Parts, command_named, command_of, in_front, kind_of, parts_from, read_by, reading_of}
-use Rattle.safebound_words.specs.CommandLines.{Alone, AskFor, Beside, IsEnd, IsItemOf, Item, Joined, Place, Reading, Reads, has_option, requested, spelling}
+use Rattle.safebound_words.specs.CommandLines.{Alone, AskFor, Beside, IsEnd, IsItemOf, Item, Joined, Place, CommandReading, AreReadAs, has_option, requested, spelling}
 use Rattle.safebound_words.specs.declared.command.Command.{Command}
 use Rattle.safebound_words.specs.Table.{command_row, option_row, ◌>>=◌}
 use Rattle.safebound_words.specs.Words.{Word}
@@ -29,7 +29,7 @@ spelled_read name (Beside o value ∷ items) rest behind all end =
 spelled_read name (Joined o value ∷ items) rest behind all end =
     rw (kind-gives name o value all.0, spelled_read name items rest behind all.1 end) refl
 
-pub reads_computed : (words : List Word) (reading : Reading) → Reads words reading → reading_of words ≡ Some reading
+pub reads_computed : (words : List Word) (reading : CommandReading) → AreReadAs words reading → reading_of words ≡ Some reading
 unfolding reading_of
 reads_computed words reading is =
     rw (is.spelled, names_itself reading.command, spelled_read reading.command reading.items is.rest reading.behind is.items is.end) refl
@@ -128,7 +128,7 @@ pub bind_so : {A B : Type 0} (from : Option A) (rest : A → Option B) (b : B) �
 bind_so None rest b e = cc
 bind_so (Some a) rest b e = (a, refl, e)
 
-pub computed_reads : (words : List Word) (reading : Reading) → reading_of words ≡ Some reading → Reads words reading
+pub computed_reads : (words : List Word) (reading : CommandReading) → reading_of words ≡ Some reading → AreReadAs words reading
 unfolding reading_of
 computed_reads [] reading e = cc
 computed_reads (first ∷ words) reading e =
@@ -144,7 +144,7 @@ computed_reads (first ∷ words) reading e =
       items = is.items;
     }
 
-pub one_reading : (words : List Word) (one other : Reading) → Reads words one → Reads words other → one ≡ other
+pub one_reading : (words : List Word) (one other : CommandReading) → AreReadAs words one → AreReadAs words other → one ≡ other
 one_reading words one other is same =
     let first = reads_computed words one is in
     let second = reads_computed words other same in cc

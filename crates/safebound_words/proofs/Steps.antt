@@ -11,8 +11,8 @@ use Rattle.std.specs.Result.{OnErr}
 use Rattle.safebound_words.specs.Answer.{Kind, Ends, IsPlace, Sets, Wants, Gives, Unknown, Parts, in_front, kind_of, parts_from, read_by}
 use Rattle.safebound_words.specs.Collected.{asked_by, asked_from, asked_with, collected, given_of, given_to, given_with, times_of, words_of}
 use Rattle.safebound_words.specs.CommandLines.{Alone, Beside, Item, Joined, Place, given_by, given_in, has_flag, has_option, place_words, same_flag, same_option, set_by}
-use Rattle.safebound_words.specs.Commands.{most_budget_of, over_query, plan_over, shape_by, source_by}
-use Rattle.safebound_words.specs.Table.{Given, command_row, count_alone, file_of, flag_word, from_file, is_set, limit_of, of_append, of_number, of_stats, option_row, over_files, over_two, planned_from, stands_alone, value_of, with_limit, ◌>>=◌}
+use Rattle.safebound_words.specs.Commands.{most_budget_of, over_query, plan_work, shape_by, source_by}
+use Rattle.safebound_words.specs.Table.{Given, command_row, count_alone, option_file, flag_word, from_file, is_set, limit_of, of_append, of_number, of_stats, option_row, over_files, over_two, plan_from_stats_or_tables, stands_alone, value_of, with_limit, ◌>>=◌}
 use Rattle.safebound_words.specs.Words.{Word}
 use Rattle.safebound_words.specs.declared.command.Command.{Command}
 use Rattle.safebound_words.specs.declared.command.OutText.{OutText}
@@ -157,7 +157,7 @@ file_of_two file limit (a ∷ []) given many = absurd (omega arith)
 file_of_two file limit (a ∷ b ∷ []) given many = absurd (omega arith)
 file_of_two file limit (a ∷ b ∷ d ∷ rest) given many = refl
 
-plan_of_two : (file : Option Word) (places : List Word) (given : Given) → 4 < length places → planned_from file places given ≡ None
+plan_of_two : (file : Option Word) (places : List Word) (given : Given) → 4 < length places → plan_from_stats_or_tables file places given ≡ None
 plan_of_two None places given many = files_of_two out_text.Nothing places given many
 plan_of_two (Some file) places given many = whatever_limit (from_file file) places given (λ limit. file_of_two file limit places given many)
 
@@ -177,7 +177,7 @@ append_of_four (a ∷ b ∷ d ∷ e ∷ f ∷ rest) given many = refl
 
 too_many : (name : CommandName) (places : List Word) (given : Given) → 4 < length places → (command_row name).asks places given ≡ None
 too_many command.Run = files_of_two out_text.Rows
-too_many command.Plan = λ places given many. none_behind (file_of (given.values option.Stats)) (λ file. planned_from file places given) (λ file. plan_of_two file places given many)
+too_many command.Plan = λ places given many. none_behind (option_file (given.values option.Stats)) (λ file. plan_from_stats_or_tables file places given) (λ file. plan_of_two file places given many)
 too_many command.Audit = files_of_two out_text.Audit
 too_many command.Stats = stats_of_two
 too_many command.Append = append_of_four
@@ -229,7 +229,7 @@ module _ (out : OutText) (limit : Option ℕ) (a b : Word) (given : Given) where
   abbrev by_count : ℕ → ℕ → Bool → Bool → Bool → Bool → Option Command
   by_count budget accuracy reduce bushy keys count = if keys && (reduce || bushy) then None
       else if count && not (count_alone given reduce keys) then None
-      else if nat_le budget (most_budget_of (shape_by bushy)) then Some (over_query None a b (plan_over out budget accuracy (source_by reduce keys count) bushy limit)) else None
+      else if nat_le budget (most_budget_of (shape_by bushy)) then Some (over_query None a b (plan_work out budget accuracy (source_by reduce keys count) bushy limit)) else None
 
   abbrev by_keys : ℕ → ℕ → Bool → Bool → Bool → Option Command
   by_keys budget accuracy reduce bushy keys = is_set (given.times flag.Count) >>= λ count. by_count budget accuracy reduce bushy keys count
@@ -312,7 +312,7 @@ words_twice words b many = let some : (length words == 0) ≡ false = ne_eqb (le
 not_alone : (file : Word) (limit : Option ℕ) (schema query : Word) (given : Given) → stands_alone given ≡ false → from_file file limit (schema ∷ query ∷ []) given ≡ None
 not_alone file limit schema query given beside =
     none_behind (value_of option.Budget (given.values option.Budget))
-    (λ budget. if stands_alone given then Some (over_query None schema query (works.PlanFrom file budget limit)) else None) (λ budget. rw beside refl)
+    (λ budget. if stands_alone given then Some (over_query None schema query (works.PlanFromStats file budget limit)) else None) (λ budget. rw beside refl)
 
 file_without_flag : (file : Word) (limit : Option ℕ) (places : List Word) (given : Given) (f : FlagName) → 1 < given.times f → from_file file limit places given ≡ None
 file_without_flag file limit [] given f many = refl
@@ -320,7 +320,7 @@ file_without_flag file limit (a ∷ []) given f many = refl
 file_without_flag file limit (a ∷ b ∷ []) given f many = not_alone file limit a b given (times_twice given f many)
 file_without_flag file limit (a ∷ b ∷ d ∷ rest) given f many = refl
 
-plan_without_flag : (file : Option Word) (places : List Word) (given : Given) (f : FlagName) → 1 < given.times f → planned_from file places given ≡ None
+plan_without_flag : (file : Option Word) (places : List Word) (given : Given) (f : FlagName) → 1 < given.times f → plan_from_stats_or_tables file places given ≡ None
 plan_without_flag None places given f many = no_file_flag out_text.Nothing places given f many
 plan_without_flag (Some file) places given f many = whatever_limit (from_file file) places given (λ limit. file_without_flag file limit places given f many)
 
@@ -328,11 +328,11 @@ file_without_budget : (file : Word) (limit : Option ℕ) (places : List Word) (g
 file_without_budget file limit [] given many = refl
 file_without_budget file limit (a ∷ []) given many = refl
 file_without_budget file limit (a ∷ b ∷ []) given many =
-    none_first (value_of option.Budget (given.values option.Budget)) (λ budget. if stands_alone given then Some (over_query None a b (works.PlanFrom file budget limit)) else None)
+    none_first (value_of option.Budget (given.values option.Budget)) (λ budget. if stands_alone given then Some (over_query None a b (works.PlanFromStats file budget limit)) else None)
     (too_often option.Budget (given.values option.Budget) many)
 file_without_budget file limit (a ∷ b ∷ d ∷ rest) given many = refl
 
-plan_without_budget : (file : Option Word) (places : List Word) (given : Given) → 1 < length (given.values option.Budget) → planned_from file places given ≡ None
+plan_without_budget : (file : Option Word) (places : List Word) (given : Given) → 1 < length (given.values option.Budget) → plan_from_stats_or_tables file places given ≡ None
 plan_without_budget None places given many = no_file_value out_text.Nothing places given option.Budget tt many
 plan_without_budget (Some file) places given many = whatever_limit (from_file file) places given (λ limit. file_without_budget file limit places given many)
 
@@ -343,15 +343,15 @@ file_without_accuracy file limit (a ∷ b ∷ []) given many =
     not_alone file limit a b given (words_twice (given.values option.Accuracy) (given.times flag.Reduce == 0 && (given.times flag.Bushy == 0 && (given.times flag.Keys == 0 && given.times flag.Count == 0))) many)
 file_without_accuracy file limit (a ∷ b ∷ d ∷ rest) given many = refl
 
-plan_without_accuracy : (file : Option Word) (places : List Word) (given : Given) → 1 < length (given.values option.Accuracy) → planned_from file places given ≡ None
+plan_without_accuracy : (file : Option Word) (places : List Word) (given : Given) → 1 < length (given.values option.Accuracy) → plan_from_stats_or_tables file places given ≡ None
 plan_without_accuracy None places given many = no_file_value out_text.Nothing places given option.Accuracy tt many
 plan_without_accuracy (Some file) places given many = whatever_limit (from_file file) places given (λ limit. file_without_accuracy file limit places given many)
 
-plan_without_limit : (file : Option Word) (places : List Word) (given : Given) → 1 < length (given.values option.Memory) → planned_from file places given ≡ None
+plan_without_limit : (file : Option Word) (places : List Word) (given : Given) → 1 < length (given.values option.Memory) → plan_from_stats_or_tables file places given ≡ None
 plan_without_limit None places given many = no_file_limit out_text.Nothing places given many
 plan_without_limit (Some file) places given many = no_limit (from_file file) places given many
 
-no_file : (words : List Word) → 1 < length words → file_of words ≡ None
+no_file : (words : List Word) → 1 < length words → option_file words ≡ None
 no_file [] many = absurd (omega arith)
 no_file (a ∷ []) many = absurd (omega arith)
 no_file (a ∷ b ∷ rest) many = refl
@@ -359,14 +359,14 @@ no_file (a ∷ b ∷ rest) many = refl
 no_accuracy : (places : List Word) (given : Given) → 1 < length (given.values option.Accuracy) → of_stats places given ≡ None
 no_accuracy [] given many = refl
 no_accuracy (a ∷ []) given many = refl
-no_accuracy (a ∷ b ∷ []) given many = ap (option_map (λ accuracy. over_query None a b (works.File accuracy))) (too_often option.Accuracy (given.values option.Accuracy) many)
+no_accuracy (a ∷ b ∷ []) given many = ap (option_map (λ accuracy. over_query None a b (works.WriteStats accuracy))) (too_often option.Accuracy (given.values option.Accuracy) many)
 no_accuracy (a ∷ b ∷ d ∷ rest) given many = refl
 
 flag_refused : (name : CommandName) (f : FlagName) (places : List Word) (given : Given) → IsTrue (has_flag name f) → 1 < given.times f
     → (command_row name).asks places given ≡ None
 flag_refused command.Run f places given has many = no_file_flag out_text.Rows places given f many
 flag_refused command.Plan f places given has many =
-    none_behind (file_of (given.values option.Stats)) (λ file. planned_from file places given) (λ file. plan_without_flag file places given f many)
+    none_behind (option_file (given.values option.Stats)) (λ file. plan_from_stats_or_tables file places given) (λ file. plan_without_flag file places given f many)
 flag_refused command.Audit f places given has many = no_file_flag out_text.Audit places given f many
 flag_refused command.Stats f places given has many = absurd (false≢true has)
 flag_refused command.Append f places given has many = absurd (false≢true has)
@@ -379,12 +379,12 @@ refused command.Run option.Accuracy places given has many = no_file_value out_te
 refused command.Run option.Memory places given has many = no_file_limit out_text.Rows places given many
 refused command.Run option.Stats places given has many = absurd (false≢true has)
 refused command.Plan option.Budget places given has many =
-    none_behind (file_of (given.values option.Stats)) (λ file. planned_from file places given) (λ file. plan_without_budget file places given many)
+    none_behind (option_file (given.values option.Stats)) (λ file. plan_from_stats_or_tables file places given) (λ file. plan_without_budget file places given many)
 refused command.Plan option.Accuracy places given has many =
-    none_behind (file_of (given.values option.Stats)) (λ file. planned_from file places given) (λ file. plan_without_accuracy file places given many)
+    none_behind (option_file (given.values option.Stats)) (λ file. plan_from_stats_or_tables file places given) (λ file. plan_without_accuracy file places given many)
 refused command.Plan option.Memory places given has many =
-    none_behind (file_of (given.values option.Stats)) (λ file. planned_from file places given) (λ file. plan_without_limit file places given many)
-refused command.Plan option.Stats places given has many = none_first (file_of (given.values option.Stats)) (λ file. planned_from file places given) (no_file (given.values option.Stats) many)
+    none_behind (option_file (given.values option.Stats)) (λ file. plan_from_stats_or_tables file places given) (λ file. plan_without_limit file places given many)
+refused command.Plan option.Stats places given has many = none_first (option_file (given.values option.Stats)) (λ file. plan_from_stats_or_tables file places given) (no_file (given.values option.Stats) many)
 refused command.Audit option.Budget places given has many = no_file_value out_text.Audit places given option.Budget tt many
 refused command.Audit option.Accuracy places given has many = no_file_value out_text.Audit places given option.Accuracy tt many
 refused command.Audit option.Memory places given has many = no_file_limit out_text.Audit places given many

@@ -9,7 +9,7 @@ use Rattle.std.proofs.lemmas.Slice.Eq.{bytes_eq-Decides}
 use Rattle.safebound_words.specs.Answer.{command_of}
 use Rattle.safebound_words.specs.CommandLines.{Alone, Beside, IsEnd, IsItemOf, Item, Joined, Place, given_by, given_in, place_words, same_flag, same_option, set_by, spelling}
 use Rattle.safebound_words.specs.Commands.{over_query}
-use Rattle.safebound_words.specs.Table.{Given, command_row, file_of, flag_word, from_file, is_set, limit_of, of_append, of_number, of_stats, option_row, over_files, over_two, planned_from, value_of}
+use Rattle.safebound_words.specs.Table.{Given, command_row, option_file, flag_word, from_file, is_set, limit_of, of_append, of_number, of_stats, option_row, over_files, over_two, plan_from_stats_or_tables, value_of}
 use Rattle.safebound_words.specs.Words.{Word}
 use Rattle.safebound_words.specs.declared.command.Command.{Command}
 use Rattle.safebound_words.specs.declared.command.OutText.{OutText}
@@ -115,7 +115,7 @@ one_value option [] n is = omega arith
 one_value option (word ∷ []) n is = omega arith
 one_value option (word ∷ another ∷ words) n is = absurd (cc)
 
-one_file : (given : List Word) (file : Option Word) → file_of given ≡ Some file → length given ≤ 1
+one_file : (given : List Word) (file : Option Word) → option_file given ≡ Some file → length given ≤ 1
 one_file [] file is = omega arith
 one_file (word ∷ []) file is = omega arith
 one_file (word ∷ another ∷ words) file is = absurd (cc)
@@ -180,7 +180,7 @@ from_few file memory [] given r is = absurd (cc)
 from_few file memory (schema ∷ []) given r is = absurd (cc)
 from_few file memory (schema ∷ query ∷ []) given r is =
     let budget = bind_so (value_of option.Budget (given.values option.Budget)) _ r is in
-    let alone = asked_if _ (over_query None schema query (works.PlanFrom file budget.0 memory)) r budget.2 in
+    let alone = asked_if _ (over_query None schema query (works.PlanFromStats file budget.0 memory)) r budget.2 in
     let first = both_true (length (given.values option.Accuracy) == 0) _ alone in
     let second = both_true (given.times flag.Reduce == 0) _ first.1 in
     let third = both_true (given.times flag.Bushy == 0) _ second.1 in
@@ -196,7 +196,7 @@ from_few file memory (schema ∷ query ∷ []) given r is =
     }
 from_few file memory (schema ∷ query ∷ more ∷ places) given r is = absurd (cc)
 
-planned_few : (file : Option Word) (places : List Word) (given : Given) (r : Command) → planned_from file places given ≡ Some r → AreFew places given × (length (given.values option.Memory) ≤ 1)
+planned_few : (file : Option Word) (places : List Word) (given : Given) (r : Command) → plan_from_stats_or_tables file places given ≡ Some r → AreFew places given × (length (given.values option.Memory) ≤ 1)
 planned_few None places given r is = files_few out_text.Nothing places given r is
 planned_few (Some file) places given r is =
     let memory = bind_so (value_of option.Memory (given.values option.Memory)) _ r is in
@@ -206,7 +206,7 @@ stats_few : (places : List Word) (given : Given) (r : Command) → of_stats plac
 stats_few [] given r is = absurd (cc)
 stats_few (schema ∷ []) given r is = absurd (cc)
 stats_few (schema ∷ query ∷ []) given r is =
-    let accuracy = map_so (λ a. over_query None schema query (works.File a)) (value_of option.Accuracy (given.values option.Accuracy)) r is in
+    let accuracy = map_so (λ a. over_query None schema query (works.WriteStats a)) (value_of option.Accuracy (given.values option.Accuracy)) r is in
     (refl, one_value option.Accuracy (given.values option.Accuracy) accuracy.0 accuracy.1)
 stats_few (schema ∷ query ∷ more ∷ places) given r is = absurd (cc)
 
@@ -230,7 +230,7 @@ whole_few places given few memory = omega (arith, few.two, few.budget, few.accur
 asks_few : (name : CommandName) (places : List Word) (given : Given) (r : Command) → (command_row name).asks places given ≡ Some r → weight name places given ≤ 14
 asks_few command.Run places given r is = let few = files_few out_text.Rows places given r is in omega (arith, whole_few places given few.0 few.1)
 asks_few command.Plan places given r is =
-    let file = bind_so (file_of (given.values option.Stats)) _ r is in
+    let file = bind_so (option_file (given.values option.Stats)) _ r is in
     let few = planned_few file.0 places given r file.2 in
     omega (arith, whole_few places given few.0 few.1, one_file (given.values option.Stats) file.0 file.1)
 asks_few command.Audit places given r is = let few = files_few out_text.Audit places given r is in omega (arith, whole_few places given few.0 few.1)

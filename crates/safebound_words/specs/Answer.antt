@@ -2,7 +2,7 @@
 use Rattle.std.specs.Prelude.{◌==◌, if◌then◌else◌, find, List, [], ◌∷◌, Option, Some, None, codes}
 use Rattle.std.specs.Option.{option_map}
 use Rattle.std.specs.Str.{bytes_eq}
-use Rattle.safebound_words.specs.CommandLines.{Alone, Beside, Item, Joined, Place, Reading, requested}
+use Rattle.safebound_words.specs.CommandLines.{Alone, Beside, Item, Joined, Place, CommandReading, requested}
 use Rattle.safebound_words.specs.declared.command.Command.{Command}
 use Rattle.safebound_words.specs.Table.{command_row, flag_word, option_row, ◌>>=◌}
 use Rattle.safebound_words.specs.Words.{Word, is_dashed}
@@ -74,7 +74,7 @@ parts_from name (Some option) [] = None
 parts_from name (Some option) (word ∷ words) = in_front (Beside option word) (parts_from name None words)
 parts_from name None (word ∷ words) = read_by (kind_of name word) word words (λ wanted. parts_from name wanted words)
 
-unfoldable pub reading_of : List Word → Option Reading
+unfoldable pub reading_of : List Word → Option CommandReading
 reading_of [] = None
 reading_of (first ∷ words) = do
   name ← command_named first

@@ -48,7 +48,7 @@ IsItemOf command (Beside option value) = IsTrue (has_option command option)
 IsItemOf command (Joined option value) = IsTrue (has_option command option)
 
 -- how a list of words is read: a command, items, and the words behind `--`
-pub record Reading : Type 0 where
+pub record CommandReading : Type 0 where
   pub command : CommandName
   pub items : List Item
   pub behind : List Word
@@ -58,7 +58,7 @@ abbrev pub IsEnd : List Word → List Word → Type 0
 IsEnd rest behind = ((rest ≡ []) × (behind ≡ [])) ⊎ (rest ≡ codes "--" ∷ behind)
 
 -- the words are read so
-pub record Reads (words : List Word) (reading : Reading) : Type 0 where
+pub record AreReadAs (words : List Word) (reading : CommandReading) : Type 0 where
   pub rest : List Word
   pub spelled : words ≡ (command_row reading.command).word ∷ (flat_map spelling reading.items ++ rest)
   pub end : IsEnd rest reading.behind
@@ -91,9 +91,9 @@ given_in items = record {
 }
 
 -- what a reading asks for, if anything
-abbrev pub requested : Reading → Option Command
+abbrev pub requested : CommandReading → Option Command
 requested reading = (command_row reading.command).asks (flat_map place_words reading.items ++ reading.behind) (given_in reading.items)
 
 -- the words ask for this: it is requested by some reading of them
 abbrev pub AskFor : List Word → Command → Type 0
-AskFor words command = (reading : Reading) × Reads words reading × (requested reading ≡ Some command)
+AskFor words command = (reading : CommandReading) × AreReadAs words reading × (requested reading ≡ Some command)

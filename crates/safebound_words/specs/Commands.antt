@@ -35,13 +35,13 @@ shape_by false = shapes.Order
 shape_by true = shapes.Tree
 
 -- a text for out, a budget, an accuracy, a source, the flag `--bushy`, and a limit of memory, if there is one
-abbrev pub plan_over : OutText → ℕ → ℕ → ListSource → Bool → Option ℕ → Work
-plan_over out budget accuracy source bushy memory = works.Plan
+abbrev pub plan_work : OutText → ℕ → ℕ → ListSource → Bool → Option ℕ → Work
+plan_work out budget accuracy source bushy memory = works.Plan
     (record { budget = budget; accuracy = accuracy; source = source; shape = shape_by bushy; memory = memory; out = out })
 
 -- the same by the flags `--reduce`, `--bushy` and `--keys`
 abbrev pub plan_by : OutText → ℕ → ℕ → Bool → Bool → Bool → Option ℕ → Work
-plan_by out budget accuracy reduce bushy keys memory = plan_over out budget accuracy (source_by reduce keys false) bushy memory
+plan_by out budget accuracy reduce bushy keys memory = plan_work out budget accuracy (source_by reduce keys false) bushy memory
 
 -- `demo` asks what `audit schema.sql query.sql` asks, of the files of a shop
 abbrev pub demo_of : ℕ → Command

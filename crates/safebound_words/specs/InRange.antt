@@ -16,8 +16,8 @@ pub record IsInRange (plan : PlanWork) : Type 0 where
 
 abbrev pub WorkHasRanges : Work → Type 0
 WorkHasRanges (works.Plan plan) = IsInRange plan
-WorkHasRanges (works.File accuracy) = (0 < accuracy) × (accuracy ≤ most_accuracy)
-WorkHasRanges (works.PlanFrom file budget memory) = budget ≤ most_budget
+WorkHasRanges (works.WriteStats accuracy) = (0 < accuracy) × (accuracy ≤ most_accuracy)
+WorkHasRanges (works.PlanFromStats file budget memory) = budget ≤ most_budget
 
 abbrev pub HasRanges : Aim → Type 0
 HasRanges (aims.Query file work) = WorkHasRanges work

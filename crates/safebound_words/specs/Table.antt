@@ -2,7 +2,7 @@
 use Rattle.std.specs.Prelude.{ℕ, ◌^◌, ◌-◌, ◌==◌, ◌&&◌, ◌||◌, not, nat_le, if◌then◌else◌, suc, zero, Bool, true, false, List, [], ◌∷◌, length, Option, Some, None, codes}
 use Rattle.std.specs.Option.{option_map}
 use Rattle.limits.specs.Profile.{least_accuracy, least_budget, most_accuracy, most_budget, usual_accuracy, usual_budget}
-use Rattle.safebound_words.specs.Commands.{demo_of, most_budget_of, over_query, plan_over, shape_by, source_by, with_rows}
+use Rattle.safebound_words.specs.Commands.{demo_of, most_budget_of, over_query, plan_work, shape_by, source_by, with_rows}
 use Rattle.safebound_words.specs.Numbers.{number_within}
 use Rattle.safebound_words.specs.Words.{Word}
 use Rattle.safebound_words.specs.declared.command.Command.{Command}
@@ -72,10 +72,10 @@ is_file [] = false
 is_file (first ∷ rest) = not (first == 45)
 
 -- such an option has one value at most: the file of its word, where it stands
-abbrev pub file_of : List Word → Option (Option Word)
-file_of [] = Some None
-file_of (word ∷ []) = if is_file word then Some (Some word) else None
-file_of (word ∷ another ∷ words) = None
+abbrev pub option_file : List Word → Option (Option Word)
+option_file [] = Some None
+option_file (word ∷ []) = if is_file word then Some (Some word) else None
+option_file (word ∷ another ∷ words) = None
 
 -- a flag stands once at most: whether it stands
 abbrev pub is_set : ℕ → Option Bool
@@ -115,7 +115,7 @@ over_two out limit (schema ∷ query ∷ []) given = do
   if keys && (reduce || bushy) then None
       else if count && not (count_alone given reduce keys) then None
       else if nat_le budget (most_budget_of (shape_by bushy))
-      then Some (over_query None schema query (plan_over out budget accuracy (source_by reduce keys count) bushy limit))
+      then Some (over_query None schema query (plan_work out budget accuracy (source_by reduce keys count) bushy limit))
       else None
 over_two out limit places given = None
 
@@ -136,20 +136,20 @@ stands_alone given =
 abbrev pub from_file : Word → Option ℕ → List Word → Given → Option Command
 from_file file limit (schema ∷ query ∷ []) given = do
   budget ← value_of option.Budget (given.values option.Budget)
-  if stands_alone given then Some (over_query None schema query (works.PlanFrom file budget limit)) else None
+  if stands_alone given then Some (over_query None schema query (works.PlanFromStats file budget limit)) else None
 from_file file limit places given = None
 
 -- a plan from a statistics file, if there is one, or from the tables
-abbrev pub planned_from : Option Word → List Word → Given → Option Command
-planned_from None places given = over_files out_text.Nothing places given
-planned_from (Some file) places given = with_limit (from_file file) places given
+abbrev pub plan_from_stats_or_tables : Option Word → List Word → Given → Option Command
+plan_from_stats_or_tables None places given = over_files out_text.Nothing places given
+plan_from_stats_or_tables (Some file) places given = with_limit (from_file file) places given
 
 abbrev pub of_plan : List Word → Given → Option Command
-of_plan places given = file_of (given.values option.Stats) >>= λ file. planned_from file places given
+of_plan places given = option_file (given.values option.Stats) >>= λ file. plan_from_stats_or_tables file places given
 
 -- exactly two place words, SCHEMA and QUERY, and the accuracy
 abbrev pub of_stats : List Word → Given → Option Command
-of_stats (schema ∷ query ∷ []) given = option_map (λ accuracy. over_query None schema query (works.File accuracy)) (value_of option.Accuracy (given.values option.Accuracy))
+of_stats (schema ∷ query ∷ []) given = option_map (λ accuracy. over_query None schema query (works.WriteStats accuracy)) (value_of option.Accuracy (given.values option.Accuracy))
 of_stats places given = None
 
 -- exactly four place words: SCHEMA, STATS, TABLE and ROWS

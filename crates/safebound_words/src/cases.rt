@@ -1,7 +1,7 @@
 //! What small command lines ask for.
 ghost use Rattle.std.specs.Prelude.{◌≡◌, Some, None, [], ◌∷◌, codes, false, true};
 ghost use Rattle.safebound_words.specs.Answer.{command_of};
-ghost use Rattle.safebound_words.specs.Commands.{demo_of, over_query, plan_by, plan_over, with_rows};
+ghost use Rattle.safebound_words.specs.Commands.{demo_of, over_query, plan_by, plan_work, with_rows};
 ghost use Rattle.safebound_words.specs.declared.command.ListSource.TheVariants as sources;
 ghost use Rattle.safebound_words.specs.declared.command.OutText.TheVariants as out_text;
 ghost use Rattle.safebound_words.specs.declared.command.Work.TheVariants as works;
@@ -120,11 +120,11 @@ pub fn small_keys()
 /// Words with `--count`. It does nothing.
 pub fn small_counts()
     ensures behind { command_of (codes "run" ∷ codes "s" ∷ codes "q" ∷ codes "--count" ∷ [])
-        ≡ Some (over_query None (codes "s") (codes "q") (plan_over out_text.Rows 1000000 1 sources.Counted false None)) }
+        ≡ Some (over_query None (codes "s") (codes "q") (plan_work out_text.Rows 1000000 1 sources.Counted false None)) }
     ensures tree { command_of (codes "audit" ∷ codes "--count" ∷ codes "s" ∷ codes "q" ∷ codes "--bushy" ∷ codes "--budget=5" ∷ [])
-        ≡ Some (over_query None (codes "s") (codes "q") (plan_over out_text.Audit 5 1 sources.Counted true None)) }
+        ≡ Some (over_query None (codes "s") (codes "q") (plan_work out_text.Audit 5 1 sources.Counted true None)) }
     ensures limit { command_of (codes "plan" ∷ codes "s" ∷ codes "--count" ∷ codes "q" ∷ codes "--memory=9" ∷ [])
-        ≡ Some (over_query None (codes "s") (codes "q") (plan_over out_text.Nothing 1000000 1 sources.Counted false (Some 9))) }
+        ≡ Some (over_query None (codes "s") (codes "q") (plan_work out_text.Nothing 1000000 1 sources.Counted false (Some 9))) }
     ensures past_most { command_of (codes "plan" ∷ codes "--budget=4000001" ∷ codes "s" ∷ codes "q" ∷ codes "--bushy" ∷ codes "--count" ∷ []) ≡ None }
     ensures twice { command_of (codes "run" ∷ codes "--count" ∷ codes "s" ∷ codes "q" ∷ codes "--count" ∷ []) ≡ None }
     ensures value { command_of (codes "run" ∷ codes "s" ∷ codes "q" ∷ codes "--count=1" ∷ []) ≡ None }
@@ -140,12 +140,12 @@ pub fn small_counts()
 
 /// `stats`, and `plan` with `--stats`. It does nothing.
 pub fn small_statistics()
-    ensures stats { command_of (codes "stats" ∷ codes "s" ∷ codes "q" ∷ codes "--accuracy" ∷ codes "8" ∷ []) ≡ Some (over_query None (codes "s") (codes "q") (works.File 8)) }
-    ensures usual { command_of (codes "stats" ∷ codes "s" ∷ codes "q" ∷ []) ≡ Some (over_query None (codes "s") (codes "q") (works.File 1)) }
+    ensures stats { command_of (codes "stats" ∷ codes "s" ∷ codes "q" ∷ codes "--accuracy" ∷ codes "8" ∷ []) ≡ Some (over_query None (codes "s") (codes "q") (works.WriteStats 8)) }
+    ensures usual { command_of (codes "stats" ∷ codes "s" ∷ codes "q" ∷ []) ≡ Some (over_query None (codes "s") (codes "q") (works.WriteStats 1)) }
     ensures plan { command_of (codes "plan" ∷ codes "s" ∷ codes "q" ∷ codes "--stats" ∷ codes "f" ∷ codes "--budget=5" ∷ [])
-        ≡ Some (over_query None (codes "s") (codes "q") (works.PlanFrom (codes "f") 5 None)) }
+        ≡ Some (over_query None (codes "s") (codes "q") (works.PlanFromStats (codes "f") 5 None)) }
     ensures joined { command_of (codes "plan" ∷ codes "--stats=a=b" ∷ codes "s" ∷ codes "q" ∷ [])
-        ≡ Some (over_query None (codes "s") (codes "q") (works.PlanFrom (codes "a=b") 1000000 None)) }
+        ≡ Some (over_query None (codes "s") (codes "q") (works.PlanFromStats (codes "a=b") 1000000 None)) }
 
     // The file is named, and its name is no option's word.
     ensures no_name { command_of (codes "plan" ∷ codes "s" ∷ codes "q" ∷ codes "--stats=" ∷ []) ≡ None }
@@ -178,7 +178,7 @@ pub fn small_limits()
     ensures twice { command_of (codes "run" ∷ codes "--memory=5" ∷ codes "s" ∷ codes "q" ∷ codes "--memory=5" ∷ []) ≡ None }
     ensures no_number { command_of (codes "run" ∷ codes "s" ∷ codes "q" ∷ codes "--memory=5k" ∷ []) ≡ None }
     ensures of_a_file { command_of (codes "plan" ∷ codes "s" ∷ codes "q" ∷ codes "--stats=f" ∷ codes "--memory=5" ∷ [])
-        ≡ Some (over_query None (codes "s") (codes "q") (works.PlanFrom (codes "f") 1000000 (Some 5))) }
+        ≡ Some (over_query None (codes "s") (codes "q") (works.PlanFromStats (codes "f") 1000000 (Some 5))) }
     ensures of_stats { command_of (codes "stats" ∷ codes "s" ∷ codes "q" ∷ codes "--memory=5" ∷ []) ≡ None }
     ensures of_demo { command_of (codes "demo" ∷ codes "7" ∷ codes "--memory=5" ∷ []) ≡ None }
 {}

@@ -54,11 +54,11 @@ pub enum Work<'a> {
     /// It is planned over its tables, and joined where `out` takes a text.
     Plan(PlanWork),
     /// The statistics file of its tables is written, at an accuracy of compression from 1 to 64.
-    File {
+    WriteStats {
         accuracy: u8,
     },
     /// It is planned from the statistics file of this name, within a budget and a limit of memory, if there is one.
-    PlanFrom {
+    PlanFromStats {
         file: Word<'a>,
         budget: u64,
         memory: Option<u64>,

@@ -1,13 +1,13 @@
 //! Laws of the definitions. None of them does anything when it runs.
 ghost use Rattle.std.specs.Prelude.{◌≡◌, ◌↔◌, ℕ, List, Some};
 ghost use Rattle.safebound_words.specs.Answer.{command_of};
-ghost use Rattle.safebound_words.specs.CommandLines.{AskFor, Reading, Reads};
+ghost use Rattle.safebound_words.specs.CommandLines.{AskFor, CommandReading, AreReadAs};
 ghost use Rattle.safebound_words.specs.declared.command.Command.{Command};
 ghost use Rattle.safebound_words.specs.Words.{Word};
 
 /// Words are read in one way at most.
 pub fn one_reading()
-    ensures { (words : List Word) (one other : Reading) → Reads words one → Reads words other → one ≡ other }
+    ensures { (words : List Word) (one other : CommandReading) → AreReadAs words one → AreReadAs words other → one ≡ other }
 {}
 
 /// Words ask for one thing at most, and `command_of` computes it.

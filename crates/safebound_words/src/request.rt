@@ -3,7 +3,7 @@ ghost use Rattle.std.specs.Prelude.{◌≡◌, ◌≤◌, IfSome, None, Some};
 ghost use Rattle.std.specs.Option.{option_map};
 ghost use Rattle.safebound_words.specs.Collected.{collected, given_of, option_words, words_of};
 ghost use Rattle.safebound_words.specs.Commands.{demo_of, most_budget_of, over_query, shape_by, source_by};
-ghost use Rattle.safebound_words.specs.Table.{is_file, limit_of, of_append as asked_of_append, of_number as asked_of_number, of_plan, of_stats, option_row, over_files as asked_over_files, planned_from, value_of as option_value};
+ghost use Rattle.safebound_words.specs.Table.{is_file, limit_of, of_append as asked_of_append, of_number as asked_of_number, of_plan, of_stats, option_row, over_files as asked_over_files, plan_from_stats_or_tables, value_of as option_value};
 ghost use Rattle.safebound_words.specs.declared.table.OptionName.TheVariants as option;
 
 use crate::command::{Aim, Command, ListSource, NewRows, OutText, PlanWork, Shape, Work};
@@ -124,7 +124,7 @@ fn is_file(word: &str) -> bool
 
 // A plan from a statistics file: SCHEMA and QUERY, and only the budget and a limit of memory beside the file.
 fn plan_from<'a>(line: &Line<'a>, stats: &'a str) -> Option<Command<'a>>
-    ensures { result ≡ planned_from (Some stats.now) (words_of line.now.places) (given_of line.now) }
+    ensures { result ≡ plan_from_stats_or_tables (Some stats.now) (words_of line.now.places) (given_of line.now) }
 {
     let memory = limit_in(line)?;
     let Places::Two(schema, query) = line.places else {
@@ -138,7 +138,7 @@ fn plan_from<'a>(line: &Line<'a>, stats: &'a str) -> Option<Command<'a>>
     Some(over(
         schema,
         query,
-        Work::PlanFrom {
+        Work::PlanFromStats {
             file,
             budget,
             memory,
@@ -170,7 +170,7 @@ fn stats_of<'a>(line: &Line<'a>) -> Option<Command<'a>>
     Some(over(
         schema,
         query,
-        Work::File {
+        Work::WriteStats {
             accuracy: accuracy as u8,
         },
     ))

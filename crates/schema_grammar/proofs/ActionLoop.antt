@@ -5,7 +5,7 @@ use Rattle.ll_grammars.specs.declared.terminal.Terminal.TheVariants as terminal
 use Rattle.ll_grammars.specs.declared.stop.Stop.{Stop}
 use Rattle.ll_grammars.specs.declared.stop.Stop.TheVariants as stop
 use Rattle.ll_grammars.specs.Reading.{Answer, next, ◌>>=◌, starts, give, read_many, read_others}
-use Rattle.ll_grammars.specs.Rules.{Gives}
+use Rattle.ll_grammars.specs.Rules.{IsReadAs}
 use Rattle.ll_grammars.proofs.Repeats.{many_step, many_stop}
 use Rattle.ll_grammars.proofs.Loops.{shorter}
 use Rattle.schema_grammar.specs.Grammar.{nothing, TriggeredAction}
@@ -28,8 +28,8 @@ actions_keep text a rest h e =
     let others = read_many (terminal.On ∷ []) read_triggered_action rest in
     step text h ∙ ap (λ x. x >>= read_others (read_many (terminal.On ∷ []) read_triggered_action) >>= λ values. give (nothing values)) e ∙ dropped a others.0 others.1
 
-pub actions_stop : (e : Stop) (text rest : List Lexeme) (total : Answer (Unit {0})) → starts (terminal.On ∷ []) text ≡ true → Gives {A = Unit {0}} (Err e) rest (read_triggered_action text)
-    → read_triggered_actions text ≡ total → Gives {A = Unit {0}} (Err e) rest total
+pub actions_stop : (e : Stop) (text rest : List Lexeme) (total : Answer (Unit {0})) → starts (terminal.On ∷ []) text ≡ true → IsReadAs {A = Unit {0}} (Err e) rest (read_triggered_action text)
+    → read_triggered_actions text ≡ total → IsReadAs {A = Unit {0}} (Err e) rest total
 actions_stop stop.NoMemory text rest total h g so_far = tt
 actions_stop stop.Syntax text rest total h g so_far = sym so_far ∙ step text h ∙ ap (λ x. x >>= read_others (read_many (terminal.On ∷ []) read_triggered_action) >>= λ values. give (nothing values)) g
 

@@ -6,7 +6,7 @@ use Rattle.ll_grammars.specs.declared.terminal.Terminal.TheVariants as terminal
 use Rattle.ll_grammars.specs.Terminals.{among}
 use Rattle.ll_grammars.specs.Language.{one, ◌▸◌, made, many}
 use Rattle.ll_grammars.specs.Reading.{read_one}
-use Rattle.ll_grammars.specs.Reads.{Shape, Reads}
+use Rattle.ll_grammars.specs.Reads.{FirstAndFollow, Reads}
 use Rattle.ll_grammars.specs.Rules.{all, second, word, listed, in_parentheses}
 use Rattle.ll_grammars.proofs.Steps.{one_shape, then_shape, either_shape, maybe_shape, reads_one}
 use Rattle.ll_grammars.proofs.Repeats.{many_shape}
@@ -21,7 +21,7 @@ a_token terminals t e = reads_one terminals (some_token t) e
 
 -- ---- names
 
-abbrev pub name_shape : Shape
+abbrev pub name_shape : FirstAndFollow
 name_shape = one_shape name_terminals
 
 pub reads_name : Reads Name name_shape read_name
@@ -36,7 +36,7 @@ pub reads_names : Reads Names (listed_shape terminal.Comma name_shape) read_name
 unfolding read_names
 reads_names = value all (row reads_name (repeat reads_next_name refl refl) refl)
 
-abbrev pub name_list_shape : Shape
+abbrev pub name_list_shape : FirstAndFollow
 name_list_shape = parentheses_shape (listed_shape terminal.Comma name_shape)
 
 pub reads_name_list : Reads (in_parentheses Names) name_list_shape read_name_list
@@ -45,17 +45,17 @@ reads_name_list = inside reads_names refl
 
 -- ---- types
 
-abbrev pub length_shape : Shape
+abbrev pub length_shape : FirstAndFollow
 length_shape = parentheses_shape (word_shape terminal.Number)
 
 pub reads_length : Reads Length length_shape read_length
 unfolding read_length
 reads_length = inside (a_word terminal.Number refl) refl
 
-abbrev pub varying_shape : Shape
+abbrev pub varying_shape : FirstAndFollow
 varying_shape = then_shape (one_shape (terminal.Char ∷ terminal.Character ∷ [])) (then_shape (word_shape terminal.Varying) length_shape)
 
-abbrev pub type_shape : Shape
+abbrev pub type_shape : FirstAndFollow
 type_shape = either_shape (one_shape number_types) (either_shape (then_shape (word_shape terminal.Varchar) length_shape) varying_shape)
 
 pub reads_type : Reads DataType type_shape read_type
@@ -68,7 +68,7 @@ reads_type =
 
 -- ---- references
 
-abbrev pub action_shape : Shape
+abbrev pub action_shape : FirstAndFollow
 action_shape = either_shape (then_shape (word_shape terminal.No) (word_shape terminal.Action))
     (either_shape (word_shape terminal.Cascade) (then_shape (word_shape terminal.Set) (one_shape (terminal.Null ∷ terminal.Default ∷ []))))
 
@@ -79,7 +79,7 @@ reads_action =
     (choice (value nothing (a_word terminal.Cascade refl)) (value nothing (row (a_word terminal.Set refl) (a_token (terminal.Null ∷ terminal.Default ∷ []) terminal.Null refl) refl)) refl refl refl)
     refl refl refl
 
-abbrev pub triggered_action_shape : Shape
+abbrev pub triggered_action_shape : FirstAndFollow
 triggered_action_shape = then_shape (word_shape terminal.On) (then_shape (one_shape (terminal.Delete ∷ terminal.Update ∷ [])) action_shape)
 
 pub reads_triggered_action : Reads TriggeredAction triggered_action_shape read_triggered_action
@@ -90,7 +90,7 @@ pub reads_triggered_actions : Reads (made nothing (many TriggeredAction)) (many_
 unfolding read_triggered_actions
 reads_triggered_actions = value nothing (repeat reads_triggered_action refl refl)
 
-abbrev pub target_shape : Shape
+abbrev pub target_shape : FirstAndFollow
 target_shape = then_shape name_shape (then_shape (maybe_shape name_list_shape) (many_shape triggered_action_shape))
 
 pub reads_target : Reads Target target_shape read_target
@@ -99,17 +99,17 @@ reads_target = value target (row reads_name (row (option reads_name_list refl) r
 
 -- ---- rules of columns and of tables
 
-abbrev pub constraint_name_shape : Shape
+abbrev pub constraint_name_shape : FirstAndFollow
 constraint_name_shape = maybe_shape (then_shape (word_shape terminal.Constraint) name_shape)
 
 pub reads_constraint_name : Reads ConstraintName constraint_name_shape read_constraint_name
 unfolding read_constraint_name
 reads_constraint_name = value nothing (option (row (a_word terminal.Constraint refl) reads_name refl) refl)
 
-abbrev pub named_shape : Shape → Shape
+abbrev pub named_shape : FirstAndFollow → FirstAndFollow
 named_shape s = then_shape constraint_name_shape s
 
-abbrev pub column_constraint_shape : Shape
+abbrev pub column_constraint_shape : FirstAndFollow
 column_constraint_shape = either_shape (then_shape (word_shape terminal.Not) (word_shape terminal.Null))
     (either_shape (then_shape (word_shape terminal.Primary) (word_shape terminal.Key))
     (either_shape (word_shape terminal.Unique)
@@ -132,14 +132,14 @@ pub reads_column_rules : Reads (many (named ColumnConstraint)) (many_shape (name
 unfolding read_column_rules
 reads_column_rules = repeat reads_column_rule refl refl
 
-abbrev pub foreign_key_shape : Shape
+abbrev pub foreign_key_shape : FirstAndFollow
 foreign_key_shape = then_shape (word_shape terminal.Foreign) (then_shape (word_shape terminal.Key) (then_shape name_list_shape (then_shape (word_shape terminal.References) target_shape)))
 
 pub reads_foreign_key : Reads (made foreign_key (word terminal.Foreign ▸ word terminal.Key ▸ in_parentheses Names ▸ word terminal.References ▸ Target)) foreign_key_shape read_foreign_key
 unfolding read_foreign_key
 reads_foreign_key = value foreign_key (row (a_word terminal.Foreign refl) (row (a_word terminal.Key refl) (row reads_name_list (row (a_word terminal.References refl) reads_target refl) refl) refl) refl)
 
-abbrev pub table_constraint_shape : Shape
+abbrev pub table_constraint_shape : FirstAndFollow
 table_constraint_shape = either_shape (then_shape (word_shape terminal.Primary) (then_shape (word_shape terminal.Key) name_list_shape))
     (either_shape (then_shape (word_shape terminal.Unique) name_list_shape) foreign_key_shape)
 
@@ -156,14 +156,14 @@ reads_table_rule = value second (row reads_constraint_name reads_table_constrain
 
 -- ---- tables
 
-abbrev pub column_shape : Shape
+abbrev pub column_shape : FirstAndFollow
 column_shape = then_shape name_shape (then_shape type_shape (many_shape (named_shape column_constraint_shape)))
 
 pub reads_column : Reads ColumnDefinition column_shape read_column
 unfolding read_column
 reads_column = value column (row reads_name (row reads_type reads_column_rules refl) refl)
 
-abbrev pub element_shape : Shape
+abbrev pub element_shape : FirstAndFollow
 element_shape = either_shape column_shape (named_shape table_constraint_shape)
 
 pub reads_element : Reads TableElement element_shape read_element
@@ -178,14 +178,14 @@ pub reads_elements : Reads (listed terminal.Comma TableElement) (listed_shape te
 unfolding read_elements
 reads_elements = value all (row reads_element (repeat reads_next_element refl refl) refl)
 
-abbrev pub element_list_shape : Shape
+abbrev pub element_list_shape : FirstAndFollow
 element_list_shape = parentheses_shape (listed_shape terminal.Comma element_shape)
 
 pub reads_element_list : Reads (in_parentheses (listed terminal.Comma TableElement)) element_list_shape read_element_list
 unfolding read_element_list
 reads_element_list = inside reads_elements refl
 
-abbrev pub table_shape : Shape
+abbrev pub table_shape : FirstAndFollow
 table_shape = then_shape (word_shape terminal.Create) (then_shape (word_shape terminal.Table) (then_shape name_shape element_list_shape))
 
 pub reads_table : Reads TableDefinition table_shape read_table
@@ -197,7 +197,7 @@ pub reads_other_tables : Reads (tails (terminal.Semicolon ∷ []) TableDefinitio
 unfolding read_other_tables
 reads_other_tables = reads_tails (terminal.Semicolon ∷ []) reads_table refl refl
 
-abbrev pub schema_shape : Shape
+abbrev pub schema_shape : FirstAndFollow
 schema_shape = then_shape table_shape (tails_shape (terminal.Semicolon ∷ []) table_shape)
 
 to_schema : (text : List Lexeme) (v : List TableText) → made all (TableDefinition ▸ tails (terminal.Semicolon ∷ []) TableDefinition) text v → SchemaText text v

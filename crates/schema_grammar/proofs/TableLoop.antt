@@ -7,7 +7,7 @@ use Rattle.ll_grammars.specs.declared.stop.Stop.{Stop}
 use Rattle.ll_grammars.specs.declared.stop.Stop.TheVariants as stop
 use Rattle.ll_grammars.specs.Terminals.{among}
 use Rattle.ll_grammars.specs.Reading.{Answer, ◌>>=◌, starts, read_one, read_others, with_front}
-use Rattle.ll_grammars.specs.Rules.{Gives}
+use Rattle.ll_grammars.specs.Rules.{IsReadAs}
 use Rattle.ll_grammars.proofs.Tails.{tails_more, tails_last, tails_none}
 use Rattle.ll_grammars.proofs.Loops.{front_others, shorter}
 use Rattle.schema_grammar.specs.declared.tree.TableText.{TableText}
@@ -43,8 +43,8 @@ tables_keep front longer old new a rest total f e pushed so_far =
     let step : read_other_tables old ≡ read_others read_other_tables a rest = f.0 ∙ ap (λ x. x >>= read_others read_other_tables) e in
     rw pushed (sym (front_others front a (read_other_tables rest).0 (read_other_tables rest).1) ∙ ap (with_front front) (sym step) ∙ so_far)
 
-pub tables_stop : (e : Stop) (front : List TableText) (old new rest : List Lexeme) (total : Answer (List TableText)) → Follows true old new → Gives {A = TableText} (Err e) rest (read_table new)
-    → with_front front (read_other_tables old) ≡ total → Gives {A = List TableText} (Err e) rest total
+pub tables_stop : (e : Stop) (front : List TableText) (old new rest : List Lexeme) (total : Answer (List TableText)) → Follows true old new → IsReadAs {A = TableText} (Err e) rest (read_table new)
+    → with_front front (read_other_tables old) ≡ total → IsReadAs {A = List TableText} (Err e) rest total
 tables_stop stop.NoMemory front old new rest total f g so_far = tt
 tables_stop stop.Syntax front old new rest total f g so_far =
     let step : read_other_tables old ≡ (None, rest) = f.0 ∙ ap (λ x. x >>= read_others read_other_tables) g in

@@ -1,5 +1,5 @@
 //! Reads the definition of a column (SQL-92 11.4).
-ghost use Rattle.ll_grammars.specs.Rules.{Gives};
+ghost use Rattle.ll_grammars.specs.Rules.{IsReadAs};
 ghost use Rattle.schema_grammar.specs.Readers.{read_column, read_column_constraint, read_column_rule, read_column_rules, read_constraint_name, read_length, read_type};
 
 use crate::names::name;
@@ -15,7 +15,7 @@ use ll_grammars::{Lexeme, Reader, Stop};
 // "(" n ")"
 #[tactic(auto, unfolding(crate::specs::Readers::read_length))]
 fn length(reader: &mut Reader<'_>) -> Result<Lexeme, Stop>
-    ensures { Gives result reader.new (read_length reader.old) }
+    ensures { IsReadAs result reader.new (read_length reader.old) }
 {
     reader.one(OPEN)?;
     let number = reader.one(NUMBER)?;
@@ -25,7 +25,7 @@ fn length(reader: &mut Reader<'_>) -> Result<Lexeme, Stop>
 
 #[tactic(auto, unfolding(crate::specs::Readers::read_type))]
 fn data_type(reader: &mut Reader<'_>) -> Result<TypeText, Stop>
-    ensures { Gives result reader.new (read_type reader.old) }
+    ensures { IsReadAs result reader.new (read_type reader.old) }
 {
     if reader.starts(NUMBER_TYPE) {
         reader.one(NUMBER_TYPE)?;
@@ -45,7 +45,7 @@ fn data_type(reader: &mut Reader<'_>) -> Result<TypeText, Stop>
 // [ CONSTRAINT name ]
 #[tactic(auto, unfolding(crate::specs::Readers::read_constraint_name))]
 pub fn constraint_name(reader: &mut Reader<'_>) -> Result<(), Stop>
-    ensures { Gives result reader.new (read_constraint_name reader.old) }
+    ensures { IsReadAs result reader.new (read_constraint_name reader.old) }
 {
     if reader.starts(CONSTRAINT) {
         reader.one(CONSTRAINT)?;
@@ -56,7 +56,7 @@ pub fn constraint_name(reader: &mut Reader<'_>) -> Result<(), Stop>
 
 #[tactic(auto, unfolding(crate::specs::Readers::read_column_constraint))]
 fn column_constraint(reader: &mut Reader<'_>) -> Result<ColumnRule, Stop>
-    ensures { Gives result reader.new (read_column_constraint reader.old) }
+    ensures { IsReadAs result reader.new (read_column_constraint reader.old) }
 {
     if reader.starts(NOT) {
         reader.one(NOT)?;
@@ -78,7 +78,7 @@ fn column_constraint(reader: &mut Reader<'_>) -> Result<ColumnRule, Stop>
 
 #[tactic(auto, unfolding(crate::specs::Readers::read_column_rule))]
 fn column_rule(reader: &mut Reader<'_>) -> Result<ColumnRule, Stop>
-    ensures { Gives result reader.new (read_column_rule reader.old) }
+    ensures { IsReadAs result reader.new (read_column_rule reader.old) }
 {
     constraint_name(reader)?;
     column_constraint(reader)
@@ -86,7 +86,7 @@ fn column_rule(reader: &mut Reader<'_>) -> Result<ColumnRule, Stop>
 
 #[tactic(auto, using(ll_grammars::proofs::Loops::many_start), unfolding(crate::specs::Readers::read_column_rules))]
 fn column_rules(reader: &mut Reader<'_>) -> Result<Seq<ColumnRule>, Stop>
-    ensures { Gives result reader.new (read_column_rules reader.old) }
+    ensures { IsReadAs result reader.new (read_column_rules reader.old) }
 {
     let mut rules = Seq::new(reader.allocator());
     'others: while reader.starts(COLUMN_RULE) {
@@ -99,7 +99,7 @@ fn column_rules(reader: &mut Reader<'_>) -> Result<Seq<ColumnRule>, Stop>
 // name type { rule }
 #[tactic(auto, unfolding(crate::specs::Readers::read_column))]
 pub fn column(reader: &mut Reader<'_>) -> Result<ColumnText, Stop>
-    ensures { Gives result reader.new (read_column reader.old) }
+    ensures { IsReadAs result reader.new (read_column reader.old) }
 {
     let name = name(reader)?;
     let kind = data_type(reader)?;

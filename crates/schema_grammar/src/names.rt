@@ -1,5 +1,5 @@
 //! Reads names and lists of names.
-ghost use Rattle.ll_grammars.specs.Rules.{Gives};
+ghost use Rattle.ll_grammars.specs.Rules.{IsReadAs};
 ghost use Rattle.schema_grammar.specs.Readers.{read_name, read_name_list, read_names, read_next_name};
 
 use crate::terminals::{CLOSE, COMMA, NAME, OPEN};
@@ -8,14 +8,14 @@ use ll_grammars::{Lexeme, Reader, Stop};
 
 #[tactic(auto, unfolding(crate::specs::Readers::read_name))]
 pub fn name(reader: &mut Reader<'_>) -> Result<Lexeme, Stop>
-    ensures { Gives result reader.new (read_name reader.old) }
+    ensures { IsReadAs result reader.new (read_name reader.old) }
 {
     reader.one(NAME)
 }
 
 #[tactic(auto, unfolding(crate::specs::Readers::read_next_name))]
 fn next_name(reader: &mut Reader<'_>) -> Result<Lexeme, Stop>
-    ensures { Gives result reader.new (read_next_name reader.old) }
+    ensures { IsReadAs result reader.new (read_next_name reader.old) }
 {
     reader.one(COMMA)?;
     name(reader)
@@ -24,7 +24,7 @@ fn next_name(reader: &mut Reader<'_>) -> Result<Lexeme, Stop>
 // name { "," name }
 #[tactic(auto, using(ll_grammars::proofs::Loops::listed_start), unfolding(crate::specs::Readers::read_names))]
 fn names(reader: &mut Reader<'_>) -> Result<Seq<Lexeme>, Stop>
-    ensures { Gives result reader.new (read_names reader.old) }
+    ensures { IsReadAs result reader.new (read_names reader.old) }
 {
     let mut names = Seq::new(reader.allocator());
     let first = name(reader)?;
@@ -39,7 +39,7 @@ fn names(reader: &mut Reader<'_>) -> Result<Seq<Lexeme>, Stop>
 // "(" names ")"
 #[tactic(auto, unfolding(crate::specs::Readers::read_name_list))]
 pub fn name_list(reader: &mut Reader<'_>) -> Result<Seq<Lexeme>, Stop>
-    ensures { Gives result reader.new (read_name_list reader.old) }
+    ensures { IsReadAs result reader.new (read_name_list reader.old) }
 {
     reader.one(OPEN)?;
     let names = names(reader)?;

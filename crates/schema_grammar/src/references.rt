@@ -1,5 +1,5 @@
 //! Reads what a reference leads to (SQL-92 11.8).
-ghost use Rattle.ll_grammars.specs.Rules.{Gives};
+ghost use Rattle.ll_grammars.specs.Rules.{IsReadAs};
 ghost use Rattle.schema_grammar.specs.Readers.{read_action, read_target, read_triggered_action, read_triggered_actions};
 
 use crate::names::{name, name_list};
@@ -10,7 +10,7 @@ use ll_grammars::{Reader, Stop};
 // NO ACTION | CASCADE | SET NULL | SET DEFAULT
 #[tactic(auto, unfolding(crate::specs::Readers::read_action))]
 fn action(reader: &mut Reader<'_>) -> Result<(), Stop>
-    ensures { Gives result reader.new (read_action reader.old) }
+    ensures { IsReadAs result reader.new (read_action reader.old) }
 {
     if reader.starts(NO) {
         reader.one(NO)?;
@@ -27,7 +27,7 @@ fn action(reader: &mut Reader<'_>) -> Result<(), Stop>
 // ON ( DELETE | UPDATE ) action
 #[tactic(auto, unfolding(crate::specs::Readers::read_triggered_action))]
 fn triggered_action(reader: &mut Reader<'_>) -> Result<(), Stop>
-    ensures { Gives result reader.new (read_triggered_action reader.old) }
+    ensures { IsReadAs result reader.new (read_triggered_action reader.old) }
 {
     reader.one(ON)?;
     reader.one(CHANGE)?;
@@ -36,7 +36,7 @@ fn triggered_action(reader: &mut Reader<'_>) -> Result<(), Stop>
 
 #[tactic(auto, using(crate::proofs::ActionLoop::actions_stop, crate::proofs::ActionLoop::actions_end))]
 fn triggered_actions(reader: &mut Reader<'_>) -> Result<(), Stop>
-    ensures { Gives result reader.new (read_triggered_actions reader.old) }
+    ensures { IsReadAs result reader.new (read_triggered_actions reader.old) }
 {
     'actions: while reader.starts(ON) {
         triggered_action(reader)?;
@@ -47,7 +47,7 @@ fn triggered_actions(reader: &mut Reader<'_>) -> Result<(), Stop>
 // name [ "(" names ")" ] { ON .. }
 #[tactic(auto, unfolding(crate::specs::Readers::read_target))]
 pub fn target(reader: &mut Reader<'_>) -> Result<TargetText, Stop>
-    ensures { Gives result reader.new (read_target reader.old) }
+    ensures { IsReadAs result reader.new (read_target reader.old) }
 {
     let table = name(reader)?;
     let columns = if reader.starts(OPEN) {

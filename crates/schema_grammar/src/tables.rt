@@ -1,5 +1,5 @@
 //! Reads the definitions of tables (SQL-92 11.3, 11.7 and 11.8).
-ghost use Rattle.ll_grammars.specs.Rules.{Gives};
+ghost use Rattle.ll_grammars.specs.Rules.{IsReadAs};
 ghost use Rattle.schema_grammar.specs.Readers.{Follows, read_all_tables, read_element, read_element_list, read_elements, read_foreign_key, read_next_element, read_table, read_table_constraint, read_table_rule};
 
 use crate::columns::{column, constraint_name};
@@ -15,7 +15,7 @@ use ll_grammars::{Reader, Stop};
 // FOREIGN KEY "(" names ")" REFERENCES target
 #[tactic(auto, unfolding(crate::specs::Readers::read_foreign_key))]
 fn foreign_key(reader: &mut Reader<'_>) -> Result<TableRule, Stop>
-    ensures { Gives result reader.new (read_foreign_key reader.old) }
+    ensures { IsReadAs result reader.new (read_foreign_key reader.old) }
 {
     reader.one(FOREIGN)?;
     reader.one(KEY)?;
@@ -27,7 +27,7 @@ fn foreign_key(reader: &mut Reader<'_>) -> Result<TableRule, Stop>
 
 #[tactic(auto, unfolding(crate::specs::Readers::read_table_constraint))]
 fn table_constraint(reader: &mut Reader<'_>) -> Result<TableRule, Stop>
-    ensures { Gives result reader.new (read_table_constraint reader.old) }
+    ensures { IsReadAs result reader.new (read_table_constraint reader.old) }
 {
     if reader.starts(PRIMARY) {
         let word = reader.one(PRIMARY)?;
@@ -45,7 +45,7 @@ fn table_constraint(reader: &mut Reader<'_>) -> Result<TableRule, Stop>
 
 #[tactic(auto, unfolding(crate::specs::Readers::read_table_rule))]
 fn table_rule(reader: &mut Reader<'_>) -> Result<TableRule, Stop>
-    ensures { Gives result reader.new (read_table_rule reader.old) }
+    ensures { IsReadAs result reader.new (read_table_rule reader.old) }
 {
     constraint_name(reader)?;
     table_constraint(reader)
@@ -53,7 +53,7 @@ fn table_rule(reader: &mut Reader<'_>) -> Result<TableRule, Stop>
 
 #[tactic(auto, unfolding(crate::specs::Readers::read_element))]
 fn table_element(reader: &mut Reader<'_>) -> Result<Element, Stop>
-    ensures { Gives result reader.new (read_element reader.old) }
+    ensures { IsReadAs result reader.new (read_element reader.old) }
 {
     if reader.starts(NAME) {
         Ok(Element::Column(column(reader)?))
@@ -64,7 +64,7 @@ fn table_element(reader: &mut Reader<'_>) -> Result<Element, Stop>
 
 #[tactic(auto, unfolding(crate::specs::Readers::read_next_element))]
 fn next_element(reader: &mut Reader<'_>) -> Result<Element, Stop>
-    ensures { Gives result reader.new (read_next_element reader.old) }
+    ensures { IsReadAs result reader.new (read_next_element reader.old) }
 {
     reader.one(COMMA)?;
     table_element(reader)
@@ -72,7 +72,7 @@ fn next_element(reader: &mut Reader<'_>) -> Result<Element, Stop>
 
 #[tactic(auto, using(ll_grammars::proofs::Loops::listed_start), unfolding(crate::specs::Readers::read_elements))]
 fn elements(reader: &mut Reader<'_>) -> Result<Seq<Element>, Stop>
-    ensures { Gives result reader.new (read_elements reader.old) }
+    ensures { IsReadAs result reader.new (read_elements reader.old) }
 {
     let mut elements = Seq::new(reader.allocator());
     let first = table_element(reader)?;
@@ -86,7 +86,7 @@ fn elements(reader: &mut Reader<'_>) -> Result<Seq<Element>, Stop>
 
 #[tactic(auto, unfolding(crate::specs::Readers::read_element_list))]
 fn element_list(reader: &mut Reader<'_>) -> Result<Seq<Element>, Stop>
-    ensures { Gives result reader.new (read_element_list reader.old) }
+    ensures { IsReadAs result reader.new (read_element_list reader.old) }
 {
     reader.one(OPEN)?;
     let elements = elements(reader)?;
@@ -96,7 +96,7 @@ fn element_list(reader: &mut Reader<'_>) -> Result<Seq<Element>, Stop>
 
 #[tactic(auto, unfolding(crate::specs::Readers::read_table))]
 fn table(reader: &mut Reader<'_>) -> Result<TableText, Stop>
-    ensures { Gives result reader.new (read_table reader.old) }
+    ensures { IsReadAs result reader.new (read_table reader.old) }
 {
     reader.one(CREATE)?;
     reader.one(TABLE)?;
@@ -116,7 +116,7 @@ fn another(reader: &mut Reader<'_>) -> bool
 // table { ";" table } [ ";" ]
 #[tactic(auto, using(ll_grammars::proofs::Loops::listed_start), unfolding(crate::specs::Readers::read_all_tables))]
 pub fn tables(reader: &mut Reader<'_>) -> Result<Seq<TableText>, Stop>
-    ensures { Gives result reader.new (read_all_tables reader.old) }
+    ensures { IsReadAs result reader.new (read_all_tables reader.old) }
 {
     let mut tables = Seq::new(reader.allocator());
     let first = table(reader)?;

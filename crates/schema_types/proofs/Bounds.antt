@@ -15,7 +15,7 @@ use Rattle.schema_grammar.specs.declared.tree.Element.TheVariants as element
 use Rattle.schema_grammar.specs.declared.tree.TableText.{TableText}
 use Rattle.schema_types.specs.declared.types.Reference.{Reference}
 use Rattle.schema_types.specs.declared.types.Table.{Table}
-use Rattle.schema_types.specs.Declarations.{columns, column_names, chosen_columns, target_place, target_table, table_names}
+use Rattle.schema_types.specs.Declarations.{columns, column_names, referenced_columns, target_place, target_table, table_names}
 use Rattle.schema_types.specs.Meaning.{column_of, element_column, rule_keys, element_keys, led_numbers, reference_of, rule_references, element_references, table_of}
 use Rattle.schema_types.specs.Names.{place_of}
 use Rattle.schema_types.specs.Numbers.{number_of_name, number_in, numbers_in}
@@ -92,7 +92,7 @@ reference_to text tables table from written place target within here some = reco
   columns = within;
   target = table_of text tables target;
   exists = slice_get-map (table_of text tables) tables place ∙ ap (option_map (table_of text tables)) here;
-  targets = rw (count_of_columns text target.elements) (resolved_within text (column_names text target.elements) (chosen_columns written target.elements) some);
+  targets = rw (count_of_columns text target.elements) (resolved_within text (column_names text target.elements) (referenced_columns written target.elements) some);
 }
 
 -- no table has the name: none of the first table's columns

@@ -11,7 +11,7 @@ use Rattle.sql_tokens.proofs.WholeTexts as whole
 use Rattle.schema_types.specs.declared.errors.SchemaError.{SchemaError}
 use Rattle.schema_types.specs.declared.errors.SchemaError.TheVariants as error
 use Rattle.schema_types.specs.declared.types.Schema.{Schema}
-use Rattle.schema_types.specs.Meaning.{bound}
+use Rattle.schema_types.specs.Meaning.{schema_or_refusal}
 use Rattle.schema_types.specs.Texts.{Spells, IsUngrammatical, Declares, IsSchemaOf}
 use Rattle.schema_types.proofs.OnePlace.{one_place, not_spelled}
 
@@ -41,7 +41,7 @@ one_tables text a b s t =
     (subst (λ (tokens : List Token). SchemaText (map (lexeme_of text) tokens) b) same t.spelled)
 
 one_declared : (text : List ℕ) (a b : Result Schema SchemaError) → Declares text a → Declares text b → a ≡ b
-one_declared text a b d e = sym d.answers ∙ ap (bound text) (one_tables text d.tables e.tables d.spells e.spells) ∙ e.answers
+one_declared text a b d e = sym d.answers ∙ ap (schema_or_refusal text) (one_tables text d.tables e.tables d.spells e.spells) ∙ e.answers
 
 -- the three kinds of answers
 abbrev Kinds : List ℕ → Result Schema SchemaError → Type 0

@@ -13,7 +13,7 @@ use Rattle.schema_types.specs.declared.errors.SchemaError.TheVariants as error
 use Rattle.schema_types.specs.declared.types.Schema.{Schema}
 use Rattle.schema_types.specs.Answers.{Answers, AreLexemes}
 use Rattle.schema_types.specs.Finds.{Finds, FindsNullable, FindsAbove}
-use Rattle.schema_types.specs.Meaning.{unless_found, bound}
+use Rattle.schema_types.specs.Meaning.{unless_found, schema_or_refusal}
 use Rattle.schema_types.specs.Names.{first}
 use Rattle.schema_types.specs.Refusals.{in_64_bits}
 use Rattle.schema_types.specs.Texts.{Spells, IsSchemaOf}
@@ -44,7 +44,7 @@ stage_above limit numbers rest (error.Name at) found = absurd found
 stage_above limit numbers rest (error.Nullable at) found = absurd found
 
 -- the answer to the tables that a text spells is the answer to the text
-pub answered : (text : List ℕ) (tables : List TableText) (answer : Result Schema SchemaError) → Spells text tables → Answers answer (bound text tables) → IsSchemaOf text answer
+pub answered : (text : List ℕ) (tables : List TableText) (answer : Result Schema SchemaError) → Spells text tables → Answers answer (schema_or_refusal text tables) → IsSchemaOf text answer
 answered text tables (Ok schema) spells due = record { tables = tables; spells = spells; answers = due }
 answered text tables (Err (error.Name at)) spells due = record { tables = tables; spells = spells; answers = due }
 answered text tables (Err (error.Nullable at)) spells due = record { tables = tables; spells = spells; answers = due }

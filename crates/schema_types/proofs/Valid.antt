@@ -20,7 +20,7 @@ use Rattle.schema_types.specs.declared.types.Schema.{Schema}
 use Rattle.schema_types.specs.declared.types.Table.{Table}
 use Rattle.schema_types.specs.declared.errors.SchemaError.{SchemaError}
 use Rattle.schema_types.specs.Declarations.{columns, column_names, table_names, element_columns}
-use Rattle.schema_types.specs.Meaning.{element_column, table_of, schema_of, unless_found, within_limits, bound}
+use Rattle.schema_types.specs.Meaning.{element_column, table_of, schema_of, unless_found, within_limits, schema_or_refusal}
 use Rattle.schema_types.specs.Names.{first, when, place_of, told_from, each_told}
 use Rattle.schema_types.specs.Offences.{stands_in, is_taken, listed_offences, list_offences, column_offences, table_rule_offences, element_offences, table_offences, target_offences, offences}
 use Rattle.schema_types.specs.Refusals.{above, column_counts, nullable_places, text_lengths}
@@ -206,7 +206,7 @@ same_schema : (a b : Schema) → ◌≡◌ {A = Result Schema SchemaError} (Ok a
 same_schema a b e = cc
 
 pub declares_valid : (text : List ℕ) (schema : Schema) → Declares text (Ok schema) → IsValid schema
-unfolding bound within_limits
+unfolding schema_or_refusal within_limits
 declares_valid text schema d =
     let named = passed (offences text d.tables) _ _ schema d.answers in
     let full = passed (nullable_places text d.tables) _ _ schema named.1 in

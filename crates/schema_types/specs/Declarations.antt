@@ -70,6 +70,6 @@ abbrev pub target_table : List ℕ → List TableText → TargetText → Option 
 target_table text tables target = option_and_then (slice_get tables) (target_place text tables target)
 
 -- the columns to which a reference leads: those that are written, else the target's primary key
-abbrev pub chosen_columns : Option (List Lexeme) → List Element → Option (List Lexeme)
-chosen_columns (Some columns) elements = Some columns
-chosen_columns None elements = primary_key elements
+abbrev pub referenced_columns : Option (List Lexeme) → List Element → Option (List Lexeme)
+referenced_columns (Some columns) elements = Some columns
+referenced_columns None elements = primary_key elements

@@ -26,7 +26,7 @@ use Rattle.schema_types.specs.declared.types.Table.{Table}
 use Rattle.schema_types.specs.declared.types.Schema.{Schema}
 use Rattle.schema_types.specs.Names.{first}
 use Rattle.schema_types.specs.Numbers.{number_in, numbers_in}
-use Rattle.schema_types.specs.Declarations.{columns, column_names, target_place, target_table, chosen_columns}
+use Rattle.schema_types.specs.Declarations.{columns, column_names, target_place, target_table, referenced_columns}
 use Rattle.schema_types.specs.Offences.{offences}
 use Rattle.schema_types.specs.Refusals.{nullable_places, above, in_64_bits, column_counts, text_lengths}
 
@@ -58,7 +58,7 @@ element_keys text declared (element.Rule rule) = table_rule_keys text declared r
 abbrev pub led_numbers : List ℕ → Option (List Lexeme) → Option TableText → List ℕ
 led_numbers text written None = []
 led_numbers text written (Some table) =
-    unwrap_or (option_map (numbers_in text (column_names text table.elements)) (chosen_columns written table.elements)) []
+    unwrap_or (option_map (numbers_in text (column_names text table.elements)) (referenced_columns written table.elements)) []
 
 -- the reference from these columns to a target. The rows of files aren't tested against it
 unfoldable pub reference_of : List ℕ → List TableText → List ℕ → TargetText → Reference
@@ -128,8 +128,8 @@ within_limits text tables rest =
     (unless_found (first (above most_length (text_lengths text tables))) (λ found. error.Limit limit.TextLength (in_64_bits found)) rest))
 
 -- the schema that these tables declare, or the first refusal: names, then nullability, then limits
-unfoldable pub bound : List ℕ → List TableText → Result Schema SchemaError
-bound text tables =
+unfoldable pub schema_or_refusal : List ℕ → List TableText → Result Schema SchemaError
+schema_or_refusal text tables =
     unless_found (first (offences text tables)) (λ at. error.Name at)
     (unless_found (first (nullable_places text tables)) (λ at. error.Nullable at)
     (within_limits text tables (Ok (schema_of text tables))))

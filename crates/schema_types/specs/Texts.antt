@@ -9,7 +9,7 @@ use Rattle.sql_tokens.specs.Words.{lexeme_of}
 use Rattle.schema_types.specs.declared.errors.SchemaError.{SchemaError}
 use Rattle.schema_types.specs.declared.errors.SchemaError.TheVariants as error
 use Rattle.schema_types.specs.declared.types.Schema.{Schema}
-use Rattle.schema_types.specs.Meaning.{bound}
+use Rattle.schema_types.specs.Meaning.{schema_or_refusal}
 
 -- the text's tokens spell these tables
 pub record Spells (text : List ℕ) (tables : List TableText) : Type 0 where
@@ -27,7 +27,7 @@ pub record IsUngrammatical (text : List ℕ) (at : ℕ) : Type 0 where
 pub record Declares (text : List ℕ) (answer : Result Schema SchemaError) : Type 0 where
   pub tables : List TableText
   pub spells : Spells text tables
-  pub answers : bound text tables ≡ answer
+  pub answers : schema_or_refusal text tables ≡ answer
 
 -- an answer to a schema text: its schema, or the first refusal, in the order Syntax, Name, Nullable, Limit; memory may be
 -- wanting

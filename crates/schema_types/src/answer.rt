@@ -3,7 +3,7 @@ ghost use Rattle.std.specs.Prelude.{◌≡◌, All, Ok};
 ghost use Rattle.sql_tokens.specs.Words.{IsLexemeOf};
 ghost use Rattle.schema_grammar.specs.Lexemes.{IsTableOf};
 ghost use Rattle.schema_types.specs.Answers.{Answers};
-ghost use Rattle.schema_types.specs.Meaning.{within_limits, schema_of, bound};
+ghost use Rattle.schema_types.specs.Meaning.{within_limits, schema_of, schema_or_refusal};
 
 use crate::SchemaError;
 use crate::scope::Scope;
@@ -27,10 +27,10 @@ impl Scope<'_> {
     }
 
     // The schema, once names and nullability are in order.
-    #[tactic(auto, unfolding(crate::specs::Meaning::bound))]
+    #[tactic(auto, unfolding(crate::specs::Meaning::schema_or_refusal))]
     fn answer(&self) -> Result<Schema, SchemaError>
         requires { All (IsTableOf (IsLexemeOf self.now.text.now)) self.now.tables.now }
-        ensures { Answers result (bound self.now.text.now self.now.tables.now) }
+        ensures { Answers result (schema_or_refusal self.now.text.now self.now.tables.now) }
     {
         self.check_names()?;
         self.check_nullability()?;
@@ -41,7 +41,7 @@ impl Scope<'_> {
 /// The schema of these tables, or the first refusal in the order Name, Nullable, Limit.
 pub fn bind(alloc: Global, text: &[u8], tables: &[TableText]) -> Result<Schema, SchemaError>
     requires { All (IsTableOf (IsLexemeOf text.now)) tables.now }
-    ensures { Answers result (bound text.now tables.now) }
+    ensures { Answers result (schema_or_refusal text.now tables.now) }
 {
     let scope = Scope::new(alloc, text, tables)?;
     scope.answer()

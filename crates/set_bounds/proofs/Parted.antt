@@ -12,7 +12,7 @@ use Rattle.berge_tree.specs.declared.edges.Edge.{Edge}
 use Rattle.berge_tree.specs.declared.edges.Place.{Place}
 use Rattle.berge_tree.specs.Equalities.{ClosesNoCycle, class_of}
 use Rattle.berge_tree.specs.Rooted.{AreAllTreesOf, IsTreeOf, roots}
-use Rattle.berge_tree.specs.Trees.{JoinTree, entries, entries_below, entries_of_all}
+use Rattle.berge_tree.specs.Trees.{BergeTree, entries, entries_below, entries_of_all}
 use Rattle.berge_tree.proofs.Joining.{class_of-joined, joined}
 use Rattle.berge_tree.proofs.NoCycle.{has_no_cycle}
 use Rattle.berge_tree.proofs.Separate.{one_side}
@@ -149,40 +149,40 @@ module _ (es : List Edge) (subset part : ℕ) (forest : ClosesNoCycle (equalitie
 
   -- ---- the trees of the part
 
-  all_side : (t : JoinTree) → IsTreeOf kept_whole t → AllByRecursion (λ x. side x ≡ side t.root) (entries t)
+  all_side : (t : BergeTree) → IsTreeOf kept_whole t → AllByRecursion (λ x. side x ≡ side t.root) (entries t)
   all_side t is = one_side kept_whole (has_no_cycle kept_whole (closes es subset 0)) t is.columns is.follows side side_of_class
 
-  abbrev chosen : List JoinTree → List JoinTree
-  chosen ts = filter (λ (t : JoinTree). side t.root) ts
+  abbrev chosen : List BergeTree → List BergeTree
+  chosen ts = filter (λ (t : BergeTree). side t.root) ts
 
-  chosen_trees : (ts : List JoinTree) → AllByRecursion (IsTreeOf kept_whole) ts → AllByRecursion (IsTreeOf kept_part) (chosen ts)
+  chosen_trees : (ts : List BergeTree) → AllByRecursion (IsTreeOf kept_whole) ts → AllByRecursion (IsTreeOf kept_part) (chosen ts)
   chosen_trees [] h = tt
   chosen_trees (t ∷ ts) h = elim (cases_Bool (side t.root)) [
     | inl u ↦ rw u (tree_carries (λ x. side x ≡ true) kept_whole kept_part carries t (all_in (λ x. side x ≡ true) (entries t) (λ x k. each (λ y. side y ≡ side t.root) (entries t) (all_side t h.0) x k ∙ u)) h.0, chosen_trees ts h.1)
     | inr n ↦ rw n (chosen_trees ts h.1)
   ]
 
-  chosen_roots : (ts : List JoinTree) → roots (chosen ts) ≡ filter side (roots ts)
+  chosen_roots : (ts : List BergeTree) → roots (chosen ts) ≡ filter side (roots ts)
   chosen_roots [] = refl
   chosen_roots (t ∷ ts) = elim (cases_Bool (side t.root)) [
     | inl u ↦ rw u (ap (λ xs. t.root ∷ xs) (chosen_roots ts))
     | inr n ↦ rw n (chosen_roots ts)
   ]
 
-  own_side : (t : JoinTree) → IsTreeOf kept_whole t → (b : Bool) → side t.root ≡ b → AllByRecursion (λ x. side x ≡ b) (entries t)
+  own_side : (t : BergeTree) → IsTreeOf kept_whole t → (b : Bool) → side t.root ≡ b → AllByRecursion (λ x. side x ≡ b) (entries t)
   own_side t is b u = all_in (λ x. side x ≡ b) (entries t) (λ x k. each (λ y. side y ≡ side t.root) (entries t) (all_side t is) x k ∙ u)
 
-  entries_step : (t : JoinTree) (ts : List JoinTree) → IsTreeOf kept_whole t → entries_of_all (chosen ts) ≡ filter side (entries_of_all ts) → (b : Bool) → side t.root ≡ b
+  entries_step : (t : BergeTree) (ts : List BergeTree) → IsTreeOf kept_whole t → entries_of_all (chosen ts) ≡ filter side (entries_of_all ts) → (b : Bool) → side t.root ≡ b
       → entries_of_all (cond b (t ∷ chosen ts) (chosen ts)) ≡ filter side (entries t) ++ filter side (entries_of_all ts)
   entries_step t ts is later true u =
       ap (λ xs. entries t ++ xs) later ∙ ap (λ xs. xs ++ filter side (entries_of_all ts)) (sym (filter_every side (entries t) (own_side t is true u)))
   entries_step t ts is later false n = later ∙ ap (λ xs. xs ++ filter side (entries_of_all ts)) (sym (filter_none side (entries t) (own_side t is false n)))
 
-  chosen_entries : (ts : List JoinTree) → AllByRecursion (IsTreeOf kept_whole) ts → entries_of_all (chosen ts) ≡ filter side (entries_of_all ts)
+  chosen_entries : (ts : List BergeTree) → AllByRecursion (IsTreeOf kept_whole) ts → entries_of_all (chosen ts) ≡ filter side (entries_of_all ts)
   chosen_entries [] h = refl
   chosen_entries (t ∷ ts) h = entries_step t ts h.0 (chosen_entries ts h.1) (side t.root) refl ∙ sym (filter-append side (entries t) (entries_of_all ts))
 
-  all_chosen : (ts : List JoinTree) → AreAllTreesOf kept_whole (entries_of_set subset) ts → AreAllTreesOf kept_part (entries_of_set part) (chosen ts)
+  all_chosen : (ts : List BergeTree) → AreAllTreesOf kept_whole (entries_of_set subset) ts → AreAllTreesOf kept_part (entries_of_set part) (chosen ts)
   all_chosen ts all = record {
     trees = chosen_trees ts all.trees;
     ascending = subst IsStrictlyIncreasing (sym (chosen_roots ts)) (IsStrictlyIncreasing-filter side (roots ts) all.ascending);
@@ -203,7 +203,7 @@ module _ (es : List Edge) (subset part : ℕ) (forest : ClosesNoCycle (equalitie
 swap : (a x y : ℕ) → a * (x * y) ≡ x * (a * y)
 swap a x y = sym (mul_assoc a x y) ∙ ap (λ m. m * y) (mul_comm a x) ∙ mul_assoc x a y
 
-in_two : (b : EntryBounds) (p q : JoinTree → Bool) (ts : List JoinTree) → AllByRecursion (λ t. q t ≡ not (p t)) ts
+in_two : (b : EntryBounds) (p q : BergeTree → Bool) (ts : List BergeTree) → AllByRecursion (λ t. q t ≡ not (p t)) ts
     → bound_of_trees b ts ≡ bound_of_trees b (filter p ts) * bound_of_trees b (filter q ts)
 in_two b p q [] h = refl
 in_two b p q (t ∷ ts) h = elim (cases_Bool (p t)) [
@@ -231,8 +231,8 @@ pub parts_multiply : (b : EntryBounds) (es : List Edge) (subset part rest : ℕ)
     → bound_of_set b es subset ≡ bound_of_set b es part * bound_of_set b es rest
 parts_multiply b es subset part rest forest falls =
     forest_set b es subset forest
-    ∙ in_two b (λ t. has_entry part t.root) (λ t. has_entry rest t.root) ts (all_in (λ (t : JoinTree). has_entry rest t.root ≡ not (has_entry part t.root)) ts at)
-    ∙ ap (λ m. m * bound_of_trees b (filter (λ (t : JoinTree). has_entry rest t.root) ts)) (sym (part_bound es subset part forest falls.within falls.unjoined b) ∙ sym (forest_set b es part (forest_within es part subset falls.within forest)))
+    ∙ in_two b (λ t. has_entry part t.root) (λ t. has_entry rest t.root) ts (all_in (λ (t : BergeTree). has_entry rest t.root ≡ not (has_entry part t.root)) ts at)
+    ∙ ap (λ m. m * bound_of_trees b (filter (λ (t : BergeTree). has_entry rest t.root) ts)) (sym (part_bound es subset part forest falls.within falls.unjoined b) ∙ sym (forest_set b es part (forest_within es part subset falls.within forest)))
     ∙ ap (λ m. bound_of_set b es part * m) (sym (part_bound es subset rest forest within unjoined b) ∙ sym (forest_set b es rest (forest_within es rest subset within forest)))
   where
     within : IsWithin rest subset
@@ -241,20 +241,20 @@ parts_multiply b es subset part rest forest falls =
     unjoined : AreUnjoined es subset rest
     unjoined = rest_unjoined es subset part rest falls
 
-    ts : List JoinTree
+    ts : List BergeTree
     ts = trees_of (kept_of subset 0 es) subset
 
     all : AreAllTreesOf (kept_of subset 0 es) (entries_of_set subset) ts
     all = trees_there es subset 0
 
-    root_in : (us : List JoinTree) (t : JoinTree) → Contains us t → Contains (entries_of_all us) t.root
+    root_in : (us : List BergeTree) (t : BergeTree) → Contains us t → Contains (entries_of_all us) t.root
     root_in [] t k = absurd (in_none t k)
     root_in (u ∷ us) t k = elim (one_in u us t k) [
-      | inr is ↦ Contains-append_left (entries u) (entries_of_all us) t.root (in_front u.root (entries_below u.below) t.root (ap (λ (v : JoinTree). v.root) is))
+      | inr is ↦ Contains-append_left (entries u) (entries_of_all us) t.root (in_front u.root (entries_below u.below) t.root (ap (λ (v : BergeTree). v.root) is))
       | inl old ↦ Contains-append_right (entries u) (entries_of_all us) t.root (root_in us t old)
     ]
 
-    at : (t : JoinTree) → Contains ts t → has_entry rest t.root ≡ not (has_entry part t.root)
+    at : (t : BergeTree) → Contains ts t → has_entry rest t.root ≡ not (has_entry part t.root)
     at t k =
         let inside : has_entry subset t.root ≡ true = set_entries subset t.root (each (Contains (entries_of_set subset)) (entries_of_all ts) all.within t.root (root_in ts t k)) in
         falls.others t.root ∙ ap (λ c. c && not (has_entry part t.root)) inside

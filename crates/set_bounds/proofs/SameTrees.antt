@@ -8,7 +8,7 @@ use Rattle.berge_tree.specs.declared.edges.Edge.{Edge}
 use Rattle.berge_tree.specs.declared.edges.Place.{Place}
 use Rattle.berge_tree.specs.Equalities.{ClosesNoCycle, class_of, place, places_of}
 use Rattle.berge_tree.specs.Rooted.{AreAllTreesOf, AreItsColumns, AreItsOthers, FollowsBelow, FollowsWithin, IsTreeOf, class_columns, member_places}
-use Rattle.berge_tree.specs.Trees.{Classes, no_class, and_class, Members, one_member, and_member, JoinTree, entries, entries_below, entries_within}
+use Rattle.berge_tree.specs.Trees.{Classes, no_class, and_class, Members, one_member, and_member, BergeTree, entries, entries_below, entries_within}
 use Rattle.berge_tree.proofs.Joining.{class_of-joined, joined}
 use Rattle.join_graph.specs.Kept.{equalities_within, kept_of, turn_count}
 use Rattle.tree_bounds.specs.SetBounds.{bound_of_set, bound_of_turn, least_to, trees_of}
@@ -61,7 +61,7 @@ module _ (Q : ℕ → Type 0) (es fs : List Edge) (c : Carries Q es fs) where
       within_carry rest (all_right Q (entries_below below) (entries_within rest) qs.1) h.2,
     )
 
-  pub tree_carries : (t : JoinTree) → AllByRecursion Q (entries t) → IsTreeOf es t → IsTreeOf fs t
+  pub tree_carries : (t : BergeTree) → AllByRecursion Q (entries t) → IsTreeOf es t → IsTreeOf fs t
   tree_carries t qs h = record { columns = columns_carry t.root None (class_columns t.below) qs.0 h.columns; follows = below_carry t.root t.below qs.0 qs.1 h.follows; least = h.least }
 
 -- ---- equalities of which each is among the others
@@ -111,7 +111,7 @@ alike es fs there back = record {
   class_from = λ p q any e. classes_among es fs there p q e;
 }
 
-pub all_trees_carry : (es fs : List Edge) (set : List ℕ) (ts : List JoinTree) → Carries (λ x. ⊤) es fs → AreAllTreesOf es set ts → AreAllTreesOf fs set ts
+pub all_trees_carry : (es fs : List Edge) (set : List ℕ) (ts : List BergeTree) → Carries (λ x. ⊤) es fs → AreAllTreesOf es set ts → AreAllTreesOf fs set ts
 all_trees_carry es fs set ts c h = record {
   trees = for_trees (IsTreeOf es) (IsTreeOf fs) (λ t is. tree_carries (λ x. ⊤) es fs c t (all_in (λ x. ⊤) (entries t) (λ x k. tt)) is) ts h.trees;
   ascending = h.ascending;

@@ -5,7 +5,7 @@ use Rattle.std.proofs.lemmas.List.FromFn.{get_or-map-range_with_len, map-range_w
 use Rattle.entry_sets.specs.Sets.{entries_of_set}
 use Rattle.berge_tree.specs.declared.edges.Edge.{Edge}
 use Rattle.join_graph.specs.Kept.{equalities_within}
-use Rattle.tree_bounds.specs.Tables.{KeyedTables, AreDifferent, Satisfies, SetDominates}
+use Rattle.tree_bounds.specs.Tables.{KeyedTables, ChoicesAreDifferent, Satisfies, SetDominates}
 use Rattle.tree_bounds.specs.TreeBounds.{EntryBounds}
 use Rattle.bound_fold.specs.declared.lists.EntryLists.{EntryLists}
 use Rattle.bound_fold.specs.Lists.{bounds_of}
@@ -33,7 +33,7 @@ told_at b es n subset bounds is fits = told_in (in_every_set b) es n subset boun
 -- no join of a set's tables has more rows than its bound
 abbrev pub AreNeverUnder : EntryLists → List Edge → ℕ → List ℕ → Type 0
 AreNeverUnder lists es n bounds = (subset : ℕ) → subset < 2 ^ n → (tables : KeyedTables) → SetDominates (bounds_of lists) tables es subset → (choices : List (ℕ → ℕ))
-    → AllByRecursion (Satisfies tables (entries_of_set subset) (equalities_within subset es)) choices → AreDifferent (entries_of_set subset) choices
+    → AllByRecursion (Satisfies tables (entries_of_set subset) (equalities_within subset es)) choices → ChoicesAreDifferent (entries_of_set subset) choices
     → (length choices ≤ get_or bounds subset 0) ⊎ (get_or bounds subset 0 ≡ 2 ^ 128 - 1)
 
 pub never_under : (lists : EntryLists) (es : List Edge) (n : ℕ) (bounds : List ℕ) → SetIsListed lists es (first_entries n) → bounds ≡ bounds_of_sets (bounds_of lists) es n

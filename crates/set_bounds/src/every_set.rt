@@ -5,7 +5,7 @@ ghost use Rattle.std.specs.List.{AllByRecursion};
 ghost use Rattle.limits.specs.Profile.{most_entries, top_bound};
 ghost use Rattle.entry_sets.specs.Sets.{entries_of_set};
 ghost use Rattle.join_graph.specs.Kept.{equalities_within};
-ghost use Rattle.tree_bounds.specs.Tables.{KeyedTables, AreDifferent, Satisfies, SetDominates};
+ghost use Rattle.tree_bounds.specs.Tables.{KeyedTables, ChoicesAreDifferent, Satisfies, SetDominates};
 ghost use Rattle.bound_fold.specs.Lists.{bounds_of};
 ghost use Rattle.bound_fold.specs.Sets.{SetIsListed};
 ghost use Rattle.set_bounds.specs.AllSets.{bounds_in_sets as told_in_sets, bounds_of_sets as bounds_told, first_entries};
@@ -62,7 +62,7 @@ pub fn bounds_of_sets(
         → (tables : KeyedTables) → SetDominates (bounds_of lists.now) tables parts.now.equalities subset
         → (choices : List (ℕ → ℕ))
         → AllByRecursion (Satisfies tables (entries_of_set subset) (equalities_within subset parts.now.equalities)) choices
-        → AreDifferent (entries_of_set subset) choices
+        → ChoicesAreDifferent (entries_of_set subset) choices
         → (length choices ≤ slice_index bounds subset) ⊎ (slice_index bounds subset ≡ top_bound)) }
 {
     bounds_in_sets(alloc, parts, lists, count)

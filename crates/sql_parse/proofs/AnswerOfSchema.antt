@@ -14,7 +14,7 @@ use Rattle.query_types.specs.Validity.{IsOf}
 use Rattle.query_names.specs.Names.{entries}
 use Rattle.query_names.specs.Offences.{name_offences, all_kind_offences}
 use Rattle.query_names.specs.Values.{conjuncts, query_of}
-use Rattle.sql_parse.specs.Bound.{over, first_list, first_place, name_error, kind_error, limit_refusals, long_lists, refusals, unless, bound}
+use Rattle.sql_parse.specs.QueryOrRefusal.{over, first_list, first_place, name_error, kind_error, limit_refusals, long_lists, refusals, unless, query_or_refusal}
 use Rattle.query_names.specs.Numbers.{number_offences}
 use Rattle.sql_parse.proofs.BindFacts.{not_over}
 use Rattle.sql_parse.specs.Reading.{lexemes_of, unless_number, IsAnswer}
@@ -37,8 +37,8 @@ pub unless_ok : (wrong : List QueryError) (value query : Query) → unless wrong
 unless_ok [] value query is = (refl, cc)
 unless_ok (e ∷ rest) value query is = absurd cc
 
-pub bound_of_schema : (schema : Schema) (text : List ℕ) (tokens : List Lexeme) (tree : QueryText) (query : Query) → QuerySpecification tokens tree → bound schema text tree ≡ Ok query → IsOf schema query
-unfolding bound refusals query_of
+pub bound_of_schema : (schema : Schema) (text : List ℕ) (tokens : List Lexeme) (tree : QueryText) (query : Query) → QuerySpecification tokens tree → query_or_refusal schema text tree ≡ Ok query → IsOf schema query
+unfolding query_or_refusal refusals query_of
 bound_of_schema schema text tokens tree query spelled is =
     let from : List Source = entries schema text tree in
     let names : List QueryError = first_place name_error (name_offences schema text from tree) in
@@ -71,7 +71,7 @@ answer_of_schema schema text query (inr (inr (inl deep))) = absurd (let is = dee
 answer_of_schema schema text query (inr (inr (inr (inl unspelled)))) = absurd (let is = unspelled.refused in cc)
 answer_of_schema schema text query (inr (inr (inr (inr spelled)))) =
     bound_of_schema schema text (lexemes_of text spelled.tokens) spelled.tree query spelled.spelled
-    (unless_number_ok (number_offences text (lexemes_of text spelled.tokens)) (bound schema text spelled.tree) query spelled.answered)
+    (unless_number_ok (number_offences text (lexemes_of text spelled.tokens)) (query_or_refusal schema text spelled.tree) query spelled.answered)
 
 pub answers_of_schema : (schema : Schema) (text : List ℕ) (answer : Result Query QueryError) → IsAnswer schema text answer → IfOk answer (IsOf schema)
 answers_of_schema schema text (Ok query) is = answer_of_schema schema text query is

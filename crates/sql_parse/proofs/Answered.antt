@@ -14,7 +14,7 @@ use Rattle.query_names.specs.declared.errors.QueryError.{QueryError}
 use Rattle.query_names.specs.declared.errors.QueryError.TheVariants as error
 use Rattle.query_types.specs.declared.types.Query.{Query}
 use Rattle.query_names.specs.Numbers.{number_offences}
-use Rattle.sql_parse.specs.Bound.{bound}
+use Rattle.sql_parse.specs.QueryOrRefusal.{query_or_refusal}
 use Rattle.query_names.specs.Answers.{first}
 use Rattle.sql_parse.specs.Refusing.{Answers}
 use Rattle.sql_parse.specs.Reading.{least, unless_number, IsAnswer}
@@ -63,22 +63,22 @@ module _ (schema : Schema) (text : List ℕ) (lexemes : List Lexeme) (are : AreL
     }))))
 
     module _ (tree : QueryText) (spells : QuerySpecification lexemes tree) where
-      by : (answer : Result Query QueryError) → answer ≡ unless_number (number_offences text lexemes) (bound schema text tree) → IsAnswer schema text answer
+      by : (answer : Result Query QueryError) → answer ≡ unless_number (number_offences text lexemes) (query_or_refusal schema text tree) → IsAnswer schema text answer
       by answer is = inr (inr (inr (inr (record {
         tokens = are.tokens;
         lexed = are.lexed;
         shallow = subst (λ l. nesting l ≤ 64) are.are shallow;
         tree = tree;
         spelled = subst (λ l. QuerySpecification l tree) are.are spells;
-        answered = is ∙ ap (λ l. unless_number (number_offences text l) (bound schema text tree)) are.are;
+        answered = is ∙ ap (λ l. unless_number (number_offences text l) (query_or_refusal schema text tree)) are.are;
       }))))
 
       pub wrong_number : (at : ℕ) → Some at ≡ first (number_offences text lexemes) → IsAnswer schema text (Err (error.Syntax at))
-      wrong_number at is = by (Err (error.Syntax at)) (number_first (number_offences text lexemes) at (bound schema text tree) is)
+      wrong_number at is = by (Err (error.Syntax at)) (number_first (number_offences text lexemes) at (query_or_refusal schema text tree) is)
 
-      pub spelled : (answer : Result Query QueryError) → None ≡ first (number_offences text lexemes) → Answers (bound schema text tree) answer → IsAnswer schema text answer
+      pub spelled : (answer : Result Query QueryError) → None ≡ first (number_offences text lexemes) → Answers (query_or_refusal schema text tree) answer → IsAnswer schema text answer
       spelled answer none (inl memory) = inl memory
-      spelled answer none (inr is) = by answer (is ∙ sym (no_number (number_offences text lexemes) (bound schema text tree) none))
+      spelled answer none (inr is) = by answer (is ∙ sym (no_number (number_offences text lexemes) (query_or_refusal schema text tree) none))
 
 pub lie_in : (text : List ℕ) (lexemes : List Lexeme) (tree : QueryText) → QuerySpecification lexemes tree → All (IsLexemeOf text) lexemes → IsQueryOf (IsLexemeOf text) tree
 lie_in text lexemes tree spells within = is_query_of (IsLexemeOf text) lexemes tree spells within

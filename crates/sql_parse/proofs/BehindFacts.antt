@@ -8,15 +8,15 @@ use Rattle.query_names.specs.declared.errors.QueryError.{QueryError}
 use Rattle.query_types.specs.declared.types.Cond.{Cond}
 use Rattle.query_types.specs.declared.types.Source.{Source}
 use Rattle.query_names.specs.Answers.{IsNameError, or_first}
-use Rattle.query_names.specs.Scopes.{Scoped, everything, conditions, on_conditions, filtered}
+use Rattle.query_names.specs.Scopes.{Scoped, everything, conditions, on_conditions, where_scope}
 use Rattle.query_names.specs.Binding.{from_of, outs_offences_of, names_in, kinds_in, lists_in, members_in}
 use Rattle.sql_parse.specs.Behind.{names_behind, kinds_behind, lists_behind, conjuncts_by}
 use Rattle.sql_parse.proofs.KindFacts.{flat_map-append}
 use Rattle.query_names.proofs.Walk.{error_behind, name_error_append, or_first_append}
 
-split : {B : Type 0} (f : Scoped → List B) (from : List Source) (query : QueryText) → flat_map f (conditions from query) ≡ flat_map f (on_conditions 0 query.parts) ++ flat_map f (filtered from query.filter)
+split : {B : Type 0} (f : Scoped → List B) (from : List Source) (query : QueryText) → flat_map f (conditions from query) ≡ flat_map f (on_conditions 0 query.parts) ++ flat_map f (where_scope from query.filter)
 unfolding conditions
-split f from query = flat_map-append f (on_conditions 0 query.parts) (filtered from query.filter)
+split f from query = flat_map-append f (on_conditions 0 query.parts) (where_scope from query.filter)
 
 module _ (binder : Binder) (query : QueryText) where
   abbrev in_outs : List ℕ
@@ -26,7 +26,7 @@ module _ (binder : Binder) (query : QueryText) where
   in_parts = flat_map (names_in binder) (on_conditions 0 query.parts)
 
   abbrev in_filter : List ℕ
-  in_filter = flat_map (names_in binder) (filtered (from_of binder) query.filter)
+  in_filter = flat_map (names_in binder) (where_scope (from_of binder) query.filter)
 
   names_are : names_behind binder query ≡ in_outs ++ (in_parts ++ in_filter)
   unfolding names_behind
@@ -44,26 +44,26 @@ module _ (binder : Binder) (query : QueryText) where
   pub name_in_filter : (e : QueryError) → in_outs ≡ [] → in_parts ≡ [] → IsNameError in_filter e → IsNameError (names_behind binder query) e
   name_in_filter e outs parts wrong = subst (λ l. IsNameError l e) (sym names_are) (error_behind in_outs (in_parts ++ in_filter) e outs (error_behind in_parts in_filter e parts wrong))
 
-  pub kinds_behind_are : (old : Option ℕ) → or_first (or_first old (flat_map (kinds_in binder) (on_conditions 0 query.parts))) (flat_map (kinds_in binder) (filtered (from_of binder) query.filter)) ≡ or_first old (kinds_behind binder query)
+  pub kinds_behind_are : (old : Option ℕ) → or_first (or_first old (flat_map (kinds_in binder) (on_conditions 0 query.parts))) (flat_map (kinds_in binder) (where_scope (from_of binder) query.filter)) ≡ or_first old (kinds_behind binder query)
   unfolding kinds_behind
   kinds_behind_are old =
-      sym (or_first_append old (flat_map (kinds_in binder) (on_conditions 0 query.parts)) (flat_map (kinds_in binder) (filtered (from_of binder) query.filter)))
+      sym (or_first_append old (flat_map (kinds_in binder) (on_conditions 0 query.parts)) (flat_map (kinds_in binder) (where_scope (from_of binder) query.filter)))
       ∙ ap (or_first old) (sym (split (kinds_in binder) (from_of binder) query))
 
-  pub lists_behind_are : (old : Option ℕ) → or_first (or_first old (flat_map lists_in (on_conditions 0 query.parts))) (flat_map lists_in (filtered (from_of binder) query.filter)) ≡ or_first old (lists_behind binder query)
+  pub lists_behind_are : (old : Option ℕ) → or_first (or_first old (flat_map lists_in (on_conditions 0 query.parts))) (flat_map lists_in (where_scope (from_of binder) query.filter)) ≡ or_first old (lists_behind binder query)
   unfolding lists_behind
   lists_behind_are old =
-      sym (or_first_append old (flat_map lists_in (on_conditions 0 query.parts)) (flat_map lists_in (filtered (from_of binder) query.filter)))
+      sym (or_first_append old (flat_map lists_in (on_conditions 0 query.parts)) (flat_map lists_in (where_scope (from_of binder) query.filter)))
       ∙ ap (or_first old) (sym (split lists_in (from_of binder) query))
 
-  pub conjuncts_are_both : conjuncts_by binder query ≡ flat_map (members_in binder) (on_conditions 0 query.parts) ++ flat_map (members_in binder) (filtered (from_of binder) query.filter)
+  pub conjuncts_are_both : conjuncts_by binder query ≡ flat_map (members_in binder) (on_conditions 0 query.parts) ++ flat_map (members_in binder) (where_scope (from_of binder) query.filter)
   unfolding conjuncts_by
   conjuncts_are_both = split (members_in binder) (from_of binder) query
 
   pub members_added : (old : List Cond) {mid new : List Cond} {parts : List PartText} → parts ≡ query.parts → mid ≡ old ++ flat_map (members_in binder) (on_conditions 0 parts)
-      → new ≡ mid ++ flat_map (members_in binder) (filtered (from_of binder) query.filter) → new ≡ old ++ conjuncts_by binder query
+      → new ≡ mid ++ flat_map (members_in binder) (where_scope (from_of binder) query.filter) → new ≡ old ++ conjuncts_by binder query
   members_added old {mid} {new} {parts} same first second =
-      let last : List Cond = flat_map (members_in binder) (filtered (from_of binder) query.filter) in
+      let last : List Cond = flat_map (members_in binder) (where_scope (from_of binder) query.filter) in
       second
       ∙ ap (λ l. l ++ last) (first ∙ ap (λ p. old ++ flat_map (members_in binder) (on_conditions 0 p)) same)
       ∙ append_assoc old (flat_map (members_in binder) (on_conditions 0 query.parts)) last

@@ -20,7 +20,7 @@ use Rattle.query_names.specs.Names.{entries, from_offences}
 use Rattle.query_names.specs.Scopes.{everything, conditions}
 use Rattle.query_names.specs.Offences.{outs_offences, name_offences_in, name_offences, all_kind_offences}
 use Rattle.query_names.specs.Values.{conjuncts, selected, query_of}
-use Rattle.sql_parse.specs.Bound.{refusal, over, first_list, first_place, name_error, kind_error, limit_refusals, long_lists, refusals, unless, bound}
+use Rattle.sql_parse.specs.QueryOrRefusal.{refusal, over, first_list, first_place, name_error, kind_error, limit_refusals, long_lists, refusals, unless, query_or_refusal}
 use Rattle.query_names.specs.Answers.{first}
 use Rattle.query_names.specs.Binding.{schema_of, from_of, names_in, kinds_in, lists_in, members_in, outs_offences_of, test_offences_of, kind_offences_of, members_by}
 use Rattle.sql_parse.specs.Behind.{names_behind, kinds_behind, lists_behind, conjuncts_by}
@@ -220,8 +220,8 @@ module _ (schema : Schema) (text : List ℕ) (query : QueryText) where
   unless_none [] value none = refl
   unless_none (x ∷ xs) value none = absurd cc
 
-  refused_first : (e : QueryError) → first (refusals schema text query) ≡ Some e → bound schema text query ≡ Err e
-  unfolding bound
+  refused_first : (e : QueryError) → first (refusals schema text query) ≡ Some e → query_or_refusal schema text query ≡ Err e
+  unfolding query_or_refusal
   refused_first e is = unless_first (refusals schema text query) (query_of schema text query) e is
 
   name_in_from : (place : ℕ) → first (from_offences schema text query) ≡ Some place → first (refusals schema text query) ≡ Some (error.Name place)
@@ -236,7 +236,7 @@ module _ (schema : Schema) (text : List ℕ) (query : QueryText) where
       (at_place name_error ((from_offences schema text query ++ outs) ++ conds) place names))
 
   -- an offence in FROM
-  pub from_refused : (e : QueryError) → IsNameError (from_offences schema text query) e → Answers (bound schema text query) (Err e)
+  pub from_refused : (e : QueryError) → IsNameError (from_offences schema text query) e → Answers (query_or_refusal schema text query) (Err e)
   from_refused (error.Name place) wrong = inr (sym (refused_first (error.Name place) (name_in_from place wrong)))
   from_refused error.NoMemory wrong = inl refl
   from_refused (error.Syntax place) wrong = absurd wrong
@@ -259,7 +259,7 @@ module _ (schema : Schema) (text : List ℕ) (query : QueryText) where
         ∙ sym (refusals_are k.no_offence)
 
     -- a refusal behind FROM
-    pub behind_by : Knows → (e : QueryError) → IsFirstOf (refusals_behind binder query) e → Answers (bound schema text query) (Err e)
+    pub behind_by : Knows → (e : QueryError) → IsFirstOf (refusals_behind binder query) e → Answers (query_or_refusal schema text query) (Err e)
     behind_by k e (inl memory) = inl (ap (λ y. Err y) memory)
     behind_by k e (inr is) = inr (sym (refused_first e (ap first (sym (same_refusals k)) ∙ is)))
 
@@ -276,7 +276,7 @@ module _ (schema : Schema) (text : List ℕ) (query : QueryText) where
         rw (is_from, same_conjs, same_outs) refl
 
     pub value_by : Knows → (from : List Source) (conjs : List Cond) (outs : List Out) → from ≡ entries schema text query → conjs ≡ conjuncts_by binder query → outs ≡ selected_by binder query.outs
-        → first (refusals_behind binder query) ≡ None → Answers (bound schema text query) (Ok (record { from = from; conjuncts = conjs; select = outs }))
-    unfolding bound
+        → first (refusals_behind binder query) ≡ None → Answers (query_or_refusal schema text query) (Ok (record { from = from; conjuncts = conjs; select = outs }))
+    unfolding query_or_refusal
     value_by k from conjs outs is_from is_conjs is_outs none =
         inr (sym (unless_none (refusals schema text query) (query_of schema text query) (ap first (sym (same_refusals k)) ∙ none) ∙ ap (λ q. Ok q) (made k from conjs outs is_from is_conjs is_outs)))

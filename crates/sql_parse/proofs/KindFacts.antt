@@ -27,7 +27,7 @@ use Rattle.query_types.specs.declared.types.Source.{Source}
 use Rattle.query_types.specs.declared.types.Cond.{Cond}
 use Rattle.query_types.specs.declared.types.Operand.{Operand}
 use Rattle.query_types.specs.declared.types.Cond.TheVariants as cond
-use Rattle.query_types.specs.Validity.{is_text, Finds, IsColumnOf, IsCondOf}
+use Rattle.query_types.specs.Validity.{is_text, FindsColumn, IsColumnOf, IsCondOf}
 use Rattle.query_types.specs.Typing.{IsOfKind, Compares}
 use Rattle.query_names.specs.Names.{at}
 use Rattle.query_names.specs.Scopes.{resolve, head_of, tests}
@@ -103,7 +103,7 @@ module _ (schema : Schema) (from : List Source) where
 
 -- ---- operands and tests
 
-pub found_finds : (schema : Schema) (from : List Source) (found : EntryColumn) (there : Stands schema from found) → Finds schema from (reference_to (Some found)) there.column
+pub found_finds : (schema : Schema) (from : List Source) (found : EntryColumn) (there : Stands schema from found) → FindsColumn schema from (reference_to (Some found)) there.column
 found_finds schema from found there = record { source = there.source; entry = there.entry; table = there.table; exists = there.exists; declared = there.declared }
 
 module _ (schema : Schema) (words : List ℕ) (from : List Source) (scope : Scope) where

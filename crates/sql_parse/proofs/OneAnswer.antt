@@ -18,7 +18,7 @@ use Rattle.query_names.specs.declared.errors.QueryError.{QueryError}
 use Rattle.query_names.specs.declared.errors.QueryError.TheVariants as error
 use Rattle.query_types.specs.declared.types.Query.{Query}
 use Rattle.query_names.specs.Numbers.{number_offences}
-use Rattle.sql_parse.specs.Bound.{bound, refusal}
+use Rattle.sql_parse.specs.QueryOrRefusal.{query_or_refusal, refusal}
 use Rattle.sql_parse.specs.Reading.{lexemes_of, least, unless_number, IsUnlexed, IsTooDeep, IsUnspelled, IsSpelled, IsAnswer}
 
 -- ---- a list goes wrong at one place
@@ -104,8 +104,8 @@ module _ (schema : Schema) (text : List ℕ) (a b : Result Query QueryError) whe
       let same : x.tokens ≡ y.tokens = one_list text x.tokens y.tokens x.lexed y.lexed in
       let there : QuerySpecification (lexemes_of text y.tokens) x.tree = subst (λ ts. QuerySpecification (lexemes_of text ts) x.tree) same x.spelled in
       x.answered
-      ∙ ap (λ ts. unless_number (number_offences text (lexemes_of text ts)) (bound schema text x.tree)) same
-      ∙ ap (λ tree. unless_number (number_offences text (lexemes_of text y.tokens)) (bound schema text tree)) (one_query (lexemes_of text y.tokens) x.tree y.tree there y.spelled)
+      ∙ ap (λ ts. unless_number (number_offences text (lexemes_of text ts)) (query_or_refusal schema text x.tree)) same
+      ∙ ap (λ tree. unless_number (number_offences text (lexemes_of text y.tokens)) (query_or_refusal schema text tree)) (one_query (lexemes_of text y.tokens) x.tree y.tree there y.spelled)
       ∙ sym y.answered
 
   deep_or_not : (ts us : List Token) → IsLexed text ts → IsLexed text us → 64 < nesting (lexemes_of text ts) → nesting (lexemes_of text us) ≤ 64 → ⊥

@@ -17,7 +17,7 @@ use Rattle.query_types.specs.declared.types.Cond.{Cond}
 use Rattle.query_types.specs.declared.types.Out.{Out}
 use Rattle.query_types.specs.declared.types.Source.{Source}
 use Rattle.query_names.specs.Names.{sources_of, entry_of, entries, from_offences}
-use Rattle.sql_parse.specs.Bound.{bound}
+use Rattle.sql_parse.specs.QueryOrRefusal.{query_or_refusal}
 use Rattle.query_names.specs.Answers.{first}
 use Rattle.query_names.specs.Binding.{schema_of, from_of}
 use Rattle.sql_parse.specs.Behind.{conjuncts_by}
@@ -54,16 +54,16 @@ module _ (schema : Schema) (text : List ℕ) (query : QueryText) (from : List So
 
 module _ (schema : Schema) (text : List ℕ) (query : QueryText) (binder : Binder) where
   pub behind_refused : schema_of binder ≡ schema → binder.text.now ≡ text → from_of binder ≡ entries schema text query → from_offences schema text query ≡ []
-      → (e : QueryError) → IsFirstOf (refusals_behind binder query) e → Answers (bound schema text query) (Err e)
+      → (e : QueryError) → IsFirstOf (refusals_behind binder query) e → Answers (query_or_refusal schema text query) (Err e)
   behind_refused is_schema is_text is_from none e wrong = behind_by schema text query binder (record { schema_is = is_schema; text_is = is_text; from_is = is_from; no_offence = none }) e wrong
 
   pub behind_errs : schema_of binder ≡ schema → binder.text.now ≡ text → from_of binder ≡ entries schema text query → from_offences schema text query ≡ []
-      → {A : Type 0} (answer : Result A QueryError) → IfErr answer (IsFirstOf (refusals_behind binder query)) → IfErr answer (λ e. Answers (bound schema text query) (Err e))
+      → {A : Type 0} (answer : Result A QueryError) → IfErr answer (IsFirstOf (refusals_behind binder query)) → IfErr answer (λ e. Answers (query_or_refusal schema text query) (Err e))
   behind_errs is_schema is_text is_from none (Ok value) wrong = tt
   behind_errs is_schema is_text is_from none (Err e) wrong = behind_refused is_schema is_text is_from none e wrong
 
   pub answered : schema_of binder ≡ schema → binder.text.now ≡ text → from_of binder ≡ entries schema text query → from_offences schema text query ≡ []
       → (conjs : List Cond) (outs : List Out) → conjs ≡ conjuncts_by binder query → outs ≡ selected_by binder query.outs → first (refusals_behind binder query) ≡ None
-      → Answers (bound schema text query) (Ok (record { from = from_of binder; conjuncts = conjs; select = outs }))
+      → Answers (query_or_refusal schema text query) (Ok (record { from = from_of binder; conjuncts = conjs; select = outs }))
   answered is_schema is_text is_from none conjs outs is_conjs is_outs no_refusal =
       value_by schema text query binder (record { schema_is = is_schema; text_is = is_text; from_is = is_from; no_offence = none }) (from_of binder) conjs outs is_from is_conjs is_outs no_refusal

@@ -1,4 +1,4 @@
-pub mod Bound
+pub mod QueryOrRefusal
 pub mod Outputs
 pub mod Reading
 pub mod Behind

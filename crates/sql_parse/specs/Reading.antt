@@ -14,7 +14,7 @@ use Rattle.query_names.specs.declared.errors.QueryError.{QueryError}
 use Rattle.query_names.specs.declared.errors.QueryError.TheVariants as error
 use Rattle.query_types.specs.declared.types.Query.{Query}
 use Rattle.query_names.specs.Numbers.{number_offences}
-use Rattle.sql_parse.specs.Bound.{bound, refusal}
+use Rattle.sql_parse.specs.QueryOrRefusal.{query_or_refusal, refusal}
 
 -- the tokens of a text, as grammars read them
 abbrev pub lexemes_of : List ℕ → List Token → List Lexeme
@@ -64,7 +64,7 @@ module _ (schema : Schema) (text : List ℕ) (answer : Result Query QueryError) 
     pub shallow : nesting (lexemes_of text tokens) ≤ most_nesting
     pub tree : QueryText
     pub spelled : QuerySpecification (lexemes_of text tokens) tree
-    pub answered : answer ≡ unless_number (number_offences text (lexemes_of text tokens)) (bound schema text tree)
+    pub answered : answer ≡ unless_number (number_offences text (lexemes_of text tokens)) (query_or_refusal schema text tree)
 
   -- want of memory may be answered at any time
   abbrev pub IsAnswer : Type 0

@@ -7,7 +7,7 @@ use Rattle.query_names.specs.declared.binder.Binder.{Binder}
 use Rattle.query_names.specs.declared.errors.QueryError.{QueryError}
 use Rattle.query_names.specs.declared.errors.QueryError.TheVariants as error
 use Rattle.query_types.specs.declared.types.Query.{Query}
-use Rattle.sql_parse.specs.Bound.{refusal, over, first_list, first_place, name_error, kind_error}
+use Rattle.sql_parse.specs.QueryOrRefusal.{refusal, over, first_list, first_place, name_error, kind_error}
 use Rattle.query_names.specs.Answers.{first}
 use Rattle.query_names.specs.Binding.{from_of}
 use Rattle.sql_parse.specs.Behind.{names_behind, kinds_behind, lists_behind, conjuncts_by}

@@ -5,7 +5,7 @@ ghost use Rattle.sql_tokens.specs.Words.{IsLexemeOf};
 ghost use Rattle.query_grammar.specs.Lexemes.{IsQueryOf};
 ghost use Rattle.query_names.specs.Names.{entries, from_offences};
 ghost use Rattle.query_names.specs.Answers.{IsNameError};
-ghost use Rattle.sql_parse.specs.Bound.{bound};
+ghost use Rattle.sql_parse.specs.QueryOrRefusal.{query_or_refusal};
 ghost use Rattle.sql_parse.specs.Refusing.{Answers};
 
 use crate::query_limits::behind_from;
@@ -47,9 +47,9 @@ fn bind_behind(
     requires from { from.now.sources ≡ entries catalog.now.schema.now text.now query.now }
     requires names { from_offences catalog.now.schema.now text.now query.now ≡ [] }
     ensures ok { IfOk result (λ found.
-        Answers (bound catalog.now.schema.now text.now query.now)
+        Answers (query_or_refusal catalog.now.schema.now text.now query.now)
         (Ok (record { from = from.now.sources; conjuncts = found.0; select = found.1 }))) }
-    ensures err { IfErr result (λ e. Answers (bound catalog.now.schema.now text.now query.now) (Err e)) }
+    ensures err { IfErr result (λ e. Answers (query_or_refusal catalog.now.schema.now text.now query.now) (Err e)) }
 {
     let binder = Binder {
         alloc,
@@ -70,7 +70,7 @@ pub fn bind(
 ) -> Result<Query, QueryError>
     requires valid { IsValid schema.now }
     requires tokens { IsQueryOf (IsLexemeOf text.now) query.now }
-    ensures { Answers (bound schema.now text.now query.now) result }
+    ensures { Answers (query_or_refusal schema.now text.now query.now) result }
 {
     let catalog = Catalog::new(alloc, schema)?;
     let entries = entries_of(alloc, &catalog, text, query)?;

@@ -5,8 +5,8 @@
 //! reads outputs, tests limits, and puts all refusals in order. It answers a `Query` of `query_types`.
 //!
 //! Callers cite three definitions. `IsAnswer` (in `specs/Reading.antt`) says what a text may be answered, and each
-//! refusal with its place; the law `one_answer` says that only one answer is possible, unless memory is wanting. `bound`
-//! (in `specs/Bound.antt`) is the query of a syntax tree over a schema, or the first refusal. `IsOf` (in `query_types`)
+//! refusal with its place; the law `one_answer` says that only one answer is possible, unless memory is wanting. `query_or_refusal`
+//! (in `specs/QueryOrRefusal.antt`) is the query of a syntax tree over a schema, or the first refusal. `IsOf` (in `query_types`)
 //! holds of every query that was read. So a caller writes
 //!
 //! ```text

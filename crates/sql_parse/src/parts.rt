@@ -4,7 +4,7 @@ ghost use Rattle.std.specs.List.{flat_map};
 ghost use Rattle.sql_tokens.specs.Words.{IsLexemeOf};
 ghost use Rattle.query_grammar.specs.Lexemes.{IsCondOf, IsPartOf};
 ghost use Rattle.query_names.specs.Names.{sources_of};
-ghost use Rattle.query_names.specs.Scopes.{joined, on_conditions, filtered};
+ghost use Rattle.query_names.specs.Scopes.{joined, on_conditions, where_scope};
 ghost use Rattle.query_names.specs.Answers.{IsNameError, or_first};
 ghost use Rattle.query_names.specs.Binding.{from_of, names_in, kinds_in, lists_in, members_in};
 
@@ -72,15 +72,15 @@ pub fn look_at_filter(
     conjuncts: &mut Seq<Cond>,
 ) -> Result<(), QueryError>
     requires tokens { IfSome filter.now (IsCondOf (IsLexemeOf binder.now.text.now)) }
-    ensures names { IfOk result (λ _. flat_map (names_in binder.now) (filtered (from_of binder.now) filter.now) ≡ []) }
+    ensures names { IfOk result (λ _. flat_map (names_in binder.now) (where_scope (from_of binder.now) filter.now) ≡ []) }
     ensures kind { IfOk result (λ _.
-        held.new.kind ≡ or_first held.old.kind (flat_map (kinds_in binder.now) (filtered (from_of binder.now) filter.now))) }
+        held.new.kind ≡ or_first held.old.kind (flat_map (kinds_in binder.now) (where_scope (from_of binder.now) filter.now))) }
     ensures list { IfOk result (λ _.
-        held.new.list ≡ or_first held.old.list (flat_map lists_in (filtered (from_of binder.now) filter.now))) }
+        held.new.list ≡ or_first held.old.list (flat_map lists_in (where_scope (from_of binder.now) filter.now))) }
     ensures lasts { IfOk result (λ _. held.new.list ≡ None → held.old.list ≡ None) }
     ensures members { IfOk result (λ _. length (from_of binder.now) ≤ 12 → held.new.list ≡ None
-        → conjuncts.new ≡ conjuncts.old ++ flat_map (members_in binder.now) (filtered (from_of binder.now) filter.now)) }
-    ensures err { IfErr result (IsNameError (flat_map (names_in binder.now) (filtered (from_of binder.now) filter.now))) }
+        → conjuncts.new ≡ conjuncts.old ++ flat_map (members_in binder.now) (where_scope (from_of binder.now) filter.now)) }
+    ensures err { IfErr result (IsNameError (flat_map (names_in binder.now) (where_scope (from_of binder.now) filter.now))) }
 {
     match filter {
         Some(condition) => {

@@ -11,17 +11,17 @@ use Rattle.sql_tokens.specs.declared.token.TokenKind.{TokenKind}
 use Rattle.sql_tokens.specs.declared.token.TokenKind.TheVariants as kind
 use Rattle.sql_tokens.specs.Words.{IsTokenOf, slice}
 use Rattle.sql_tokens.specs.Tokens.{is_letter, is_digit, is_word_byte, is_in_line, begins_with, IsEnclosed, IsToken, IsSeparator}
-use Rattle.sql_tokens.specs.Lexing.{Leads, stay, over_gap, over_token, AreInOrder, HasItsForm}
+use Rattle.sql_tokens.specs.Lexing.{Leads, stay, over_gap, over_token, TokensAreInOrder, HasItsForm}
 use Rattle.sql_tokens.proofs.Characters.{blank_ascii, word_byte_ascii, letter_is_word_byte, digit_ascii, sign_ascii, pair_second, line_end_ascii}
 use Rattle.sql_tokens.proofs.Readings.{token_len}
 
 -- ---- order
 
-later : (a b end : ℕ) (tokens : List Token) → a ≤ b → AreInOrder b end tokens → AreInOrder a end tokens
+later : (a b end : ℕ) (tokens : List Token) → a ≤ b → TokensAreInOrder b end tokens → TokensAreInOrder a end tokens
 later a b end [] le h = omega arith
 later a b end (t ∷ tokens) le h = let k : b ≤ t.start = h.0 in (omega arith, h.1, h.2)
 
-pub in_order : (at : ℕ) (text : List ℕ) (tokens : List Token) (to : ℕ) (last : List ℕ) → Leads at text tokens to last → AreInOrder at to tokens
+pub in_order : (at : ℕ) (text : List ℕ) (tokens : List Token) (to : ℕ) (last : List ℕ) → Leads at text tokens to last → TokensAreInOrder at to tokens
 in_order at text tokens to last (stay a t) = omega arith
 in_order at text tokens to last (over_gap a t bytes rest ts o la whole s l) = later at (at + length bytes) to tokens (omega arith) (in_order (at + length bytes) rest tokens to last l)
 in_order at text tokens to last (over_token a t bytes rest k ts o la whole form ends l) =

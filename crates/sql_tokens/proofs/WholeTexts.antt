@@ -11,7 +11,7 @@ use Rattle.sql_tokens.specs.declared.token.Token.{Token}
 use Rattle.sql_tokens.specs.declared.token.LexError.{LexError}
 use Rattle.sql_tokens.specs.declared.token.LexError.TheVariants as error
 use Rattle.sql_tokens.specs.Words.{IsTokenOf}
-use Rattle.sql_tokens.specs.Lexing.{Leads, mark_len, IsLexed, IsBadToken, IsBad, IsRefusal, AreInOrder, HasItsForm}
+use Rattle.sql_tokens.specs.Lexing.{Leads, mark_len, IsLexed, IsBadToken, IsBad, IsRefusal, TokensAreInOrder, HasItsForm}
 use Rattle.sql_tokens.specs.Pieces.{Walked, tokens_at, Gave}
 use Rattle.sql_tokens.proofs.Readings.{IsTold, told, leads_all, offence_all}
 use Rattle.sql_tokens.proofs.Places.{in_order, within, have_forms}
@@ -75,9 +75,9 @@ module _ (text : List ℕ) (start : ℕ) (is : start ≡ mark_len text) (utf8 : 
   gave_refused (Err (error.Bad at)) gave = inr (refused text at utf8 (sym (cut_is text start is) ∙ gave))
   gave_refused (Err error.NoMemory) gave = tt
 
-pub lexed_in_order : (text : List ℕ) (tokens : List Token) → IsLexed text tokens → AreInOrder 0 (length text) tokens
+pub lexed_in_order : (text : List ℕ) (tokens : List Token) → IsLexed text tokens → TokensAreInOrder 0 (length text) tokens
 lexed_in_order text tokens l = from_zero tokens (in_order (mark_len text) (drop (mark_len text) text) tokens (length text) [] l.leads) where
-  from_zero : (ts : List Token) → AreInOrder (mark_len text) (length text) ts → AreInOrder 0 (length text) ts
+  from_zero : (ts : List Token) → TokensAreInOrder (mark_len text) (length text) ts → TokensAreInOrder 0 (length text) ts
   from_zero [] h = omega arith
   from_zero (t ∷ ts) h = (omega arith, h.1, h.2)
 

@@ -111,9 +111,9 @@ IsRefusal text (error.Bad at) = IsBad text at
 IsRefusal text error.NoMemory = ⊤
 
 -- the tokens stand one behind the other between two places, and none is empty
-abbrev pub AreInOrder : ℕ → ℕ → List Token → Type 0
-AreInOrder at end [] = at ≤ end
-AreInOrder at end (t ∷ ts) = (at ≤ t.start) × (t.start < t.end) × AreInOrder t.end end ts
+abbrev pub TokensAreInOrder : ℕ → ℕ → List Token → Type 0
+TokensAreInOrder at end [] = at ≤ end
+TokensAreInOrder at end (t ∷ ts) = (at ≤ t.start) × (t.start < t.end) × TokensAreInOrder t.end end ts
 
 -- the part of the text that the token is has the form of its kind
 abbrev pub HasItsForm : List ℕ → Token → Type 0

@@ -3,7 +3,7 @@ ghost use Rattle.std.specs.Prelude.{◌≡◌, ℕ, ◌≤◌, List, ◌++◌, l
 ghost use Rattle.sql_tokens.specs.declared.token.Token.{Token};
 ghost use Rattle.sql_tokens.specs.declared.token.TokenKind.{TokenKind};
 ghost use Rattle.sql_tokens.specs.Tokens.{IsToken, goes_on};
-ghost use Rattle.sql_tokens.specs.Lexing.{IsLexed, IsBad, HasItsForm, AreInOrder};
+ghost use Rattle.sql_tokens.specs.Lexing.{IsLexed, IsBad, HasItsForm, TokensAreInOrder};
 
 /// A text has one list of tokens at most.
 pub fn one_reading()
@@ -32,7 +32,7 @@ pub fn forms()
 
 /// The spans of a text's tokens are in order, and none is empty.
 pub fn spans()
-    ensures { (text : List ℕ) (tokens : List Token) → IsLexed text tokens → AreInOrder 0 (length text) tokens }
+    ensures { (text : List ℕ) (tokens : List Token) → IsLexed text tokens → TokensAreInOrder 0 (length text) tokens }
 {}
 
 /// The token that stands before what follows it is the longest front that has the form of a token.

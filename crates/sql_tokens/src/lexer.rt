@@ -3,7 +3,7 @@ ghost use Rattle.std.specs.Prelude.{◌≡◌, ◌+◌, ◌<◌, ◌≤◌, drop
 ghost use Rattle.limits.specs.Profile.{most_text};
 ghost use Rattle.sql_tokens.specs.Words.{IsTokenOf};
 ghost use Rattle.sql_tokens.specs.Pieces.{tokens_at, Gave};
-ghost use Rattle.sql_tokens.specs.Lexing.{mark_len, IsLexed, IsRefusal, AreInOrder};
+ghost use Rattle.sql_tokens.specs.Lexing.{mark_len, IsLexed, IsRefusal, TokensAreInOrder};
 
 use crate::pieces::{Piece, piece_at};
 use crate::{LexError, Token};
@@ -65,7 +65,7 @@ pub fn tokens(alloc: Global, text: &[u8]) -> Result<Seq<Token>, LexError>
     requires { length text.now ≤ most_text }
     ensures ok { IfOk result (λ found. IsLexed text.now found) }
     ensures bad { IfErr result (λ error. IsRefusal text.now error) }
-    ensures in_order { IfOk result (λ found. AreInOrder 0 (length text.now) found) }
+    ensures in_order { IfOk result (λ found. TokensAreInOrder 0 (length text.now) found) }
     ensures within { IfOk result (λ found. All (IsTokenOf text.now) found) }
 {
     match std::str::from_utf8(text) {

@@ -14,7 +14,7 @@ use Rattle.schema_types.specs.declared.errors.SchemaError.{SchemaError}
 use Rattle.schema_types.specs.declared.types.Column.{Column}
 use Rattle.schema_types.specs.declared.types.Schema.{Schema}
 use Rattle.schema_types.specs.declared.types.Table.{Table}
-use Rattle.schema_types.specs.Meaning.{bound, element_column, schema_of, table_of, unless_found, within_limits}
+use Rattle.schema_types.specs.Meaning.{schema_or_refusal, element_column, schema_of, table_of, unless_found, within_limits}
 use Rattle.schema_types.specs.Names.{first}
 use Rattle.schema_types.specs.Offences.{offences}
 use Rattle.schema_types.specs.Refusals.{above, column_counts, nullable_places, text_lengths}
@@ -92,7 +92,7 @@ same_schema : (a b : Schema) → ◌≡◌ {A = Result Schema SchemaError} (Ok a
 same_schema a b e = cc
 
 pub declared_bytes : (text : List ℕ) (schema : Schema) → Declares text (Ok schema) → HasByteColumns schema
-unfolding bound within_limits
+unfolding schema_or_refusal within_limits
 declared_bytes text schema d =
     let named = passed (first (offences text d.tables)) _ _ schema d.answers in
     let full = passed (first (nullable_places text d.tables)) _ _ schema named in

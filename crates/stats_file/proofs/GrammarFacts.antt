@@ -14,10 +14,10 @@ use Rattle.stats_file.specs.declared.types.Datum.TheVariants as datum
 use Rattle.stats_file.specs.declared.types.Pair.{Pair}
 use Rattle.stats_file.specs.declared.types.TableStats.{TableStats}
 use Rattle.stats_file.specs.declared.types.StatsFile.{StatsFile}
-use Rattle.stats_file.specs.FileText.{column_name, file_lines, name_at, node_line, pair_lines, section_lines, table_lines, value_line}
+use Rattle.stats_file.specs.FileText.{column_name, file_lines, name_at, histogram_node_line, pair_lines, section_lines, table_lines, value_line}
 use Rattle.stats_file.specs.Grammar.{ArePairLines, AreTableLines, IsCutLine, IsFrequentLine, IsNodeLine, IsText, IsValueWord}
 use Rattle.stats_file.specs.Lines.{cut_line, datum_text, first_line, hex_text, list_line, pair_line, runs_text, table_line}
-use Rattle.stats_file.specs.Rules.{IsList, IsOfKind, IsPair, IsSection, IsTreeOf, KeepsRules}
+use Rattle.stats_file.specs.Rules.{IsList, IsOfKind, IsPair, IsSection, IsHistogramOf, KeepsRules}
 use Rattle.stats_file.specs.Runs.{runs_of}
 use Rattle.stats_file.proofs.WordFacts.{hex_word, list_word, numeral, signed_numeral}
 
@@ -35,11 +35,11 @@ value_word (datum.Int number) (kind.Text most) never bytes = absurd never
 value_word (datum.Text text) kind.Int never bytes = absurd never
 value_word (datum.Text text) (kind.Text most) utf8 bytes = inr (hex_word text bytes)
 
-pub cuts_are_of : (k : Kind) (rows : ℕ) (cuts : List Datum) (nodes : List (List ℕ)) → IsTreeOf k rows cuts nodes → All (IsOfKind k) cuts
+pub cuts_are_of : (k : Kind) (rows : ℕ) (cuts : List Datum) (nodes : List (List ℕ)) → IsHistogramOf k rows cuts nodes → All (IsOfKind k) cuts
 cuts_are_of k zero cuts nodes (none, others) = subst (λ (ds : List Datum). All (IsOfKind k) ds) (sym none) (λ i d lt. absurd (omega arith))
 cuts_are_of k (suc n) cuts nodes tree = tree.values
 
-pub nodes_are_lists : (k : Kind) (rows : ℕ) (cuts : List Datum) (nodes : List (List ℕ)) → IsTreeOf k rows cuts nodes → All (IsList rows) nodes
+pub nodes_are_lists : (k : Kind) (rows : ℕ) (cuts : List Datum) (nodes : List (List ℕ)) → IsHistogramOf k rows cuts nodes → All (IsList rows) nodes
 nodes_are_lists k zero cuts nodes (none, others) = subst (λ (ns : List (List ℕ)). All (IsList zero) ns) (sym others) (λ i d lt. absurd (omega arith))
 nodes_are_lists k (suc n) cuts nodes tree = tree.lists
 
@@ -58,7 +58,7 @@ pair_is table rows pair few names is bytes =
       frequent = map value_line pair.frequent;
       rest = list_line (codes "rest") (runs_of pair.rest);
       cuts = map cut_line pair.cuts;
-      nodes = map node_line pair.nodes;
+      nodes = map histogram_node_line pair.nodes;
       head_is = record {
         first = hex_text (name_at table pair.filter);
         second = hex_text (name_at table pair.joined);
@@ -80,7 +80,7 @@ pair_is table rows pair few names is bytes =
         word_is = value_word (get_or pair.cuts k d) is.filter.kind (cuts_are_of is.filter.kind rows pair.cuts pair.nodes is.tree k d lt) (bytes.cuts k d lt);
         whole = refl;
       });
-      nodes_are = all_mapped node_line IsNodeLine pair.nodes (λ k d lt. record {
+      nodes_are = all_mapped histogram_node_line IsNodeLine pair.nodes (λ k d lt. record {
         word = runs_text (runs_of (get_or pair.nodes k d));
         word_is = list_word rows (get_or pair.nodes k d) few (nodes_are_lists is.filter.kind rows pair.cuts pair.nodes is.tree k d lt);
         whole = refl;

@@ -7,7 +7,7 @@ use Rattle.schema_types.specs.declared.types.Schema.{Schema}
 use Rattle.stats_file.specs.declared.types.Pair.{Pair}
 use Rattle.stats_file.specs.declared.types.TableStats.{TableStats}
 use Rattle.stats_file.specs.declared.types.StatsFile.{StatsFile}
-use Rattle.stats_file.specs.FileText.{file_lines, file_text, name_at, node_line, pair_lines, section_lines, table_lines, value_line}
+use Rattle.stats_file.specs.FileText.{file_lines, file_text, name_at, histogram_node_line, pair_lines, section_lines, table_lines, value_line}
 use Rattle.stats_file.specs.Lines.{cut_line, end_line, first_line, list_line, pair_line, table_line}
 use Rattle.stats_file.specs.Runs.{runs_of}
 
@@ -25,19 +25,19 @@ concat-each f (x ∷ xs) = concat-append (f x) (flat_map f xs) ∙ ap (λ rest. 
 
 -- what stands behind `rest`
 abbrev pub tree_part : Pair → List ℕ
-tree_part pair = flat_map cut_line pair.cuts ++ flat_map node_line pair.nodes
+tree_part pair = flat_map cut_line pair.cuts ++ flat_map histogram_node_line pair.nodes
 
-tree_is : (pair : Pair) → concat (map cut_line pair.cuts ++ map node_line pair.nodes) ≡ tree_part pair
-tree_is pair = concat-append (map cut_line pair.cuts) (map node_line pair.nodes)
-    ∙ ap (λ rest. rest ++ concat (map node_line pair.nodes)) (concat-map cut_line pair.cuts)
-    ∙ ap (λ rest. flat_map cut_line pair.cuts ++ rest) (concat-map node_line pair.nodes)
+tree_is : (pair : Pair) → concat (map cut_line pair.cuts ++ map histogram_node_line pair.nodes) ≡ tree_part pair
+tree_is pair = concat-append (map cut_line pair.cuts) (map histogram_node_line pair.nodes)
+    ∙ ap (λ rest. rest ++ concat (map histogram_node_line pair.nodes)) (concat-map cut_line pair.cuts)
+    ∙ ap (λ rest. flat_map cut_line pair.cuts ++ rest) (concat-map histogram_node_line pair.nodes)
 
 pub pair_text_is : (table : Table) (pair : Pair) → concat (pair_lines table pair)
     ≡ pair_line (name_at table pair.filter) (name_at table pair.joined) ++ (list_line (codes "whole") (runs_of pair.whole)
     ++ (flat_map value_line pair.frequent ++ (list_line (codes "rest") (runs_of pair.rest) ++ tree_part pair)))
 unfolding pair_lines
 pair_text_is table pair =
-    let tree = map cut_line pair.cuts ++ map node_line pair.nodes in
+    let tree = map cut_line pair.cuts ++ map histogram_node_line pair.nodes in
     let rest = list_line (codes "rest") (runs_of pair.rest) in
     ap (λ x. pair_line (name_at table pair.filter) (name_at table pair.joined) ++ (list_line (codes "whole") (runs_of pair.whole) ++ x))
     (concat-append (map value_line pair.frequent) (rest ∷ tree)

@@ -23,13 +23,13 @@ name_at table place = column_name (slice_get table.columns place)
 abbrev pub value_line : Datum × List ℕ → List ℕ
 value_line frequent = frequent_line frequent.0 (runs_of frequent.1)
 
-abbrev pub node_line : List ℕ → List ℕ
-node_line node = list_line (codes "node") (runs_of node)
+abbrev pub histogram_node_line : List ℕ → List ℕ
+histogram_node_line node = list_line (codes "node") (runs_of node)
 
 unfoldable pub pair_lines : Table → Pair → List (List ℕ)
 pair_lines table pair = pair_line (name_at table pair.filter) (name_at table pair.joined)
     ∷ (list_line (codes "whole") (runs_of pair.whole) ∷ (map value_line pair.frequent
-    ++ (list_line (codes "rest") (runs_of pair.rest) ∷ (map cut_line pair.cuts ++ map node_line pair.nodes))))
+    ++ (list_line (codes "rest") (runs_of pair.rest) ∷ (map cut_line pair.cuts ++ map histogram_node_line pair.nodes))))
 
 -- the lines of a section over its table; a section of no table of the schema has none
 unfoldable pub table_lines : Option Table → TableStats → List (List ℕ)

@@ -47,7 +47,7 @@ pub record AreFrequent (kind : Kind) (rows : ℕ) (frequent : List (Datum × Lis
   pub lists : All (λ (f : Datum × List ℕ). IsList rows f.1) frequent
 
 -- 32 values of the column that don't fall, and 63 lists
-pub record IsTree (kind : Kind) (rows : ℕ) (cuts : List Datum) (nodes : List (List ℕ)) : Type 0 where
+pub record IsHistogram (kind : Kind) (rows : ℕ) (cuts : List Datum) (nodes : List (List ℕ)) : Type 0 where
   pub leaves : length cuts ≡ 32
   pub values : All (IsOfKind kind) cuts
   pub order : AllPairs (λ a b. datum_cmp a b ≢ Greater) cuts
@@ -55,9 +55,9 @@ pub record IsTree (kind : Kind) (rows : ℕ) (cuts : List Datum) (nodes : List (
   pub lists : All (IsList rows) nodes
 
 -- no tree where there are no rows
-abbrev pub IsTreeOf : Kind → ℕ → List Datum → List (List ℕ) → Type 0
-IsTreeOf kind zero cuts nodes = (cuts ≡ []) × (nodes ≡ [])
-IsTreeOf kind (suc n) cuts nodes = IsTree kind (suc n) cuts nodes
+abbrev pub IsHistogramOf : Kind → ℕ → List Datum → List (List ℕ) → Type 0
+IsHistogramOf kind zero cuts nodes = (cuts ≡ []) × (nodes ≡ [])
+IsHistogramOf kind (suc n) cuts nodes = IsHistogram kind (suc n) cuts nodes
 
 -- statistics of two columns of a table with so many rows
 pub record IsPair (table : Table) (rows : ℕ) (pair : Pair) : Type 0 where
@@ -68,7 +68,7 @@ pub record IsPair (table : Table) (rows : ℕ) (pair : Pair) : Type 0 where
   pub all_rows : sum pair.whole ≡ rows
   pub frequent : AreFrequent filter.kind rows pair.frequent
   pub rest : IsList rows pair.rest
-  pub tree : IsTreeOf filter.kind rows pair.cuts pair.nodes
+  pub tree : IsHistogramOf filter.kind rows pair.cuts pair.nodes
 
 -- ascending by the filter column, and then by the joined column
 abbrev pub StandsBefore : Pair → Pair → Type 0

@@ -2,11 +2,11 @@
 use Rattle.std.proofs.Common.{◌≡◌, ◌≢◌, ◌⊎◌, inl, inr, ℕ, zero, suc, ◌≤◌, Bool, true, false, List, [], ◌∷◌, ◌++◌, length, length-append, refl, ap, sym, subst, ◌∙◌, arith}
 use Rattle.std.specs.Prelude.{codes}
 use Rattle.stats_file.specs.Grammar.{are_hex_pairs, is_numeral, AreRunWords, IsHexWord, IsListWord, IsNumeral, IsRunWord, IsSignedNumeral, IsValueWord}
-use Rattle.stats_words.specs.Splits.{IsSplit, Without}
+use Rattle.stats_words.specs.Splits.{IsSplitAt, Without}
 use Rattle.stats_words.proofs.ListWordFacts.{last_run, run_more}
 use Rattle.stats_reading.specs.declared.line.LineKind.{LineKind}
 use Rattle.stats_reading.specs.declared.line.LineKind.TheVariants as kind
-use Rattle.stats_reading.specs.Kinds.{front, has_two, words_text, AreParts, IsLineOf}
+use Rattle.stats_reading.specs.Kinds.{front, has_two, words_text, AreLineParts, IsLineOf}
 use Rattle.stats_lines.proofs.Deciding.{alike, both, either, is_true, not, same_number, same_numbers, some_split, Decided}
 
 -- ---- words
@@ -72,7 +72,7 @@ run_word word = alike to from (some_split {P = λ value rest. IsNumeral value ×
     from is = (is.value, 42 ∷ is.count, is.whole, (is.value_is, (is.count, refl, is.count_is)))
 
 -- a text up to its first byte of a kind, where it has one
-first_split : (byte : ℕ) (text : List ℕ) → Without byte text ⊎ ((front : List ℕ) × (rest : List ℕ) × IsSplit byte text front rest)
+first_split : (byte : ℕ) (text : List ℕ) → Without byte text ⊎ ((front : List ℕ) × (rest : List ℕ) × IsSplitAt byte text front rest)
 first_split byte [] = inl (λ k d lt. absurd (omega arith))
 first_split byte (c ∷ text) = by (same_number c byte) (first_split byte text)
   where
@@ -80,8 +80,8 @@ first_split byte (c ∷ text) = by (same_number c byte) (first_split byte text)
     none other free zero d lt = other
     none other free (suc k) d lt = free k d (omega arith)
 
-    by : Decided (c ≡ byte) → Without byte text ⊎ ((front : List ℕ) × (rest : List ℕ) × IsSplit byte text front rest)
-        → Without byte (c ∷ text) ⊎ ((front : List ℕ) × (rest : List ℕ) × IsSplit byte (c ∷ text) front rest)
+    by : Decided (c ≡ byte) → Without byte text ⊎ ((front : List ℕ) × (rest : List ℕ) × IsSplitAt byte text front rest)
+        → Without byte (c ∷ text) ⊎ ((front : List ℕ) × (rest : List ℕ) × IsSplitAt byte (c ∷ text) front rest)
     by (inl e) more = inr ([], text, record { first = λ k d lt. absurd (omega arith); whole = ap (λ (x : ℕ). x ∷ text) e })
     by (inr other) (inl free) = inl (none other free)
     by (inr other) (inr (front', rest, split)) = inr (c ∷ front', rest, record { first = more; whole = ap (λ (x : List ℕ). c ∷ x) split.whole })
@@ -94,13 +94,13 @@ first_split byte (c ∷ text) = by (same_number c byte) (first_split byte text)
 run_words : (most : ℕ) (word : List ℕ) → length word ≤ most → Decided (AreRunWords word)
 run_words zero word few = by (first_split 32 word)
   where
-    by : Without 32 word ⊎ ((run : List ℕ) × (others : List ℕ) × IsSplit 32 word run others) → Decided (AreRunWords word)
+    by : Without 32 word ⊎ ((run : List ℕ) × (others : List ℕ) × IsSplitAt 32 word run others) → Decided (AreRunWords word)
     by (inl free) = let h = last_run word free in alike h.1 h.0 (run_word word)
     by (inr (run', others, split)) =
         let whole = ap length split.whole ∙ length-append run' (32 ∷ others) in absurd (omega arith)
 run_words (suc most) word few = by (first_split 32 word) (run_words most)
   where
-    by : Without 32 word ⊎ ((run : List ℕ) × (others : List ℕ) × IsSplit 32 word run others) → ((others : List ℕ) → length others ≤ most → Decided (AreRunWords others)) → Decided (AreRunWords word)
+    by : Without 32 word ⊎ ((run : List ℕ) × (others : List ℕ) × IsSplitAt 32 word run others) → ((others : List ℕ) → length others ≤ most → Decided (AreRunWords others)) → Decided (AreRunWords word)
     by (inl free) fewer = let h = last_run word free in alike h.1 h.0 (run_word word)
     by (inr (run', others, split)) fewer =
         let whole = ap length split.whole ∙ length-append run' (32 ∷ others) in
@@ -115,7 +115,7 @@ list_word word = either (same_numbers word (codes "-")) (run_words (length word)
 nothing : (word : List ℕ) → Decided (word ≡ [])
 nothing word = same_numbers word []
 
-parts : (k : LineKind) (first second : List ℕ) → Decided (AreParts k first second)
+parts : (k : LineKind) (first second : List ℕ) → Decided (AreLineParts k first second)
 parts kind.First first second = both (numeral first) (nothing second)
 parts kind.Table first second = both (hex_word first) (numeral second)
 parts kind.Pair first second = both (hex_word first) (hex_word second)
@@ -133,13 +133,13 @@ pub record IsLine (k : LineKind) (line : List ℕ) : Type 0 where
   pub is : IsLineOf k first second line
 
 abbrev HasWords : LineKind → List ℕ → Type 0
-HasWords k words = (first : List ℕ) × (second : List ℕ) × (words ≡ words_text k first second) × AreParts k first second
+HasWords k words = (first : List ℕ) × (second : List ℕ) × (words ≡ words_text k first second) × AreLineParts k first second
 
 -- one word, or two with a blank between them
 words_of : (k : LineKind) (words : List ℕ) → Decided (HasWords k words)
 words_of k words = by (has_two k) refl
   where
-    alone : (k : LineKind) (first second : List ℕ) → has_two k ≡ false → AreParts k first second → second ≡ []
+    alone : (k : LineKind) (first second : List ℕ) → has_two k ≡ false → AreLineParts k first second → second ≡ []
     alone kind.First first second one are = are.1
     alone kind.Table first second one are = absurd (cc)
     alone kind.Pair first second one are = absurd (cc)
@@ -157,27 +157,27 @@ words_of k words = by (has_two k) refl
     two_text first second two = rw two refl
 
     Behind : List ℕ → List ℕ → Type 0
-    Behind first rest = (second : List ℕ) × (rest ≡ 32 ∷ second) × AreParts k first second
+    Behind first rest = (second : List ℕ) × (rest ≡ 32 ∷ second) × AreLineParts k first second
 
     behind : (first rest : List ℕ) → Decided (Behind first rest)
     behind first [] = inr (λ h. let e = h.1 in absurd (cc))
     behind first (c ∷ w) = alike (λ h. (w, ap (λ (x : ℕ). x ∷ w) h.0, h.1)) back (both (same_number c 32) (parts k first w))
       where
-        back : Behind first (c ∷ w) → (c ≡ 32) × AreParts k first w
+        back : Behind first (c ∷ w) → (c ≡ 32) × AreLineParts k first w
         back (second, e, are) =
             let blank : c ≡ 32 = cc in
             let rest : second ≡ w = cc in
-            (blank, subst (λ (x : List ℕ). AreParts k first x) rest are)
+            (blank, subst (λ (x : List ℕ). AreLineParts k first x) rest are)
 
     by : (two : Bool) → has_two k ≡ two → Decided (HasWords k words)
     by false one = alike to from (parts k words [])
       where
-        to : AreParts k words [] → HasWords k words
+        to : AreLineParts k words [] → HasWords k words
         to are = (words, [], sym (one_text words [] one), are)
 
-        from : HasWords k words → AreParts k words []
+        from : HasWords k words → AreLineParts k words []
         from (first, second, e, are) =
-            subst (λ (x : List ℕ). AreParts k x []) (sym (e ∙ one_text first second one)) (subst (λ (x : List ℕ). AreParts k first x) (alone k first second one are) are)
+            subst (λ (x : List ℕ). AreLineParts k x []) (sym (e ∙ one_text first second one)) (subst (λ (x : List ℕ). AreLineParts k first x) (alone k first second one are) are)
     by true two = alike to from (some_split {P = Behind} behind words)
       where
         to : (first : List ℕ) × (rest : List ℕ) × (words ≡ first ++ rest) × Behind first rest → HasWords k words

@@ -10,7 +10,7 @@ use Rattle.stats_file.specs.Lines.{datum_text}
 use Rattle.stats_file.specs.Rules.{datum_cmp, IsList, IsOfKind}
 use Rattle.stats_words.specs.Runs.{list_text}
 use Rattle.stats_reading.specs.declared.draft.Draft.{Draft}
-use Rattle.stats_reading.specs.Drafts.{frequent_words, list_word, number_word, value_word, CutFollows, FrequentFollows, IsSameRest, IsSameTotal, IsSameValue, IsWhole, MayBeAccuracy, MayBeCut, MayBeFrequent, MayBeNode, MayBeRest, MayBeWhole, NodeFollows, RestFollows, WholeFollows}
+use Rattle.stats_reading.specs.Drafts.{frequent_words, list_word, number_word, value_word, CutFollows, FrequentFollows, IsSameRest, IsSameTotal, IsSameValue, HasAllNodes, MayBeAccuracy, MayBeCut, MayBeFrequent, MayBeNode, MayBeRest, MayBeWhole, NodeFollows, RestFollows, WholeFollows}
 use Rattle.stats_lines.proofs.Deciding.{alike, at_most, below, both, for_all, is_there, less, not, same_number, same_numbers, where_found, Decided}
 use Rattle.stats_lines.proofs.Values.{list, same_value, value, Spelled}
 
@@ -29,7 +29,7 @@ first_word words = words.0
 follows_whole : (s : Draft) (l : List ℕ) → Decided (WholeFollows s l)
 follows_whole s l =
     alike (λ h. record { all = h.0; alike = h.1 }) (λ h. (h.all, h.alike))
-    (both (same_number (sum l) s.section.rows) (where_found {P = λ q. q.whole ≡ l} (λ (q : Pair). same_numbers q.whole l) s.section.pairs s.twin))
+    (both (same_number (sum l) s.section.rows) (where_found {P = λ q. q.whole ≡ l} (λ (q : Pair). same_numbers q.whole l) s.section.pairs s.same_joined_at))
 
 same_frequent : (place : ℕ) (f : Datum × List ℕ) (q : Pair) → Decided (IsSameValue place f q)
 same_frequent place f q =
@@ -40,7 +40,7 @@ follows_frequent : (s : Draft) (f : Datum × List ℕ) → Decided (FrequentFoll
 follows_frequent s f =
     alike (λ h. record { few = h.0; differs = h.1.0; alike = h.1.1 }) (λ h. (h.few, (h.differs, h.alike)))
     (both (less (length s.pair.frequent) 32) (both (for_all {P = λ (e : Datum × List ℕ). e.0 ≢ f.0} (λ e. not (same_value e.0 f.0)) s.pair.frequent)
-    (where_found {P = IsSameValue (length s.pair.frequent) f} (same_frequent (length s.pair.frequent) f) s.section.pairs s.like)))
+    (where_found {P = IsSameValue (length s.pair.frequent) f} (same_frequent (length s.pair.frequent) f) s.section.pairs s.same_filter_at)))
 
 same_rest : (count : ℕ) (l : List ℕ) (q : Pair) → Decided (IsSameRest count l q)
 same_rest count l q =
@@ -48,7 +48,7 @@ same_rest count l q =
 
 follows_rest : (s : Draft) (l : List ℕ) → Decided (RestFollows s l)
 follows_rest s l =
-    alike (λ h. record { alike = h }) (λ h. h.alike) (where_found {P = IsSameRest (length s.pair.frequent) l} (same_rest (length s.pair.frequent) l) s.section.pairs s.like)
+    alike (λ h. record { alike = h }) (λ h. h.alike) (where_found {P = IsSameRest (length s.pair.frequent) l} (same_rest (length s.pair.frequent) l) s.section.pairs s.same_filter_at)
 
 not_greater : (o : Ordering) → Decided (o ≢ Greater)
 not_greater Less = inl (λ e. cc)
@@ -65,7 +65,7 @@ follows_cut s cut =
     alike (λ h. record { some = h.0; few = h.1.0; order = h.1.1.0; alike = h.1.1.1 }) (λ h. (h.some, (h.few, (h.order, h.alike))))
     (both (less 0 s.section.rows) (both (less (length s.pair.cuts) 32) (both
     (where_found {P = λ last. datum_cmp last cut ≢ Greater} (λ last. not_greater (datum_cmp last cut)) s.pair.cuts (length s.pair.cuts - 1))
-    (where_found {P = λ q. slice_get q.cuts (length s.pair.cuts) ≡ Some cut} (λ (q : Pair). same_cut q.cuts (length s.pair.cuts) cut) s.section.pairs s.like))))
+    (where_found {P = λ q. slice_get q.cuts (length s.pair.cuts) ≡ Some cut} (λ (q : Pair). same_cut q.cuts (length s.pair.cuts) cut) s.section.pairs s.same_filter_at))))
 
 same_total : (place : ℕ) (node : List ℕ) (q : Pair) → Decided (IsSameTotal place node q)
 same_total place node q =
@@ -76,12 +76,12 @@ follows_node : (s : Draft) (node : List ℕ) → Decided (NodeFollows s node)
 follows_node s node =
     alike (λ h. record { some = h.0; all_cuts = h.1.0; few = h.1.1.0; alike = h.1.1.1 }) (λ h. (h.some, (h.all_cuts, (h.few, h.alike))))
     (both (less 0 s.section.rows) (both (same_number (length s.pair.cuts) 32) (both (less (length s.pair.nodes) 63)
-    (where_found {P = IsSameTotal (length s.pair.nodes) node} (same_total (length s.pair.nodes) node) s.section.pairs s.like))))
+    (where_found {P = IsSameTotal (length s.pair.nodes) node} (same_total (length s.pair.nodes) node) s.section.pairs s.same_filter_at))))
 
-pub is_whole : (s : Draft) → Decided (IsWhole s)
+pub is_whole : (s : Draft) → Decided (HasAllNodes s)
 is_whole s = by (less 0 s.section.rows) (both (same_number (length s.pair.cuts) 32) (same_number (length s.pair.nodes) 63))
   where
-    by : Decided (0 < s.section.rows) → Decided ((length s.pair.cuts ≡ 32) × (length s.pair.nodes ≡ 63)) → Decided (IsWhole s)
+    by : Decided (0 < s.section.rows) → Decided ((length s.pair.cuts ≡ 32) × (length s.pair.nodes ≡ 63)) → Decided (HasAllNodes s)
     by some (inl all) = inl (λ h. all)
     by (inl some) (inr fails) = inr (λ h. fails (h some))
     by (inr none) (inr fails) = inl (λ h. absurd (none h))

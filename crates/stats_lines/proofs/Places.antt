@@ -118,11 +118,11 @@ pub record Begun (table : Table) (s : Draft) (filter joined : ℕ) : Type 0 wher
 pub begun : (table : Table) (s : Draft) (filter joined : ℕ) → filter < length table.columns → Begun table s filter joined
 begun table s filter joined lt = by (slice_get table.columns filter) refl
   where
-    like : PlaceIn (λ q. q.filter) filter s.section.pairs
-    like = place_in (λ q. q.filter) filter s.section.pairs
+    same_filter_at : PlaceIn (λ q. q.filter) filter s.section.pairs
+    same_filter_at = place_in (λ q. q.filter) filter s.section.pairs
 
-    twin : PlaceIn (λ q. q.joined) joined s.section.pairs
-    twin = place_in (λ q. q.joined) joined s.section.pairs
+    same_joined_at : PlaceIn (λ q. q.joined) joined s.section.pairs
+    same_joined_at = place_in (λ q. q.joined) joined s.section.pairs
 
     by : (found : Option Column) → slice_get table.columns filter ≡ found → Begun table s filter joined
     by None e = absurd (none_within table.columns filter lt e)
@@ -132,6 +132,6 @@ begun table s filter joined lt = by (slice_get table.columns filter) refl
         none_within (x ∷ xs) zero lt e = cc
         none_within (x ∷ xs) (suc k) lt e = none_within xs k (omega arith) e
     by (Some column) e = record {
-      draft = record s { pair = empty_pair filter joined; kind = column.kind; like = like.place; twin = twin.place };
-      begins = record { column = column; column_is = e; like = like.is; twin = twin.is; whole = refl };
+      draft = record s { pair = empty_pair filter joined; kind = column.kind; same_filter_at = same_filter_at.place; same_joined_at = same_joined_at.place };
+      begins = record { column = column; column_is = e; same_filter_at = same_filter_at.is; same_joined_at = same_joined_at.is; whole = refl };
     }

@@ -11,8 +11,8 @@ use Rattle.stats_reading.specs.declared.line.LineKind.{LineKind}
 use Rattle.stats_reading.specs.declared.line.LineKind.TheVariants as kind
 use Rattle.stats_reading.specs.declared.stages.Stage.{Stage}
 use Rattle.stats_reading.specs.declared.stages.Stage.TheVariants as stage
-use Rattle.stats_reading.specs.Drafts.{empty_section, frequent_words, list_word, number_word, pair_ended, pair_words, table_ended, table_words, value_word, IsWhole, with_cut, with_frequent, with_node, with_rest, with_whole, BeginsPair, MayBeAccuracy, MayBeCut, MayBeFrequent, MayBeNode, MayBePair, MayBeRest, MayBeTable, MayBeWhole, Takes}
-use Rattle.stats_reading.specs.Goes.{Answers, BeginsPairOf, ReadsAt}
+use Rattle.stats_reading.specs.Drafts.{empty_section, frequent_words, list_word, number_word, pair_ended, pair_words, table_ended, table_words, value_word, HasAllNodes, with_cut, with_frequent, with_node, with_rest, with_whole, BeginsPair, MayBeAccuracy, MayBeCut, MayBeFrequent, MayBeNode, MayBePair, MayBeRest, MayBeTable, MayBeWhole, Takes}
+use Rattle.stats_reading.specs.Goes.{LineAnswers, BeginsPairOf, WordsAreRead}
 use Rattle.stats_reading.specs.Stages.{next_stage}
 use Rattle.stats_reading.specs.Steps.{PairEnds, TableEnds}
 use Rattle.stats_reading.specs.Valid.{IsValidDraft}
@@ -49,12 +49,12 @@ taken text MayBe After s words after (inr none) =
 pair_ends : (at : Stage) (s : Draft) → Decided ((m : Draft) × PairEnds at s m)
 pair_ends stage.Cuts s = by (is_whole s)
   where
-    by : Decided (IsWhole s) → Decided ((m : Draft) × PairEnds stage.Cuts s m)
+    by : Decided (HasAllNodes s) → Decided ((m : Draft) × PairEnds stage.Cuts s m)
     by (inl whole) = inl (pair_ended s, (whole, refl))
     by (inr fails) = inr (λ h. fails h.1.0)
 pair_ends stage.Nodes s = by (is_whole s)
   where
-    by : Decided (IsWhole s) → Decided ((m : Draft) × PairEnds stage.Nodes s m)
+    by : Decided (HasAllNodes s) → Decided ((m : Draft) × PairEnds stage.Nodes s m)
     by (inl whole) = inl (pair_ended s, (whole, refl))
     by (inr fails) = inr (λ h. fails h.1.0)
 pair_ends _ s = inl (s, refl)
@@ -81,7 +81,7 @@ table_ends stage.Done s = open_ends stage.Done s
 record Read (at : Stage) (schema : Schema) (k : LineKind) (s : Draft) (words : List ℕ × List ℕ) : Type 0 where
   draft : Draft
   result : Outcome
-  reads : ReadsAt at schema k s draft words result
+  reads : WordsAreRead at schema k s draft words result
   some : result ≢ Err fault.NoMemory
 
 read_table : (at : Stage) (schema : Schema) (s : Draft) (words : List ℕ × List ℕ) → Read at schema kind.Table s words
@@ -159,7 +159,7 @@ read at schema kind.End s words = read_end at schema s words
 pub record Step (schema : Schema) (s : Draft) (line : List ℕ) : Type 0 where
   pub draft : Draft
   pub result : Result (Unit {0}) Fault
-  pub answers : IsValid schema → IsValidDraft s.stage schema s → Answers schema s draft (ended line) result
+  pub answers : IsValid schema → IsValidDraft s.stage schema s → LineAnswers schema s draft (ended line) result
   pub some : result ≢ Err fault.NoMemory
 
 pub step : (schema : Schema) (s : Draft) (line : List ℕ) → Step schema s line

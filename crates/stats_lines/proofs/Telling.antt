@@ -7,7 +7,7 @@ use Rattle.stats_file.specs.declared.types.StatsError.{StatsError}
 use Rattle.stats_file.specs.declared.types.StatsError.TheVariants as error
 use Rattle.stats_file.specs.declared.types.StatsFile.{StatsFile}
 use Rattle.stats_file.specs.Answers.{Answers as FileAnswers}
-use Rattle.stats_words.specs.Splits.{IsSplit, Without}
+use Rattle.stats_words.specs.Splits.{IsSplitAt, Without}
 use Rattle.stats_words.proofs.SplitFacts.{both_without, front_without}
 use Rattle.stats_reading.specs.declared.draft.Draft.{Draft}
 use Rattle.stats_reading.specs.declared.fault.Fault.{Fault}
@@ -15,8 +15,8 @@ use Rattle.stats_reading.specs.declared.fault.Fault.TheVariants as fault
 use Rattle.stats_reading.specs.declared.stages.Stage.{Stage}
 use Rattle.stats_reading.specs.declared.stages.Stage.TheVariants as stage
 use Rattle.stats_reading.specs.Drafts.{empty_draft}
-use Rattle.stats_reading.specs.Goes.{Answers}
-use Rattle.stats_reading.specs.Left.{file_of}
+use Rattle.stats_reading.specs.Goes.{LineAnswers}
+use Rattle.stats_reading.specs.Left.{file_of_draft}
 use Rattle.stats_reading.specs.Refusals.{refusal_of}
 use Rattle.stats_reading.proofs.Reading.{all_read, read_more, refused, too_early, IsRead}
 use Rattle.stats_reading.proofs.Stepping.{ended}
@@ -45,8 +45,8 @@ at_end schema s line left free = by (both (is_done s.stage) (same_numbers left [
   where
     by : Decided ((s.stage ≡ stage.Done) × (left ≡ [])) → Left schema s line left
     by (inl (done, none)) = record {
-      answer = Ok (file_of s []);
-      answers = λ bytes good h. all_read schema bytes left s line (file_of s []) h done none refl;
+      answer = Ok (file_of_draft s []);
+      answers = λ bytes good h. all_read schema bytes left s line (file_of_draft s []) h done none refl;
       some = λ e. cc;
     }
     by (inr fails) = record { answer = Err (error.Syntax line); answers = λ bytes good h. too_early schema bytes left s line h free fails; some = λ e. cc }
@@ -55,7 +55,7 @@ abbrev refused_by : StatsError → Result StatsFile StatsError
 refused_by why = Err why
 
 -- the line that stands here ends
-at_line : (schema : Schema) (s : Draft) (line : ℕ) (left text others : List ℕ) → IsSplit 10 left text others → (st : Step schema s text) → Left schema st.draft (line + 1) others → Left schema s line left
+at_line : (schema : Schema) (s : Draft) (line : ℕ) (left text others : List ℕ) → IsSplitAt 10 left text others → (st : Step schema s text) → Left schema st.draft (line + 1) others → Left schema s line left
 at_line schema s line left text others split st further = by st.result refl
   where
     not_memory : (f : Fault) → st.result ≡ Err f → refused_by (refusal_of line f) ≢ refused_by error.NoMemory
@@ -68,13 +68,13 @@ at_line schema s line left text others split st further = by st.result refl
       answer = further.answer;
       answers = λ bytes good h.
           further.answers bytes good
-          (read_more schema bytes left text others s st.draft line h split (subst (Answers schema s st.draft (ended text)) is (st.answers good h.valid)));
+          (read_more schema bytes left text others s st.draft line h split (subst (LineAnswers schema s st.draft (ended text)) is (st.answers good h.valid)));
       some = further.some;
     }
     by (Err f) is = record {
       answer = Err (refusal_of line f);
       answers = λ bytes good h.
-          refused schema bytes left text others s st.draft line f h split (subst (Answers schema s st.draft (ended text)) is (st.answers good h.valid));
+          refused schema bytes left text others s st.draft line f h split (subst (LineAnswers schema s st.draft (ended text)) is (st.answers good h.valid));
       some = not_memory f is;
     }
 

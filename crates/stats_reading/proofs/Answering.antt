@@ -14,7 +14,7 @@ use Rattle.stats_reading.specs.declared.line.LineKind.TheVariants as kind
 use Rattle.stats_reading.specs.declared.stages.Stage.{Stage}
 use Rattle.stats_reading.specs.declared.stages.Stage.TheVariants as stage
 use Rattle.stats_reading.specs.Drafts.{list_word, number_word, value_word, with_cut, with_node, with_rest, with_whole, MayBeAccuracy, MayBeCut, MayBeNode, MayBeRest, MayBeWhole, Takes}
-use Rattle.stats_reading.specs.Goes.{Answers, IsReadyAt, Reads, ReadsAt}
+use Rattle.stats_reading.specs.Goes.{LineAnswers, IsReadyAt, LineIsRead, WordsAreRead}
 use Rattle.stats_reading.specs.Kinds.{IsLineOf, IsNoLine}
 use Rattle.stats_reading.specs.Left.{CutsLeft, FileLeft, FrequentLeft, InFile, InPair, InTable, NodesLeft, WholeLeft}
 use Rattle.stats_reading.specs.Stages.{next_stage, TextLeft, TextLeftAt}
@@ -48,7 +48,7 @@ one_part : {X : Type 0} (text : X → List ℕ × List ℕ) (MayBe Then : X → 
 one_part text MayBe Then a b r none h = subst (λ (x : List ℕ). Takes text MayBe Then (a, x) r) (sym none) h
 
 files_at : (at : Stage) (k : LineKind) (schema : Schema) (s t : Draft) (a b l : List ℕ) (r : Result (Unit {0}) Fault) → IsValid schema → IsValidDraft at schema s → IsLineOf k a b l
-    → ReadsAt at schema k s t (a, b) r → FilesGoAt (next_stage at k) at schema s t (ended l) r
+    → WordsAreRead at schema k s t (a, b) r → FilesGoAt (next_stage at k) at schema s t (ended l) r
 files_at stage.Start kind.First schema s t a b l r good valid is h =
     first_goes schema s t a b l r valid is (one_part number_word MayBeAccuracy (λ k. t ≡ record s { accuracy = k }) a b r is.parts.1 h)
 files_at stage.Tables kind.Table schema s t a b l r good valid is h = table_goes stage.Tables schema s t a b l r good (ends_in_tables schema s (ended l) valid) is h
@@ -166,7 +166,7 @@ valid_pair_staged : (Left : Pair → List (List ℕ) → Type 0) (schema : Schem
 valid_pair_staged Left schema t x y v = record {
   table = v.table;
   exists = v.exists;
-  known = record { column = v.known.column; column_is = v.known.column_is; kind_is = v.known.kind_is; like = v.known.like; twin = v.known.twin };
+  known = record { column = v.known.column; column_is = v.known.column_is; kind_is = v.known.kind_is; same_filter_at = v.known.same_filter_at; same_joined_at = v.known.same_joined_at };
   pair = v.pair;
   own = v.own;
   left = v.left;
@@ -212,7 +212,7 @@ pub leaves : (schema : Schema) (s : Draft) (k : LineKind) (a b l : List ℕ) →
 leaves schema s k a b l is none more h = subst (λ (o : Option Stage). TextLeftAt o more) none (text_step s.stage k (ended l) more (kind_line k a b l is) h)
 
 by_result : (schema : Schema) (s t : Draft) (k : LineKind) (next : Stage) (a b l : List ℕ) (r : Result (Unit {0}) Fault) → IsLineOf k a b l → next_stage s.stage k ≡ Some next
-    → FilesGo (FileLeft s.stage schema s) (FileLeft next schema t) (IsValidDraft next schema t) (ended l) r → Answers schema s (staged t next) (ended l) r
+    → FilesGo (FileLeft s.stage schema s) (FileLeft next schema t) (IsValidDraft next schema t) (ended l) r → LineAnswers schema s (staged t next) (ended l) r
 by_result schema s t k next a b l (Ok done) is to h = record {
   files = λ file more. (
     λ x. files_staged next schema t t.stage next file more ((h.0 file more).0 x),
@@ -235,13 +235,13 @@ by_result schema s t k next a b l (Err fault.Rule) is to h =
 by_result schema s t k next a b l (Err fault.NoMemory) is to any = tt
 
 pub answered : (schema : Schema) (s t : Draft) (k : LineKind) (next : Stage) (a b l : List ℕ) (r : Result (Unit {0}) Fault) → IsValid schema → IsValidDraft s.stage schema s → IsLineOf k a b l
-    → next_stage s.stage k ≡ Some next → Reads schema k s t (a, b) r → Answers schema s (staged t next) (ended l) r
+    → next_stage s.stage k ≡ Some next → LineIsRead schema k s t (a, b) r → LineAnswers schema s (staged t next) (ended l) r
 answered schema s t k next a b l r good valid is to h =
     by_result schema s t k next a b l r is to
     (subst (λ (o : Option Stage). FilesGoAt o s.stage schema s t (ended l) r) to (files_at s.stage k schema s t a b l r good valid is h))
 
 -- an answer without a new draft is the same for any
-pub any_draft : (schema : Schema) (s t u : Draft) (line : List ℕ) (e : Fault) → Answers schema s t line (Err e) → Answers schema s u line (Err e)
+pub any_draft : (schema : Schema) (s t u : Draft) (line : List ℕ) (e : Fault) → LineAnswers schema s t line (Err e) → LineAnswers schema s u line (Err e)
 any_draft schema s t u line fault.Syntax h = h
 any_draft schema s t u line fault.Rule h = h
 any_draft schema s t u line fault.NoMemory h = h

@@ -10,7 +10,7 @@ use Rattle.stats_file.specs.Rules.{KeepsRules, StandsBefore}
 use Rattle.stats_reading.specs.declared.draft.Draft.{Draft}
 use Rattle.stats_reading.specs.declared.stages.Stage.TheVariants as stage
 use Rattle.stats_reading.specs.Drafts.{empty_pair, pair_ended, table_ended, IsPlaceOf, PairsAscend, TablesAscend}
-use Rattle.stats_reading.specs.Left.{file_of}
+use Rattle.stats_reading.specs.Left.{file_of_draft}
 use Rattle.stats_reading.specs.Steps.{PairEnds, TableEnds}
 use Rattle.stats_reading.specs.Valid.{IsValidDraft, IsValidTable}
 use Rattle.stats_reading.proofs.Begun.{pair_ended_valid, table_ended_valid}
@@ -80,7 +80,7 @@ later_than_last_table tables place d some ascend = (
 pairs_of_table : (schema : Schema) (s : Draft) → IsValidTable schema s → PairsAscend s
 pairs_of_table schema s v = subst (AllPairs StandsBefore) (append-nil s.section.pairs) (section_at schema s [] [] v.keeps).order
 
-tables_of_file : (schema : Schema) (s : Draft) → KeepsRules schema (file_of s []) → TablesAscend s
+tables_of_file : (schema : Schema) (s : Draft) → KeepsRules schema (file_of_draft s []) → TablesAscend s
 tables_of_file schema s keeps = subst (AllPairs (λ (a b : TableStats). a.table < b.table)) (append-nil s.tables) keeps.order
 
 ended_pairs : (schema : Schema) (s m : Draft) → IsValidTable schema (pair_ended s) → m ≡ pair_ended s → IsValidTable schema m

@@ -15,10 +15,10 @@ use Rattle.stats_file.specs.declared.types.Datum.{Datum}
 use Rattle.stats_file.specs.declared.types.Datum.TheVariants as datum
 use Rattle.stats_file.specs.declared.types.Pair.{Pair}
 use Rattle.stats_file.specs.declared.types.TableStats.{TableStats}
-use Rattle.stats_file.specs.Rules.{datum_cmp, Agree, AreFrequent, CountTheSame, IsList, IsOfKind, IsPair, IsSection, IsTree, IsTreeOf, KeepsRules}
+use Rattle.stats_file.specs.Rules.{datum_cmp, Agree, AreFrequent, CountTheSame, IsList, IsOfKind, IsPair, IsSection, IsHistogram, IsHistogramOf, KeepsRules}
 use Rattle.stats_reading.specs.declared.draft.Draft.{Draft}
-use Rattle.stats_reading.specs.Drafts.{empty_pair, pair_ended, table_ended, AreSmall, BeginsPair, IsPlaceOf, IsWhole, MayBePair, MayBeTable, Place}
-use Rattle.stats_reading.specs.Left.{file_of, frequent_lines, section_of, whole_line, CutsLeft, WholeLeft}
+use Rattle.stats_reading.specs.Drafts.{empty_pair, pair_ended, table_ended, AreSmall, BeginsPair, IsPlaceOf, HasAllNodes, MayBePair, MayBeTable, Place}
+use Rattle.stats_reading.specs.Left.{file_of_draft, frequent_lines, section_of, whole_line, CutsLeft, WholeLeft}
 use Rattle.stats_reading.specs.Valid.{IsValidPair, IsValidTable}
 use Rattle.stats_reading.proofs.Counts.{members_agree}
 use Rattle.stats_reading.proofs.Edges.{begun, ended_is, same_pair, table_is, with_section}
@@ -34,23 +34,23 @@ nothing [] ys e = (refl, e)
 nothing (x ∷ xs) ys e = absurd (cc)
 
 -- where the draft is whole, the pair with which it goes on is the one at hand
-cuts_whole : (kind : Kind) (rows : ℕ) (front old : List Datum) (nodes : List (List ℕ)) → IsTreeOf kind rows (front ++ old) nodes → (0 < rows → length front ≡ 32) → old ≡ []
+cuts_whole : (kind : Kind) (rows : ℕ) (front old : List Datum) (nodes : List (List ℕ)) → IsHistogramOf kind rows (front ++ old) nodes → (0 < rows → length front ≡ 32) → old ≡ []
 cuts_whole kind zero front old nodes (none, others) all = (nothing front old none).1
 cuts_whole kind (suc n) front old nodes is all = no_more front old (is.leaves ∙ sym (all (omega arith)))
 
-nodes_whole : (kind : Kind) (rows : ℕ) (cuts : List Datum) (front old : List (List ℕ)) → IsTreeOf kind rows cuts (front ++ old) → (0 < rows → length front ≡ 63) → old ≡ []
+nodes_whole : (kind : Kind) (rows : ℕ) (cuts : List Datum) (front old : List (List ℕ)) → IsHistogramOf kind rows cuts (front ++ old) → (0 < rows → length front ≡ 63) → old ≡ []
 nodes_whole kind zero cuts front old (none, others) all = (nothing front old others).1
 nodes_whole kind (suc n) cuts front old is all = no_more front old (is.all ∙ sym (all (omega arith)))
 
-pub pair_ended_valid : (schema : Schema) (s : Draft) → IsValidPair (CutsLeft s.pair) schema s → IsWhole s → IsValidTable schema (pair_ended s)
+pub pair_ended_valid : (schema : Schema) (s : Draft) → IsValidPair (CutsLeft s.pair) schema s → HasAllNodes s → IsValidTable schema (pair_ended s)
 pair_ended_valid schema s v whole =
     let rules = rules_of (CutsLeft s.pair) schema s v in
     let cuts = v.left.0 in
     let tree = v.left.1 in
     let g = tree.grows in
     let kind = rules.is.filter.kind in
-    let of_cuts = subst (λ (cs : List Datum). IsTreeOf kind s.section.rows cs v.pair.nodes) g.cuts_is rules.is.tree in
-    let of_nodes = subst (λ (ns : List (List ℕ)). IsTreeOf kind s.section.rows v.pair.cuts ns) g.nodes_is rules.is.tree in
+    let of_cuts = subst (λ (cs : List Datum). IsHistogramOf kind s.section.rows cs v.pair.nodes) g.cuts_is rules.is.tree in
+    let of_nodes = subst (λ (ns : List (List ℕ)). IsHistogramOf kind s.section.rows v.pair.cuts ns) g.nodes_is rules.is.tree in
     let no_cuts = cuts_whole kind s.section.rows s.pair.cuts cuts v.pair.nodes of_cuts (λ some. (whole some).0) in
     let no_nodes = nodes_whole kind s.section.rows v.pair.cuts s.pair.nodes tree.nodes of_nodes (λ some. (whole some).1) in
     let same = same_pair v.pair s.pair g.filter g.joined tree.whole (g.frequent_is ∙ append-nil s.pair.frequent) tree.rest
@@ -59,17 +59,17 @@ pair_ended_valid schema s v whole =
     record {
       table = v.table;
       exists = v.exists;
-      keeps = subst (KeepsRules schema) (ap (λ (p : Pair). file_of s (section_of s (p ∷ []) ∷ [])) same ∙ ended_is s [] []) v.keeps;
+      keeps = subst (KeepsRules schema) (ap (λ (p : Pair). file_of_draft s (section_of s (p ∷ []) ∷ [])) same ∙ ended_is s [] []) v.keeps;
     }
 
 -- ---- a table ends
 
-pub table_ended_valid : (schema : Schema) (s : Draft) → IsValidTable schema s → KeepsRules schema (file_of (table_ended s) [])
+pub table_ended_valid : (schema : Schema) (s : Draft) → IsValidTable schema s → KeepsRules schema (file_of_draft (table_ended s) [])
 table_ended_valid schema s v = subst (KeepsRules schema) (table_is s []) v.keeps
 
 -- ---- a table begins
 
-pub table_begun_valid : (schema : Schema) (s : Draft) (v : Place) → KeepsRules schema (file_of s []) → MayBeTable schema s v → IsValidTable schema (with_section s v)
+pub table_begun_valid : (schema : Schema) (s : Draft) (v : Place) → KeepsRules schema (file_of_draft s []) → MayBeTable schema s v → IsValidTable schema (with_section s v)
 table_begun_valid schema s v keeps may =
     let none : s.tables ++ [] ≡ s.tables = append-nil s.tables in
     let section = section_of (with_section s v) [] in
@@ -124,7 +124,7 @@ some_value_is : (kind : Kind) → IsOfKind kind (some_value kind)
 some_value_is kinds.Int = record { sfits = omega arith }
 some_value_is (kinds.Text most) = IsUtf8-nil
 
-some_tree_is : (kind : Kind) (rows : ℕ) → IsTree kind rows (replicate 32 (some_value kind)) (replicate 63 no_list)
+some_tree_is : (kind : Kind) (rows : ℕ) → IsHistogram kind rows (replicate 32 (some_value kind)) (replicate 63 no_list)
 some_tree_is kind rows = record {
   leaves = length-replicate 32 (some_value kind);
   values = all_same (IsOfKind kind) 32 (some_value kind) (some_value_is kind);
@@ -141,7 +141,7 @@ record Counted (s : Draft) (kind : Kind) (rows filter joined : ℕ) (whole : Lis
   nodes : List (List ℕ)
   are : AreFrequent kind rows frequent
   rest_is : IsList rows rest
-  tree : IsTreeOf kind rows cuts nodes
+  tree : IsHistogramOf kind rows cuts nodes
   counts : (k : ℕ) (d : Pair) → k < length s.section.pairs → (get_or s.section.pairs k d).filter ≡ filter
       → CountTheSame (get_or s.section.pairs k d) (record { filter = filter; joined = joined; whole = whole; frequent = frequent; rest = rest; cuts = cuts; nodes = nodes })
 
@@ -184,7 +184,7 @@ copied table s kind filter joined place whole q is same agree at column = record
   nodes = q.nodes;
   are = subst (λ k. AreFrequent k s.section.rows q.frequent) same is.frequent;
   rest_is = is.rest;
-  tree = subst (λ k. IsTreeOf k s.section.rows q.cuts q.nodes) same is.tree;
+  tree = subst (λ k. IsHistogramOf k s.section.rows q.cuts q.nodes) same is.tree;
   counts = λ k d lt e. again k d ((members_agree s.section.pairs k place d q agree lt at).filter (e ∙ sym column));
 }
   where
@@ -233,17 +233,17 @@ counted table s column filter joined place whole exists are agree found = at (sl
         copied table s column.kind filter joined place whole q is
         (ap (λ (c : Column). c.kind) (same_some is.filter column (slice_get table.columns filter) column_is exists)) agree e same
 
-begun_valid : (schema : Schema) (table : Table) (s : Draft) (filter joined like twin : ℕ) (column : Column) → IsValidTable schema s → slice_get schema.tables s.section.table ≡ Some table
-    → MayBePair table s filter joined → slice_get table.columns filter ≡ Some column → IsPlaceOf (λ q. q.filter) filter s.section.pairs like
-    → IsPlaceOf (λ q. q.joined) joined s.section.pairs twin
-    → IsValidPair (WholeLeft (empty_pair filter joined)) schema (begun s filter joined column.kind like twin)
-begun_valid schema table s filter joined like twin column v exists may column_is has_like has_twin =
+begun_valid : (schema : Schema) (table : Table) (s : Draft) (filter joined same_filter_at same_joined_at : ℕ) (column : Column) → IsValidTable schema s → slice_get schema.tables s.section.table ≡ Some table
+    → MayBePair table s filter joined → slice_get table.columns filter ≡ Some column → IsPlaceOf (λ q. q.filter) filter s.section.pairs same_filter_at
+    → IsPlaceOf (λ q. q.joined) joined s.section.pairs same_joined_at
+    → IsValidPair (WholeLeft (empty_pair filter joined)) schema (begun s filter joined column.kind same_filter_at same_joined_at)
+begun_valid schema table s filter joined same_filter_at same_joined_at column v exists may column_is has_like has_twin =
     let none : s.section.pairs ++ [] ≡ s.section.pairs = append-nil s.section.pairs in
     let rules = section_rules schema table (section_of s []) (section_at schema s [] [] v.keeps) exists in
     let are = subst (All (IsPair table s.section.rows)) none rules.pairs in
     let agree = subst (AllPairs Agree) none rules.agree in
-    let t = totalled table s joined twin are agree has_twin in
-    let n = counted table s column filter joined like t.whole column_is are agree has_like in
+    let t = totalled table s joined same_joined_at are agree has_twin in
+    let n = counted table s column filter joined same_filter_at t.whole column_is are agree has_like in
     let p : Pair = record { filter = filter; joined = joined; whole = t.whole; frequent = n.frequent; rest = n.rest; cuts = n.cuts; nodes = n.nodes } in
     let of_pair : PairRules table s.section.rows s.section.pairs p = record {
       is = record {
@@ -262,7 +262,7 @@ begun_valid schema table s filter joined like twin column v exists may column_is
     record {
       table = table;
       exists = exists;
-      known = record { column = column; column_is = column_is; kind_is = refl; like = has_like; twin = has_twin };
+      known = record { column = column; column_is = column_is; kind_is = refl; same_filter_at = has_like; same_joined_at = has_twin };
       pair = p;
       own = whole_line t.whole ∷ frequent_lines n.frequent n.rest n.cuts n.nodes;
       left = record {
@@ -279,7 +279,7 @@ pub pair_begun_valid : (schema : Schema) (table : Table) (s t : Draft) (filter j
     → MayBePair table s filter joined → BeginsPair table s t filter joined → IsValidPair (WholeLeft t.pair) schema t
 pair_begun_valid schema table s t filter joined v exists may b =
     subst (λ (x : Draft). IsValidPair (WholeLeft x.pair) schema x) (sym b.whole)
-    (begun_valid schema table s filter joined t.like t.twin b.column v exists may b.column_is b.like b.twin)
+    (begun_valid schema table s filter joined t.same_filter_at t.same_joined_at b.column v exists may b.column_is b.same_filter_at b.same_joined_at)
 
 -- ---- totals are small
 
@@ -290,12 +290,12 @@ small_pair table rows q few is = record {
   nodes = λ k d lt. let within : sum (get_or q.nodes k d) ≤ rows = (node_lists is.filter.kind rows q.cuts q.nodes is.tree k d lt).within in omega arith;
 }
   where
-    node_lists : (kind : Kind) (n : ℕ) (cuts : List Datum) (nodes : List (List ℕ)) → IsTreeOf kind n cuts nodes → All (IsList n) nodes
+    node_lists : (kind : Kind) (n : ℕ) (cuts : List Datum) (nodes : List (List ℕ)) → IsHistogramOf kind n cuts nodes → All (IsList n) nodes
     node_lists kind zero cuts nodes (none, others) = subst (λ (ns : List (List ℕ)). All (IsList zero) ns) (sym others) (λ i d lt. absurd (omega arith))
     node_lists kind (suc n) cuts nodes is = is.lists
 
 pub small_pairs : (schema : Schema) (table : Table) (s : Draft) (pairs : List Pair) (tables : List TableStats) → slice_get schema.tables s.section.table ≡ Some table
-    → KeepsRules schema (file_of s (section_of s pairs ∷ tables)) → All AreSmall s.section.pairs
+    → KeepsRules schema (file_of_draft s (section_of s pairs ∷ tables)) → All AreSmall s.section.pairs
 small_pairs schema table s pairs tables exists keeps =
     let at = section_at schema s pairs tables keeps in
     let rules = section_rules schema table (section_of s pairs) at exists in

@@ -15,7 +15,7 @@ use Rattle.stats_file.specs.declared.types.Datum.TheVariants as datum
 use Rattle.stats_file.specs.declared.types.Pair.{Pair}
 use Rattle.stats_file.specs.declared.types.StatsFile.{StatsFile}
 use Rattle.stats_file.specs.Bytes.{AreBytes, ConsistOfBytes, HasBytes, HasByteValues}
-use Rattle.stats_file.specs.Rules.{IsOfKind, IsPair, IsTreeOf, KeepsRules}
+use Rattle.stats_file.specs.Rules.{IsOfKind, IsPair, IsHistogramOf, KeepsRules}
 use Rattle.stats_reading.specs.Names.{HasByteColumns}
 use Rattle.stats_words.proofs.TextFacts.{utf8_bytes}
 
@@ -38,7 +38,7 @@ value_bytes kinds.Int (datum.Text bytes) never = absurd never
 value_bytes (kinds.Text most) (datum.Int n) never = absurd never
 value_bytes (kinds.Text most) (datum.Text bytes) utf8 = utf8_bytes bytes utf8
 
-cut_bytes : (k : Kind) (rows : ℕ) (cuts : List Datum) (nodes : List (List ℕ)) → IsTreeOf k rows cuts nodes → All HasBytes cuts
+cut_bytes : (k : Kind) (rows : ℕ) (cuts : List Datum) (nodes : List (List ℕ)) → IsHistogramOf k rows cuts nodes → All HasBytes cuts
 cut_bytes k zero cuts nodes (none, others) = subst (All HasBytes) (sym none) (λ i d lt. absurd (omega arith))
 cut_bytes k (suc n) cuts nodes is = λ i d lt. value_bytes k (get_or cuts i d) (is.values i d lt)
 

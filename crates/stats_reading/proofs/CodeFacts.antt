@@ -16,7 +16,7 @@ use Rattle.stats_file.specs.declared.types.Pair.{Pair}
 use Rattle.stats_file.specs.Rules.{datum_cmp}
 use Rattle.stats_file.specs.Runs.{runs_of}
 use Rattle.stats_file.proofs.RunFacts.{runs_found}
-use Rattle.stats_words.specs.Splits.{IsSplit, Without}
+use Rattle.stats_words.specs.Splits.{IsSplitAt, Without}
 use Rattle.stats_words.proofs.SplitFacts.{not_without, split_same}
 use Rattle.stats_reading.specs.declared.draft.Draft.{Draft}
 use Rattle.stats_reading.specs.declared.fault.Fault.{Fault}
@@ -25,7 +25,7 @@ use Rattle.stats_reading.specs.declared.line.LineKind.TheVariants as kind
 use Rattle.stats_reading.specs.declared.stages.Stage.{Stage}
 use Rattle.stats_reading.specs.declared.stages.Stage.TheVariants as stage
 use Rattle.stats_reading.specs.Drafts.{table_ended}
-use Rattle.stats_reading.specs.Kinds.{has_two, words_text, AreParts, MayStandBehind}
+use Rattle.stats_reading.specs.Kinds.{has_two, words_text, AreLineParts, MayStandBehind}
 use Rattle.stats_reading.specs.Steps.{Ends, PairEnds, TableEnds}
 use Rattle.stats_reading.proofs.Seams.{same_some}
 use Rattle.stats_reading.proofs.WordFacts.{hex_word_blank, value_blank}
@@ -58,27 +58,27 @@ pub only_here : (pairs : List Pair) (place : ℕ) (q : Pair) (P : Pair → Type 
 only_here pairs place q P b is h =
     (λ t o at. subst P (same_some q o (slice_get pairs place) is at) (h.0 t), λ all. h.1 (all q is))
 
-pub no_blank : (k : LineKind) (words : List ℕ) → has_two k ≡ true → Without 32 words → (first second : List ℕ) → AreParts k first second → words ≡ words_text k first second → ⊥
+pub no_blank : (k : LineKind) (words : List ℕ) → has_two k ≡ true → Without 32 words → (first second : List ℕ) → AreLineParts k first second → words ≡ words_text k first second → ⊥
 no_blank kind.Table words two none first second are e = not_without 32 first second (subst (λ (w : List ℕ). Without 32 w) e none)
 no_blank kind.Pair words two none first second are e = not_without 32 first second (subst (λ (w : List ℕ). Without 32 w) e none)
 no_blank kind.Frequent words two none first second are e = not_without 32 first second (subst (λ (w : List ℕ). Without 32 w) e none)
 no_blank _ words two none first second are e = absurd (cc)
 
 -- where words of the grammar stand there, they are the two that the first blank parts
-pub parts_there : (k : LineKind) (words f s : List ℕ) → has_two k ≡ true → IsSplit 32 words f s → (first second : List ℕ) → AreParts k first second
-    → words ≡ words_text k first second → AreParts k f s
+pub parts_there : (k : LineKind) (words f s : List ℕ) → has_two k ≡ true → IsSplitAt 32 words f s → (first second : List ℕ) → AreLineParts k first second
+    → words ≡ words_text k first second → AreLineParts k f s
 parts_there kind.Table words f s two split first second are e =
     let same = split_same 32 f first s second split.first (hex_word_blank first are.0) (sym split.whole ∙ e) in
-    subst (λ (x : List ℕ). AreParts kind.Table x s) (sym same.0) (subst (λ (x : List ℕ). AreParts kind.Table first x) (sym same.1) are)
+    subst (λ (x : List ℕ). AreLineParts kind.Table x s) (sym same.0) (subst (λ (x : List ℕ). AreLineParts kind.Table first x) (sym same.1) are)
 parts_there kind.Pair words f s two split first second are e =
     let same = split_same 32 f first s second split.first (hex_word_blank first are.0) (sym split.whole ∙ e) in
-    subst (λ (x : List ℕ). AreParts kind.Pair x s) (sym same.0) (subst (λ (x : List ℕ). AreParts kind.Pair first x) (sym same.1) are)
+    subst (λ (x : List ℕ). AreLineParts kind.Pair x s) (sym same.0) (subst (λ (x : List ℕ). AreLineParts kind.Pair first x) (sym same.1) are)
 parts_there kind.Frequent words f s two split first second are e =
     let same = split_same 32 f first s second split.first (value_blank first are.0) (sym split.whole ∙ e) in
-    subst (λ (x : List ℕ). AreParts kind.Frequent x s) (sym same.0) (subst (λ (x : List ℕ). AreParts kind.Frequent first x) (sym same.1) are)
+    subst (λ (x : List ℕ). AreLineParts kind.Frequent x s) (sym same.0) (subst (λ (x : List ℕ). AreLineParts kind.Frequent first x) (sym same.1) are)
 parts_there _ words f s two split first second are e = absurd (cc)
 
-pub two_behind : (k : LineKind) (words f s : List ℕ) → has_two k ≡ true → IsSplit 32 words f s → MayStandBehind k words f s
+pub two_behind : (k : LineKind) (words f s : List ℕ) → has_two k ≡ true → IsSplitAt 32 words f s → MayStandBehind k words f s
 two_behind k words f s two split = record {
   whole = split.whole ∙ sym (two_text k f s two);
   alone = λ one. absurd (cc);

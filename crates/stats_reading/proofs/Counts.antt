@@ -62,23 +62,23 @@ agrees_after table s p other rows known rules at_filter same_filter same_joined 
     let old = rules.agree k d lt in
     record {
       joined = λ e. old.joined (e ∙ same_joined) ∙ sym same_whole;
-      filter = λ e. by_like (e ∙ same_filter) (slice_get s.section.pairs s.like) refl;
+      filter = λ e. by_like (e ∙ same_filter) (slice_get s.section.pairs s.same_filter_at) refl;
     }
   where
-    by_like : (get_or s.section.pairs k d).filter ≡ p.filter → (o : Option Pair) → slice_get s.section.pairs s.like ≡ o → CountTheSame (get_or s.section.pairs k d) other
-    by_like e None is = absurd (known.like.none is k d lt (e ∙ at_filter))
-    by_like e (Some like) is = counts_too (get_or s.section.pairs k d) p other ((rules.agree k d lt).filter e) (counts like is)
+    by_like : (get_or s.section.pairs k d).filter ≡ p.filter → (o : Option Pair) → slice_get s.section.pairs s.same_filter_at ≡ o → CountTheSame (get_or s.section.pairs k d) other
+    by_like e None is = absurd (known.same_filter_at.none is k d lt (e ∙ at_filter))
+    by_like e (Some same_filter_at) is = counts_too (get_or s.section.pairs k d) p other ((rules.agree k d lt).filter e) (counts same_filter_at is)
 
 -- another list of all rows, where it is that of the pair with this joined column
 pub agrees_whole : (table : Table) (s : Draft) (p : Pair) (list : List ℕ) (rows : ℕ) → IsKnown table s → PairRules table rows s.section.pairs p → p.joined ≡ s.pair.joined
     → ((q : Pair) → IsTwin s q → q.whole ≡ list) → All (λ q. Agree q (record p { whole = list })) s.section.pairs
 agrees_whole table s p list rows known rules at_joined alike k d lt =
     let old = rules.agree k d lt in
-    record { joined = λ e. by_twin e (slice_get s.section.pairs s.twin) refl; filter = λ e. again (old.filter e) }
+    record { joined = λ e. by_twin e (slice_get s.section.pairs s.same_joined_at) refl; filter = λ e. again (old.filter e) }
   where
     again : CountTheSame (get_or s.section.pairs k d) p → CountTheSame (get_or s.section.pairs k d) (record p { whole = list })
     again h = record { values = h.values; totals = h.totals; rest = h.rest; cuts = h.cuts; nodes = h.nodes }
 
-    by_twin : (get_or s.section.pairs k d).joined ≡ p.joined → (o : Option Pair) → slice_get s.section.pairs s.twin ≡ o → (get_or s.section.pairs k d).whole ≡ list
-    by_twin e None is = absurd (known.twin.none is k d lt (e ∙ at_joined))
-    by_twin e (Some twin) is = (rules.agree k d lt).joined e ∙ sym (twin_whole table s p rows known rules at_joined twin is) ∙ alike twin is
+    by_twin : (get_or s.section.pairs k d).joined ≡ p.joined → (o : Option Pair) → slice_get s.section.pairs s.same_joined_at ≡ o → (get_or s.section.pairs k d).whole ≡ list
+    by_twin e None is = absurd (known.same_joined_at.none is k d lt (e ∙ at_joined))
+    by_twin e (Some same_joined_at) is = (rules.agree k d lt).joined e ∙ sym (twin_whole table s p rows known rules at_joined same_joined_at is) ∙ alike same_joined_at is

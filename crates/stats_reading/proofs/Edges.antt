@@ -11,16 +11,16 @@ use Rattle.stats_file.specs.declared.types.StatsFile.{StatsFile}
 use Rattle.stats_file.specs.declared.types.TableStats.{TableStats}
 use Rattle.stats_file.specs.FileText.{file_lines, name_at}
 use Rattle.stats_file.specs.Lines.{end_line, first_line, pair_line, table_line}
-use Rattle.stats_file.specs.Rules.{IsPair, IsSection, IsTreeOf, KeepsRules, StandsBefore}
+use Rattle.stats_file.specs.Rules.{IsPair, IsSection, IsHistogramOf, KeepsRules, StandsBefore}
 use Rattle.stats_reading.specs.declared.draft.Draft.{Draft}
-use Rattle.stats_reading.specs.Drafts.{empty_draft, empty_pair, empty_section, pair_ended, table_ended, BeginsPair, IsWhole, MayBeAccuracy, MayBePair, MayBeTable, Place}
-use Rattle.stats_reading.specs.Left.{file_of, frequent_lines, pairs_left, section_of, tables_left, whole_line, CutsLeft, InFile, InPair, InTable, NodesLeft, WholeLeft}
+use Rattle.stats_reading.specs.Drafts.{empty_draft, empty_pair, empty_section, pair_ended, table_ended, BeginsPair, HasAllNodes, MayBeAccuracy, MayBePair, MayBeTable, Place}
+use Rattle.stats_reading.specs.Left.{file_of_draft, frequent_lines, pairs_left, section_of, tables_left, whole_line, CutsLeft, InFile, InPair, InTable, NodesLeft, WholeLeft}
 use Rattle.stats_reading.proofs.Opens.{parts_here, rules_here, Opened}
 use Rattle.stats_reading.proofs.RuleFacts.{section_rules, section_at}
 use Rattle.stats_reading.proofs.Seams.{all_here, pairs_here, same_some}
 use Rattle.stats_reading.proofs.Tags.{after_pairs, from_tables, pair_opened, pair_rest, same_tag, tag, to_tables}
 
-pub whole_tree : (kind : Kind) (rows : ℕ) (cuts : List Datum) (nodes : List (List ℕ)) → IsTreeOf kind rows cuts nodes → 0 < rows → (length cuts ≡ 32) × (length nodes ≡ 63)
+pub whole_tree : (kind : Kind) (rows : ℕ) (cuts : List Datum) (nodes : List (List ℕ)) → IsHistogramOf kind rows cuts nodes → 0 < rows → (length cuts ≡ 32) × (length nodes ≡ 63)
 whole_tree kind zero cuts nodes is lt = absurd (omega arith)
 whole_tree kind (suc n) cuts nodes is lt = (is.leaves, is.all)
 
@@ -36,11 +36,11 @@ same_pair p q a b c d e f g =
 
 -- ---- the pair at hand ends
 
-pub ended_is : (s : Draft) (pairs : List Pair) (tables : List TableStats) → file_of s (section_of s (s.pair ∷ pairs) ∷ tables) ≡ file_of (pair_ended s) (section_of (pair_ended s) pairs ∷ tables)
-ended_is s pairs tables = ap (λ (ps : List Pair). file_of s (record s.section { pairs = ps } ∷ tables)) (sym (append_assoc s.section.pairs (s.pair ∷ []) pairs))
+pub ended_is : (s : Draft) (pairs : List Pair) (tables : List TableStats) → file_of_draft s (section_of s (s.pair ∷ pairs) ∷ tables) ≡ file_of_draft (pair_ended s) (section_of (pair_ended s) pairs ∷ tables)
+ended_is s pairs tables = ap (λ (ps : List Pair). file_of_draft s (record s.section { pairs = ps } ∷ tables)) (sym (append_assoc s.section.pairs (s.pair ∷ []) pairs))
 
 pub pair_closes : (schema : Schema) (s : Draft) (file : StatsFile) (line : List ℕ) (more : List (List ℕ)) → InPair (CutsLeft s.pair) schema s file (line ∷ more) → tag line ≢ 99 → tag line ≢ 110
-    → IsWhole s × InTable schema (pair_ended s) file (line ∷ more)
+    → HasAllNodes s × InTable schema (pair_ended s) file (line ∷ more)
 pair_closes schema s file line more h no_cut no_node =
     let found = (parts_here schema s file line more h).behind no_cut no_node in
     let tree = h.left.1 in
@@ -58,7 +58,7 @@ pair_closes schema s file line more h no_cut no_node =
         pairs = h.pairs;
         tables = h.tables;
         keeps = h.keeps;
-        is = h.is ∙ ap (λ (p : Pair). file_of s (section_of s (p ∷ h.pairs) ∷ h.tables)) same ∙ ended_is s h.pairs h.tables;
+        is = h.is ∙ ap (λ (p : Pair). file_of_draft s (section_of s (p ∷ h.pairs) ∷ h.tables)) same ∙ ended_is s h.pairs h.tables;
         all = found.2;
       },
     )
@@ -91,16 +91,16 @@ pair_reopens schema s file lines h = record {
 
 -- ---- the table at hand ends
 
-pub table_is : (s : Draft) (tables : List TableStats) → file_of s (section_of s [] ∷ tables) ≡ file_of (table_ended s) tables
+pub table_is : (s : Draft) (tables : List TableStats) → file_of_draft s (section_of s [] ∷ tables) ≡ file_of_draft (table_ended s) tables
 table_is s tables =
-    ap (λ (ps : List Pair). file_of s (record s.section { pairs = ps } ∷ tables)) (append-nil s.section.pairs)
+    ap (λ (ps : List Pair). file_of_draft s (record s.section { pairs = ps } ∷ tables)) (append-nil s.section.pairs)
     ∙ ap (λ (ts : List TableStats). record { accuracy = s.accuracy; tables = ts }) (sym (append_assoc s.tables (s.section ∷ []) tables))
 
 pub table_closes : (schema : Schema) (s : Draft) (file : StatsFile) (line : List ℕ) (more : List (List ℕ)) → InTable schema s file (line ∷ more) → tag line ≢ 112
     → InFile schema (table_ended s) file (line ∷ more)
 table_closes schema s file line more h other = by_pairs h.pairs h.is h.all
   where
-    by_pairs : (pairs : List Pair) → file ≡ file_of s (section_of s pairs ∷ h.tables) → line ∷ more ≡ pairs_left schema h.table pairs h.tables → InFile schema (table_ended s) file (line ∷ more)
+    by_pairs : (pairs : List Pair) → file ≡ file_of_draft s (section_of s pairs ∷ h.tables) → line ∷ more ≡ pairs_left schema h.table pairs h.tables → InFile schema (table_ended s) file (line ∷ more)
     by_pairs [] is all = record { tables = h.tables; keeps = h.keeps; is = is ∙ table_is s h.tables; all = all }
     by_pairs (p ∷ rest) is all =
         let whole = all ∙ pair_opened schema h.table p rest h.tables in
@@ -131,7 +131,7 @@ pub open_table : (schema : Schema) (s : Draft) (file : StatsFile) (line : List �
     → Opened line_of_table (MayBeTable schema s) (λ v. InTable schema (with_section s v) file more) line
 open_table schema s file line more h t = by_tables h.tables h.is h.all
   where
-    by_tables : (tables : List TableStats) → file ≡ file_of s tables → line ∷ more ≡ tables_left schema tables
+    by_tables : (tables : List TableStats) → file ≡ file_of_draft s tables → line ∷ more ≡ tables_left schema tables
         → Opened line_of_table (MayBeTable schema s) (λ v. InTable schema (with_section s v) file more) line
     by_tables [] is all = let first : line ≡ end_line = cc in absurd (omega (arith, same_tag line end_line first))
     by_tables (section ∷ rest) is all =
@@ -172,7 +172,7 @@ abbrev pub line_of_pair : Table → ℕ × ℕ → List ℕ
 line_of_pair table c = pair_line (name_at table c.0) (name_at table c.1)
 
 abbrev pub begun : Draft → ℕ → ℕ → Kind → ℕ → ℕ → Draft
-begun s filter joined kind like twin = record s { pair = empty_pair filter joined; kind = kind; like = like; twin = twin }
+begun s filter joined kind same_filter_at same_joined_at = record s { pair = empty_pair filter joined; kind = kind; same_filter_at = same_filter_at; same_joined_at = same_joined_at }
 
 abbrev pub BeginsFor : Schema → Draft → StatsFile → List (List ℕ) → Table → ℕ × ℕ → Type 0
 BeginsFor schema s file more table c = (t : Draft) → BeginsPair table s t c.0 c.1 → InPair (WholeLeft t.pair) schema t file more
@@ -181,7 +181,7 @@ open_pair_of : (schema : Schema) (s : Draft) (file : StatsFile) (line : List ℕ
     → Opened (line_of_pair h.table) (λ c. MayBePair h.table s c.0 c.1) (BeginsFor schema s file more h.table) line
 open_pair_of schema s file line more h t = by_pairs h.pairs h.is h.all
   where
-    by_pairs : (pairs : List Pair) → file ≡ file_of s (section_of s pairs ∷ h.tables) → line ∷ more ≡ pairs_left schema h.table pairs h.tables
+    by_pairs : (pairs : List Pair) → file ≡ file_of_draft s (section_of s pairs ∷ h.tables) → line ∷ more ≡ pairs_left schema h.table pairs h.tables
         → Opened (line_of_pair h.table) (λ c. MayBePair h.table s c.0 c.1) (BeginsFor schema s file more h.table) line
     by_pairs [] is all = absurd (after_pairs schema h.tables line more all t)
     by_pairs (p ∷ rest) is all =
@@ -228,7 +228,7 @@ pub close_pair : (schema : Schema) (table : Table) (s t : Draft) (c : ℕ × ℕ
     → BeginsPair table s t c.0 c.1 → InPair (WholeLeft t.pair) schema t file more → InTable schema s file (line_of_pair table c ∷ more)
 close_pair schema table s t c file more exists b h = at (subst (λ (x : Draft). InPair (WholeLeft x.pair) schema x file more) b.whole h)
   where
-    at : InPair (WholeLeft (empty_pair c.0 c.1)) schema (begun s c.0 c.1 b.column.kind t.like t.twin) file more → InTable schema s file (line_of_pair table c ∷ more)
+    at : InPair (WholeLeft (empty_pair c.0 c.1)) schema (begun s c.0 c.1 b.column.kind t.same_filter_at t.same_joined_at) file more → InTable schema s file (line_of_pair table c ∷ more)
     at i =
         let g = i.left.grows in
         let p = i.pair in
@@ -271,10 +271,10 @@ close_first schema k file more h =
     (h.keeps, ap (λ (ls : List (List ℕ)). first_line k ∷ ls) h.all ∙ ap (λ (f : StatsFile). file_lines schema f) (sym h.is))
 
 pub open_end : (schema : Schema) (s : Draft) (file : StatsFile) (line : List ℕ) (more : List (List ℕ)) → InFile schema s file (line ∷ more) → tag line ≡ 101
-    → KeepsRules schema file × (file ≡ file_of s []) × (more ≡ [])
+    → KeepsRules schema file × (file ≡ file_of_draft s []) × (more ≡ [])
 open_end schema s file line more h t = by_tables h.tables h.is h.all
   where
-    by_tables : (tables : List TableStats) → file ≡ file_of s tables → line ∷ more ≡ tables_left schema tables → KeepsRules schema file × (file ≡ file_of s []) × (more ≡ [])
+    by_tables : (tables : List TableStats) → file ≡ file_of_draft s tables → line ∷ more ≡ tables_left schema tables → KeepsRules schema file × (file ≡ file_of_draft s []) × (more ≡ [])
     by_tables [] is all = (h.keeps, is, cc)
     by_tables (section ∷ rest) is all =
         let keeps = subst (KeepsRules schema) is h.keeps in
@@ -282,5 +282,5 @@ open_end schema s file line more h t = by_tables h.tables h.is h.all
         let lines = from_tables schema section rest at.table line more at.table_is all in
         absurd (omega (arith, same_tag line (table_line at.table.name section.rows) lines.0))
 
-pub close_end : (schema : Schema) (s : Draft) (file : StatsFile) (more : List (List ℕ)) → KeepsRules schema file × (file ≡ file_of s []) × (more ≡ []) → InFile schema s file (end_line ∷ more)
+pub close_end : (schema : Schema) (s : Draft) (file : StatsFile) (more : List (List ℕ)) → KeepsRules schema file × (file ≡ file_of_draft s []) × (more ≡ []) → InFile schema s file (end_line ∷ more)
 close_end schema s file more (keeps, is, none) = record { tables = []; keeps = keeps; is = is; all = ap (λ (ls : List (List ℕ)). end_line ∷ ls) none }

@@ -10,7 +10,7 @@ use Rattle.stats_file.specs.declared.types.Pair.{Pair}
 use Rattle.stats_file.specs.Rules.{AreFrequent, CountTheSame, IsList, IsOfKind, KeepsRules}
 use Rattle.stats_reading.specs.declared.draft.Draft.{Draft}
 use Rattle.stats_reading.specs.Drafts.{with_frequent, with_rest, with_whole, IsLike, MayBeFrequent, MayBeRest, MayBeWhole}
-use Rattle.stats_reading.specs.Left.{file_of, frequent_lines, section_of, tree_lines, CutsLeft, FrequentLeft, WholeLeft}
+use Rattle.stats_reading.specs.Left.{file_of_draft, frequent_lines, section_of, histogram_lines, CutsLeft, FrequentLeft, WholeLeft}
 use Rattle.stats_reading.specs.Valid.{IsKnown, IsValidPair}
 use Rattle.stats_reading.proofs.Counts.{agrees_after, agrees_whole}
 use Rattle.stats_reading.proofs.NextFacts.{kind_of_pair, like_counts, same_count}
@@ -23,7 +23,7 @@ rules_of Left schema s v = pair_rules schema v.table s v.pair [] [] v.exists v.k
 
 -- another pair with which the draft may go on
 pub kept : (Left : Pair → List (List ℕ) → Type 0) (schema : Schema) (s : Draft) (v : IsValidPair Left schema s) (p : Pair) → PairRules v.table s.section.rows s.section.pairs p
-    → KeepsRules schema (file_of s (section_of s (p ∷ []) ∷ []))
+    → KeepsRules schema (file_of_draft s (section_of s (p ∷ []) ∷ []))
 kept Left schema s v p rules = with_pair schema v.table s p v.exists (without_pair schema s (v.pair ∷ []) [] v.keeps) rules
 
 -- ---- the list of all rows
@@ -73,7 +73,7 @@ whole_grown schema s list v may =
     }
   where
     known_again : (table : Table) → IsKnown table s → IsKnown table (with_whole s list)
-    known_again table k = record { column = k.column; column_is = k.column_is; kind_is = k.kind_is; like = k.like; twin = k.twin }
+    known_again table k = record { column = k.column; column_is = k.column_is; kind_is = k.kind_is; same_filter_at = k.same_filter_at; same_joined_at = k.same_joined_at }
 
 -- ---- frequent values
 
@@ -84,7 +84,7 @@ record Next (s : Draft) (p : Pair) (f : Datum × List ℕ) (kind : Kind) : Type 
   counts : (q : Pair) → IsLike s q → CountTheSame p (record p { frequent = s.pair.frequent ++ f ∷ rest })
 
 next_alone : (s : Draft) (p : Pair) (f : Datum × List ℕ) (old : List (Datum × List ℕ)) (kind : Kind) → kind ≡ s.kind → AreFrequent kind s.section.rows p.frequent
-    → p.frequent ≡ s.pair.frequent ++ old → MayBeFrequent s f → slice_get s.section.pairs s.like ≡ None → Next s p f kind
+    → p.frequent ≡ s.pair.frequent ++ old → MayBeFrequent s f → slice_get s.section.pairs s.same_filter_at ≡ None → Next s p f kind
 next_alone s p f old kind same are is may none =
     let front = s.pair.frequent in
     let len = length-append front (f ∷ []) in
@@ -101,7 +101,7 @@ next_alone s p f old kind same are is may none =
         lists = all_more (λ (e : Datum × List ℕ). IsList s.section.rows e.1) front f
             (all_left (λ (e : Datum × List ℕ). IsList s.section.rows e.1) front old (subst (All (λ (e : Datum × List ℕ). IsList s.section.rows e.1)) is are.lists)) may.1;
       };
-      counts = λ q like. absurd (cc);
+      counts = λ q same_filter_at. absurd (cc);
     }
 
 -- behind the front stands this value
@@ -112,10 +112,10 @@ at_front (z ∷ front) old x is = at_front front old x is
 
 next_like : (s : Draft) (p q : Pair) (f : Datum × List ℕ) (old : List (Datum × List ℕ)) (kind : Kind) → AreFrequent kind s.section.rows p.frequent → p.frequent ≡ s.pair.frequent ++ old
     → MayBeFrequent s f → IsLike s q → CountTheSame q p → Next s p f kind
-next_like s p q f old kind are is may like same =
+next_like s p q f old kind are is may same_filter_at same =
     let front = s.pair.frequent in
     let n = length front in
-    let alike = may.2.alike q like in
+    let alike = may.2.alike q same_filter_at in
     let value : slice_get (map (λ (e : Datum × List ℕ). e.0) p.frequent) n ≡ Some f.0 =
     ap (λ (l : List Datum). slice_get l n) (sym same.values) ∙ get_map (λ (e : Datum × List ℕ). e.0) q.frequent n alike.other alike.there ∙ ap Some alike.value in
     let total : slice_get (map (λ (e : Datum × List ℕ). sum e.1) p.frequent) n ≡ Some (sum f.1) =
@@ -148,11 +148,11 @@ next_like s p q f old kind are is may like same =
 
 next_of : (s : Draft) (p : Pair) (f : Datum × List ℕ) (old : List (Datum × List ℕ)) (kind : Kind) → kind ≡ s.kind → AreFrequent kind s.section.rows p.frequent
     → p.frequent ≡ s.pair.frequent ++ old → MayBeFrequent s f → ((q : Pair) → IsLike s q → CountTheSame q p) → Next s p f kind
-next_of s p f old kind same are is may counts = by_like (slice_get s.section.pairs s.like) refl
+next_of s p f old kind same are is may counts = by_like (slice_get s.section.pairs s.same_filter_at) refl
   where
-    by_like : (o : Option Pair) → slice_get s.section.pairs s.like ≡ o → Next s p f kind
+    by_like : (o : Option Pair) → slice_get s.section.pairs s.same_filter_at ≡ o → Next s p f kind
     by_like None none = next_alone s p f old kind same are is may none
-    by_like (Some q) like = next_like s p q f old kind are is may like (counts q like)
+    by_like (Some q) same_filter_at = next_like s p q f old kind are is may same_filter_at (counts q same_filter_at)
 
 -- the rules of a pair with other frequent values and another list of the others
 other_values : (table : Table) (s : Draft) (p : Pair) (frequent : List (Datum × List ℕ)) (rest : List ℕ) → IsKnown table s → PairRules table s.section.rows s.section.pairs p
@@ -210,7 +210,7 @@ frequent_grown schema s f v may =
     }
   where
     known_again : (table : Table) → IsKnown table s → IsKnown table (with_frequent s f)
-    known_again table k = record { column = k.column; column_is = k.column_is; kind_is = k.kind_is; like = k.like; twin = k.twin }
+    known_again table k = record { column = k.column; column_is = k.column_is; kind_is = k.kind_is; same_filter_at = k.same_filter_at; same_joined_at = k.same_joined_at }
 
 -- ---- the list of the other values
 
@@ -245,7 +245,7 @@ rest_grown schema s list v may =
       exists = v.exists;
       known = known_again v.table v.known;
       pair = p;
-      own = tree_lines own.cuts own.nodes;
+      own = histogram_lines own.cuts own.nodes;
       left = (
         own.cuts,
         record {
@@ -258,16 +258,16 @@ rest_grown schema s list v may =
       );
       keeps = kept (FrequentLeft s.pair) schema s v p
           (other_values v.table s v.pair front list v.known rules g.filter (subst (λ k. AreFrequent k s.section.rows front) same are) may.0
-          (λ q like. counted v.pair own.frequent g.frequent_is q like (like_counts v.table s v.pair s.section.rows v.known rules g.filter q like)));
+          (λ q same_filter_at. counted v.pair own.frequent g.frequent_is q same_filter_at (like_counts v.table s v.pair s.section.rows v.known rules g.filter q same_filter_at)));
     }
   where
     known_again : (table : Table) → IsKnown table s → IsKnown table (with_rest s list)
-    known_again table k = record { column = k.column; column_is = k.column_is; kind_is = k.kind_is; like = k.like; twin = k.twin }
+    known_again table k = record { column = k.column; column_is = k.column_is; kind_is = k.kind_is; same_filter_at = k.same_filter_at; same_joined_at = k.same_joined_at }
 
     counted : (p : Pair) (old : List (Datum × List ℕ)) → p.frequent ≡ s.pair.frequent ++ old → (q : Pair) → IsLike s q → CountTheSame q p
         → CountTheSame p (record p { frequent = s.pair.frequent; rest = list })
-    counted p old is q like counts =
-        let alike = may.1.alike q like in
+    counted p old is q same_filter_at counts =
+        let alike = may.1.alike q same_filter_at in
         let len : length (s.pair.frequent ++ old) ≡ length s.pair.frequent = sym (ap length is) ∙ sym (same_count p q counts) ∙ alike.count_is in
         let none = no_more s.pair.frequent old len in
         let whole : p.frequent ≡ s.pair.frequent = is ∙ ap (λ (l : List (Datum × List ℕ)). s.pair.frequent ++ l) none ∙ append-nil s.pair.frequent in

@@ -9,10 +9,10 @@ use Rattle.schema_types.specs.declared.types.Schema.{Schema}
 use Rattle.schema_types.specs.declared.types.Table.{Table}
 use Rattle.stats_file.specs.declared.types.Datum.{Datum}
 use Rattle.stats_file.specs.declared.types.Pair.{Pair}
-use Rattle.stats_file.specs.Rules.{datum_cmp, CountTheSame, IsList, IsOfKind, IsTree, IsTreeOf}
+use Rattle.stats_file.specs.Rules.{datum_cmp, CountTheSame, IsList, IsOfKind, IsHistogram, IsHistogramOf}
 use Rattle.stats_reading.specs.declared.draft.Draft.{Draft}
 use Rattle.stats_reading.specs.Drafts.{with_cut, with_node, IsLike, MayBeCut, MayBeNode}
-use Rattle.stats_reading.specs.Left.{tree_lines, CutsLeft, NodesLeft}
+use Rattle.stats_reading.specs.Left.{histogram_lines, CutsLeft, NodesLeft}
 use Rattle.stats_reading.specs.Valid.{IsKnown, IsValidPair}
 use Rattle.stats_reading.proofs.Counts.{agrees_after}
 use Rattle.stats_reading.proofs.NextFacts.{kind_of_pair, like_counts}
@@ -27,11 +27,11 @@ use Rattle.stats_reading.proofs.Grown.{at_front, kept, no_more, rules_of}
 -- how the cuts go on behind the next one
 record NextCut (s : Draft) (p : Pair) (cut : Datum) (kind : Kind) : Type 0 where
   rest : List Datum
-  is : IsTree kind s.section.rows (s.pair.cuts ++ cut ∷ rest) p.nodes
+  is : IsHistogram kind s.section.rows (s.pair.cuts ++ cut ∷ rest) p.nodes
   counts : (q : Pair) → IsLike s q → CountTheSame p (record p { cuts = s.pair.cuts ++ cut ∷ rest })
 
-next_cut_alone : (s : Draft) (p : Pair) (cut : Datum) (old : List Datum) (kind : Kind) → kind ≡ s.kind → IsTree kind s.section.rows p.cuts p.nodes → p.cuts ≡ s.pair.cuts ++ old
-    → MayBeCut s cut → slice_get s.section.pairs s.like ≡ None → NextCut s p cut kind
+next_cut_alone : (s : Draft) (p : Pair) (cut : Datum) (old : List Datum) (kind : Kind) → kind ≡ s.kind → IsHistogram kind s.section.rows p.cuts p.nodes → p.cuts ≡ s.pair.cuts ++ old
+    → MayBeCut s cut → slice_get s.section.pairs s.same_filter_at ≡ None → NextCut s p cut kind
 next_cut_alone s p cut old kind same tree is may none =
     let front = s.pair.cuts in
     let m = 31 - length front in
@@ -50,41 +50,41 @@ next_cut_alone s p cut old kind same tree is may none =
         all = tree.all;
         lists = tree.lists;
       };
-      counts = λ q like. absurd (cc);
+      counts = λ q same_filter_at. absurd (cc);
     }
 
-next_cut_like : (s : Draft) (p q : Pair) (cut : Datum) (old : List Datum) (kind : Kind) → IsTree kind s.section.rows p.cuts p.nodes → p.cuts ≡ s.pair.cuts ++ old
+next_cut_like : (s : Draft) (p q : Pair) (cut : Datum) (old : List Datum) (kind : Kind) → IsHistogram kind s.section.rows p.cuts p.nodes → p.cuts ≡ s.pair.cuts ++ old
     → MayBeCut s cut → IsLike s q → CountTheSame q p → NextCut s p cut kind
-next_cut_like s p q cut old kind tree is may like same =
+next_cut_like s p q cut old kind tree is may same_filter_at same =
     let front = s.pair.cuts in
-    let there : slice_get (front ++ old) (length front) ≡ Some cut = ap (λ (l : List Datum). slice_get l (length front)) (sym (same.cuts ∙ is)) ∙ may.1.alike q like in
+    let there : slice_get (front ++ old) (length front) ≡ Some cut = ap (λ (l : List Datum). slice_get l (length front)) (sym (same.cuts ∙ is)) ∙ may.1.alike q same_filter_at in
     let behind = at_front front old cut there in
     let whole : p.cuts ≡ front ++ cut ∷ behind.0 = is ∙ ap (λ (l : List Datum). front ++ l) behind.1 in
     record {
       rest = behind.0;
-      is = subst (λ (cs : List Datum). IsTree kind s.section.rows cs p.nodes) whole tree;
+      is = subst (λ (cs : List Datum). IsHistogram kind s.section.rows cs p.nodes) whole tree;
       counts = λ r liked. record { values = refl; totals = refl; rest = refl; cuts = whole; nodes = refl };
     }
 
-next_cut_of : (s : Draft) (p : Pair) (cut : Datum) (old : List Datum) (kind : Kind) → kind ≡ s.kind → IsTree kind s.section.rows p.cuts p.nodes → p.cuts ≡ s.pair.cuts ++ old
+next_cut_of : (s : Draft) (p : Pair) (cut : Datum) (old : List Datum) (kind : Kind) → kind ≡ s.kind → IsHistogram kind s.section.rows p.cuts p.nodes → p.cuts ≡ s.pair.cuts ++ old
     → MayBeCut s cut → ((q : Pair) → IsLike s q → CountTheSame q p) → NextCut s p cut kind
-next_cut_of s p cut old kind same tree is may counts = by_like (slice_get s.section.pairs s.like) refl
+next_cut_of s p cut old kind same tree is may counts = by_like (slice_get s.section.pairs s.same_filter_at) refl
   where
-    by_like : (o : Option Pair) → slice_get s.section.pairs s.like ≡ o → NextCut s p cut kind
+    by_like : (o : Option Pair) → slice_get s.section.pairs s.same_filter_at ≡ o → NextCut s p cut kind
     by_like None none = next_cut_alone s p cut old kind same tree is may none
-    by_like (Some q) like = next_cut_like s p q cut old kind tree is may like (counts q like)
+    by_like (Some q) same_filter_at = next_cut_like s p q cut old kind tree is may same_filter_at (counts q same_filter_at)
 
-pub tree_for : (kind : Kind) (rows : ℕ) (cuts : List Datum) (nodes : List (List ℕ)) → 0 < rows → IsTreeOf kind rows cuts nodes → IsTree kind rows cuts nodes
+pub tree_for : (kind : Kind) (rows : ℕ) (cuts : List Datum) (nodes : List (List ℕ)) → 0 < rows → IsHistogramOf kind rows cuts nodes → IsHistogram kind rows cuts nodes
 tree_for kind zero cuts nodes some is = absurd (omega arith)
 tree_for kind (suc n) cuts nodes some is = is
 
-pub tree_back : (kind : Kind) (rows : ℕ) (cuts : List Datum) (nodes : List (List ℕ)) → 0 < rows → IsTree kind rows cuts nodes → IsTreeOf kind rows cuts nodes
+pub tree_back : (kind : Kind) (rows : ℕ) (cuts : List Datum) (nodes : List (List ℕ)) → 0 < rows → IsHistogram kind rows cuts nodes → IsHistogramOf kind rows cuts nodes
 tree_back kind zero cuts nodes some is = absurd (omega arith)
 tree_back kind (suc n) cuts nodes some is = is
 
 -- the rules of a pair with another tree
 other_tree : (table : Table) (s : Draft) (p : Pair) (cuts : List Datum) (nodes : List (List ℕ)) → IsKnown table s → (rules : PairRules table s.section.rows s.section.pairs p)
-    → p.filter ≡ s.pair.filter → 0 < s.section.rows → IsTree rules.is.filter.kind s.section.rows cuts nodes
+    → p.filter ≡ s.pair.filter → 0 < s.section.rows → IsHistogram rules.is.filter.kind s.section.rows cuts nodes
     → ((q : Pair) → IsLike s q → CountTheSame p (record p { cuts = cuts; nodes = nodes }))
     → PairRules table s.section.rows s.section.pairs (record p { cuts = cuts; nodes = nodes })
 other_tree table s p cuts nodes known rules at_filter some is counts =
@@ -120,7 +120,7 @@ cut_grown schema s cut v may =
       exists = v.exists;
       known = known_again v.table v.known;
       pair = p;
-      own = tree_lines next.rest own.nodes;
+      own = histogram_lines next.rest own.nodes;
       left = (
         next.rest,
         record {
@@ -141,7 +141,7 @@ cut_grown schema s cut v may =
     }
   where
     known_again : (table : Table) → IsKnown table s → IsKnown table (with_cut s cut)
-    known_again table k = record { column = k.column; column_is = k.column_is; kind_is = k.kind_is; like = k.like; twin = k.twin }
+    known_again table k = record { column = k.column; column_is = k.column_is; kind_is = k.kind_is; same_filter_at = k.same_filter_at; same_joined_at = k.same_joined_at }
 
 -- ---- nodes
 
@@ -170,7 +170,7 @@ node_grown schema s node v may =
     let whole : v.pair.nodes ≡ s.pair.nodes ++ old ∷ rest = g.nodes_is ∙ ap (λ (l : List (List ℕ)). s.pair.nodes ++ l) found.2 in
     let nodes = s.pair.nodes ++ node ∷ rest in
     let p = record v.pair { nodes = nodes } in
-    let is : IsTree kind s.section.rows v.pair.cuts nodes = record {
+    let is : IsHistogram kind s.section.rows v.pair.cuts nodes = record {
       leaves = tree.leaves;
       values = tree.values;
       order = tree.order;
@@ -182,7 +182,7 @@ node_grown schema s node v may =
       exists = v.exists;
       known = known_again v.table v.known;
       pair = p;
-      own = tree_lines [] rest;
+      own = histogram_lines [] rest;
       left = record {
         nodes = rest;
         grows = record {
@@ -197,16 +197,16 @@ node_grown schema s node v may =
         all = refl;
       };
       keeps = kept (CutsLeft s.pair) schema s v p (other_tree v.table s v.pair v.pair.cuts nodes v.known rules g.filter may.1.some is
-          (λ q like. counted v.pair q old rest whole like (like_counts v.table s v.pair s.section.rows v.known rules g.filter q like)));
+          (λ q same_filter_at. counted v.pair q old rest whole same_filter_at (like_counts v.table s v.pair s.section.rows v.known rules g.filter q same_filter_at)));
     }
   where
     known_again : (table : Table) → IsKnown table s → IsKnown table (with_node s node)
-    known_again table k = record { column = k.column; column_is = k.column_is; kind_is = k.kind_is; like = k.like; twin = k.twin }
+    known_again table k = record { column = k.column; column_is = k.column_is; kind_is = k.kind_is; same_filter_at = k.same_filter_at; same_joined_at = k.same_joined_at }
 
     counted : (p q : Pair) (old : List ℕ) (rest : List (List ℕ)) → p.nodes ≡ s.pair.nodes ++ old ∷ rest → IsLike s q → CountTheSame q p
         → CountTheSame p (record p { nodes = s.pair.nodes ++ node ∷ rest })
-    counted p q old rest whole like counts =
-        let alike = may.1.alike q like in
+    counted p q old rest whole same_filter_at counts =
+        let alike = may.1.alike q same_filter_at in
         let n = length s.pair.nodes in
         let here : slice_get (map sum p.nodes) n ≡ Some (sum old) = get_map sum p.nodes n old (ap (λ (l : List (List ℕ)). slice_get l n) whole ∙ get_here s.pair.nodes old rest) in
         let there : slice_get (map sum p.nodes) n ≡ Some (sum node) =

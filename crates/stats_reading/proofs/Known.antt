@@ -19,9 +19,9 @@ use Rattle.stats_reading.specs.declared.line.LineKind.{LineKind}
 use Rattle.stats_reading.specs.declared.line.LineKind.TheVariants as kind
 use Rattle.stats_reading.specs.declared.stages.Stage.{Stage}
 use Rattle.stats_reading.specs.declared.stages.Stage.TheVariants as stage
-use Rattle.stats_reading.specs.Goes.{Answers, ReadsAt}
-use Rattle.stats_reading.specs.Kinds.{is_tested, AreParts, IsAlone, IsFaultOf, IsLineOf, MayBeLineOf}
-use Rattle.stats_reading.specs.Left.{file_of, section_of}
+use Rattle.stats_reading.specs.Goes.{LineAnswers, WordsAreRead}
+use Rattle.stats_reading.specs.Kinds.{is_tested, AreLineParts, IsAlone, IsFaultOf, IsLineOf, MayBeLineOf}
+use Rattle.stats_reading.specs.Left.{file_of_draft, section_of}
 use Rattle.stats_reading.specs.Stages.{next_stage, TextLeft}
 use Rattle.stats_reading.specs.Valid.{IsValidDraft}
 use Rattle.stats_reading.proofs.Answering.{no_line}
@@ -31,7 +31,7 @@ use Rattle.stats_words.proofs.TextFacts.{utf8_bytes}
 
 -- ---- words
 
-few_rows : (schema : Schema) (s : Draft) (pair : Pair) → KeepsRules schema (file_of s (section_of s (pair ∷ []) ∷ [])) → s.section.rows ≤ 4000000
+few_rows : (schema : Schema) (s : Draft) (pair : Pair) → KeepsRules schema (file_of_draft s (section_of s (pair ∷ []) ∷ [])) → s.section.rows ≤ 4000000
 few_rows schema s pair keeps = (section_at schema s (pair ∷ []) [] keeps).rows
 
 list_known : (rows : ℕ) (list word : List ℕ) → rows ≤ 4000000 → IsList rows list → list_text list ≡ word → IsListWord word
@@ -55,7 +55,7 @@ abbrev second_word : List ℕ × List ℕ → List ℕ
 second_word words = words.1
 
 pub known : (at : Stage) (k : LineKind) (next : Stage) (schema : Schema) (s t : Draft) (a b : List ℕ) (done : Unit {0}) → next_stage at k ≡ Some next → is_tested k ≡ false
-    → IsAlone k b → IsValidDraft at schema s → ReadsAt at schema k s t (a, b) (Ok done) → AreParts k a b
+    → IsAlone k b → IsValidDraft at schema s → WordsAreRead at schema k s t (a, b) (Ok done) → AreLineParts k a b
 known stage.Start kind.First next schema s t a b done to untested alone v h = absurd (cc)
 known stage.Tables kind.Table next schema s t a b done to untested alone v h = absurd (cc)
 known stage.Tables kind.End next schema s t a b done to untested alone v h = absurd (cc)
@@ -78,13 +78,13 @@ known _ _ next schema s t a b done to untested alone v h = absurd (cc)
 -- ---- faults
 
 -- words that aren't those of the grammar: no text goes on with their line
-pub no_words : (schema : Schema) (s : Draft) (k : LineKind) (a b l : List ℕ) → MayBeLineOf k a b l → (AreParts k a b → ⊥)
+pub no_words : (schema : Schema) (s : Draft) (k : LineKind) (a b l : List ℕ) → MayBeLineOf k a b l → (AreLineParts k a b → ⊥)
     → (more : List (List ℕ)) → TextLeft s.stage (ended l ∷ more) → ⊥
 no_words schema s k a b l may none = no_line schema s l (λ j f g is. none (may.only j f g is))
 
 -- a fault is that of a line of the grammar, or the line is none of it
-pub faulted : (schema : Schema) (s t : Draft) (k : LineKind) (a b l : List ℕ) (old new : Fault) → MayBeLineOf k a b l → (IsLineOf k a b l → Answers schema s t (ended l) (Err old))
-    → IsFaultOf k a b old new → Answers schema s t (ended l) (Err new)
+pub faulted : (schema : Schema) (s t : Draft) (k : LineKind) (a b l : List ℕ) (old new : Fault) → MayBeLineOf k a b l → (IsLineOf k a b l → LineAnswers schema s t (ended l) (Err old))
+    → IsFaultOf k a b old new → LineAnswers schema s t (ended l) (Err new)
 faulted schema s t k a b l fault.Rule fault.Rule may answers is = answers (record { parts = is; whole = may.whole })
 faulted schema s t k a b l fault.Rule fault.Syntax may answers is = no_words schema s k a b l may is
 faulted schema s t k a b l fault.Rule fault.NoMemory may answers is = tt
@@ -97,10 +97,10 @@ faulted schema s t k a b l fault.NoMemory fault.Rule may answers is = absurd (cc
 faulted schema s t k a b l fault.NoMemory fault.NoMemory may answers is = tt
 
 -- a line that is taken is one of the grammar
-pub answered_line : (schema : Schema) (s t : Draft) (k : LineKind) (a b l : List ℕ) (done : Unit {0}) → MayBeLineOf k a b l → (is_tested k ≡ true → AreParts k a b)
-    → (is_tested k ≡ false → AreParts k a b) → (IsLineOf k a b l → Answers schema s t (ended l) (Ok done)) → Answers schema s t (ended l) (Ok done)
+pub answered_line : (schema : Schema) (s t : Draft) (k : LineKind) (a b l : List ℕ) (done : Unit {0}) → MayBeLineOf k a b l → (is_tested k ≡ true → AreLineParts k a b)
+    → (is_tested k ≡ false → AreLineParts k a b) → (IsLineOf k a b l → LineAnswers schema s t (ended l) (Ok done)) → LineAnswers schema s t (ended l) (Ok done)
 answered_line schema s t k a b l done may tested untested answers = at (is_tested k) refl
   where
-    at : (x : Bool) → is_tested k ≡ x → Answers schema s t (ended l) (Ok done)
+    at : (x : Bool) → is_tested k ≡ x → LineAnswers schema s t (ended l) (Ok done)
     at true e = answers (record { parts = tested e; whole = may.whole })
     at false e = answers (record { parts = untested e; whole = may.whole })

@@ -13,7 +13,7 @@ use Rattle.stats_file.specs.declared.types.Datum.TheVariants as datum
 use Rattle.stats_file.specs.declared.types.Pair.{Pair}
 use Rattle.stats_file.specs.declared.types.StatsFile.{StatsFile}
 use Rattle.stats_file.specs.declared.types.TableStats.{TableStats}
-use Rattle.stats_file.specs.FileText.{file_lines, name_at, node_line, pair_lines, section_lines, table_lines, value_line}
+use Rattle.stats_file.specs.FileText.{file_lines, name_at, histogram_node_line, pair_lines, section_lines, table_lines, value_line}
 use Rattle.stats_file.specs.Lines.{cut_line, datum_text, end_line, hex_text, run_text, runs_text}
 use Rattle.stats_file.specs.Rules.{IsList, IsOfKind, IsPair, IsSection, KeepsRules}
 use Rattle.stats_file.specs.Runs.{runs_of}
@@ -111,14 +111,14 @@ pair_ended table rows p few is = (
   two_ended (codes "pair ") (hex_text (name_at table p.filter)) (hex_text (name_at table p.joined)) (literal (codes "pair ") refl) (hex_free (name_at table p.filter)) (hex_free (name_at table p.joined)),
   (
     one_ended (codes "whole ") (list_text p.whole) (literal (codes "whole ") refl) (list_free rows p.whole few is.whole),
-    joined (map value_line p.frequent) (rest_line p.rest ∷ (map cut_line p.cuts ++ map node_line p.nodes))
+    joined (map value_line p.frequent) (rest_line p.rest ∷ (map cut_line p.cuts ++ map histogram_node_line p.nodes))
         (mapped value_line p.frequent (λ k d lt. two_ended (codes "frequent ") (datum_text (get_or p.frequent k d).0) (list_text (get_or p.frequent k d).1) (literal (codes "frequent ") refl)
         (datum_free is.filter.kind (get_or p.frequent k d).0 (is.frequent.values k d lt)) (list_free rows (get_or p.frequent k d).1 few (is.frequent.lists k d lt)))) (
           one_ended (codes "rest ") (list_text p.rest) (literal (codes "rest ") refl) (list_free rows p.rest few is.rest),
-          joined (map cut_line p.cuts) (map node_line p.nodes)
+          joined (map cut_line p.cuts) (map histogram_node_line p.nodes)
               (mapped cut_line p.cuts (λ k d lt. one_ended (codes "cut ") (datum_text (get_or p.cuts k d)) (literal (codes "cut ") refl)
               (datum_free is.filter.kind (get_or p.cuts k d) (cuts_are_of is.filter.kind rows p.cuts p.nodes is.tree k d lt))))
-              (mapped node_line p.nodes (λ k d lt. one_ended (codes "node ") (list_text (get_or p.nodes k d)) (literal (codes "node ") refl)
+              (mapped histogram_node_line p.nodes (λ k d lt. one_ended (codes "node ") (list_text (get_or p.nodes k d)) (literal (codes "node ") refl)
               (list_free rows (get_or p.nodes k d) few (nodes_are_lists is.filter.kind rows p.cuts p.nodes is.tree k d lt)))),
         ),
   ),

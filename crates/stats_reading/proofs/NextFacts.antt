@@ -7,7 +7,7 @@ use Rattle.schema_types.specs.declared.types.Kind.{Kind}
 use Rattle.schema_types.specs.declared.types.Table.{Table}
 use Rattle.stats_file.specs.declared.types.Datum.{Datum}
 use Rattle.stats_file.specs.declared.types.Pair.{Pair}
-use Rattle.stats_file.specs.Rules.{datum_cmp, Agree, CountTheSame, IsList, IsOfKind, IsPair, IsTree, IsTreeOf}
+use Rattle.stats_file.specs.Rules.{datum_cmp, Agree, CountTheSame, IsList, IsOfKind, IsPair, IsHistogram, IsHistogramOf}
 use Rattle.stats_reading.specs.declared.draft.Draft.{Draft}
 use Rattle.stats_reading.specs.Drafts.{IsLike, IsSameTotal, IsSameValue, IsTwin, MayBeCut, MayBeFrequent, MayBeNode, MayBeRest, MayBeWhole}
 use Rattle.stats_reading.specs.Valid.{IsKnown}
@@ -22,13 +22,13 @@ kind_of_pair table s p rows known is same =
 -- the earlier pair with this filter column counts the same
 pub like_counts : (table : Table) (s : Draft) (p : Pair) (rows : ℕ) → IsKnown table s → PairRules table rows s.section.pairs p → p.filter ≡ s.pair.filter → (q : Pair) → IsLike s q → CountTheSame q p
 like_counts table s p rows known rules same q is =
-    let agree = all_at (λ o. Agree o p) s.section.pairs s.like q rules.agree is in
-    agree.filter (known.like.found q is ∙ sym same)
+    let agree = all_at (λ o. Agree o p) s.section.pairs s.same_filter_at q rules.agree is in
+    agree.filter (known.same_filter_at.found q is ∙ sym same)
 
 pub twin_whole : (table : Table) (s : Draft) (p : Pair) (rows : ℕ) → IsKnown table s → PairRules table rows s.section.pairs p → p.joined ≡ s.pair.joined → (q : Pair) → IsTwin s q → q.whole ≡ p.whole
 twin_whole table s p rows known rules same q is =
-    let agree = all_at (λ o. Agree o p) s.section.pairs s.twin q rules.agree is in
-    agree.joined (known.twin.found q is ∙ sym same)
+    let agree = all_at (λ o. Agree o p) s.section.pairs s.same_joined_at q rules.agree is in
+    agree.joined (known.same_joined_at.found q is ∙ sym same)
 
 pub may_whole : (table : Table) (s : Draft) (p : Pair) → IsKnown table s → PairRules table s.section.rows s.section.pairs p → p.joined ≡ s.pair.joined → MayBeWhole s p.whole
 may_whole table s p known rules same =
@@ -59,7 +59,7 @@ may_frequent table s p f rest known rules same is =
       record {
         few = omega arith;
         differs = pairs_here (λ (a b : Datum × List ℕ). a.0 ≢ b.0) s.pair.frequent f rest (subst (AllPairs (λ (a b : Datum × List ℕ). a.0 ≢ b.0)) is are.differ);
-        alike = λ q like. same_value s p q s.pair.frequent f rest is (like_counts table s p s.section.rows known rules same q like);
+        alike = λ q same_filter_at. same_value s p q s.pair.frequent f rest is (like_counts table s p s.section.rows known rules same q same_filter_at);
       },
     )
 
@@ -71,8 +71,8 @@ pub may_rest : (table : Table) (s : Draft) (p : Pair) → IsKnown table s → Pa
 may_rest table s p known rules same is = (
   rules.is.rest,
   record {
-    alike = λ q like.
-        let counts = like_counts table s p s.section.rows known rules same q like in
+    alike = λ q same_filter_at.
+        let counts = like_counts table s p s.section.rows known rules same q same_filter_at in
         record { count_is = same_count p q counts ∙ ap length is; total = counts.rest };
   },
 )
@@ -80,9 +80,9 @@ may_rest table s p known rules same is = (
 -- a tree that isn't empty
 pub record SomeTree (kind : Kind) (rows : ℕ) (cuts : List Datum) (nodes : List (List ℕ)) : Type 0 where
   pub some : 0 < rows
-  pub is : IsTree kind rows cuts nodes
+  pub is : IsHistogram kind rows cuts nodes
 
-pub some_tree : (kind : Kind) (rows : ℕ) (cuts : List Datum) (nodes : List (List ℕ)) → IsTreeOf kind rows cuts nodes → 0 < length cuts + length nodes → SomeTree kind rows cuts nodes
+pub some_tree : (kind : Kind) (rows : ℕ) (cuts : List Datum) (nodes : List (List ℕ)) → IsHistogramOf kind rows cuts nodes → 0 < length cuts + length nodes → SomeTree kind rows cuts nodes
 some_tree kind zero cuts nodes (none, others) lt = absurd (omega (arith, ap length none, ap length others))
 some_tree kind (suc n) cuts nodes is lt = record { some = omega arith; is = is }
 
@@ -99,7 +99,7 @@ may_cut table s p cut rest known rules same is =
         some = tree.some;
         few = omega arith;
         order = λ last at. all_at (λ a. datum_cmp a cut ≢ Greater) s.pair.cuts (length s.pair.cuts - 1) last order at;
-        alike = λ q like. ap (λ (l : List Datum). slice_get l (length s.pair.cuts)) ((like_counts table s p s.section.rows known rules same q like).cuts ∙ is) ∙ get_here s.pair.cuts cut rest;
+        alike = λ q same_filter_at. ap (λ (l : List Datum). slice_get l (length s.pair.cuts)) ((like_counts table s p s.section.rows known rules same q same_filter_at).cuts ∙ is) ∙ get_here s.pair.cuts cut rest;
       },
     )
 
@@ -121,6 +121,6 @@ may_node table s p node rest known rules same cuts is =
         some = tree.some;
         all_cuts = sym (ap length cuts) ∙ tree.is.leaves;
         few = omega arith;
-        alike = λ q like. same_total p q s.pair.nodes node rest is (like_counts table s p s.section.rows known rules same q like);
+        alike = λ q same_filter_at. same_total p q s.pair.nodes node rest is (like_counts table s p s.section.rows known rules same q same_filter_at);
       },
     )

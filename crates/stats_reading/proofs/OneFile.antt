@@ -18,7 +18,7 @@ use Rattle.stats_file.specs.declared.types.StatsFile.{StatsFile}
 use Rattle.stats_file.specs.declared.types.TableStats.{TableStats}
 use Rattle.stats_file.specs.Answers.{Answers, BeginsWithLine, EndsTooEarly, HasNoEnd, IsReadUpTo, LeavesGrammar}
 use Rattle.stats_file.specs.Bytes.{ConsistOfBytes}
-use Rattle.stats_file.specs.FileText.{file_lines, file_text, name_at, node_line, value_line}
+use Rattle.stats_file.specs.FileText.{file_lines, file_text, name_at, histogram_node_line, value_line}
 use Rattle.stats_file.specs.Grammar.{IsText}
 use Rattle.stats_file.specs.Lines.{cut_line, datum_text, end_line, first_line, hex_text, pair_line, table_line}
 use Rattle.stats_file.specs.Rules.{IsList, IsOfKind, IsPair, IsSection, KeepsRules}
@@ -26,7 +26,7 @@ use Rattle.stats_file.proofs.GrammarFacts.{file_is_text, cuts_are_of, nodes_are_
 use Rattle.stats_words.specs.Runs.{list_text}
 use Rattle.stats_words.specs.Splits.{Without}
 use Rattle.stats_words.proofs.SplitFacts.{not_without, split_same}
-use Rattle.stats_reading.specs.Left.{frequent_lines, pairs_left, rest_line, tables_left, tree_lines, whole_line}
+use Rattle.stats_reading.specs.Left.{frequent_lines, pairs_left, rest_line, tables_left, histogram_lines, whole_line}
 use Rattle.stats_reading.proofs.Edges.{same_pair}
 use Rattle.stats_reading.proofs.LineEnds.{front_of, lines_ended, not_empty, IsEnded, IsFront}
 use Rattle.stats_reading.proofs.Seams.{all_at, same_some}
@@ -82,9 +82,9 @@ record SamePair (p q : Pair) (A B : Lines) : Type 0 where
 abbrev NoTree : Lines → Type 0
 NoTree m = (line : List ℕ) (more : Lines) → line ∷ more ≡ m → (tag line ≢ 99) × (tag line ≢ 110)
 
-no_node_tag : (nodes : List (List ℕ)) (m : Lines) → NoTree m → (line : List ℕ) (more : Lines) → line ∷ more ≡ map node_line nodes ++ m → tag line ≢ 99
+no_node_tag : (nodes : List (List ℕ)) (m : Lines) → NoTree m → (line : List ℕ) (more : Lines) → line ∷ more ≡ map histogram_node_line nodes ++ m → tag line ≢ 99
 no_node_tag [] m none line more e = (none line more e).0
-no_node_tag (x ∷ nodes) m none line more e = not_head line (node_line x) more (map node_line nodes ++ m) (node_line x ∷ (map node_line nodes ++ m)) 99 refl (λ f. absurd (omega (arith, f))) e
+no_node_tag (x ∷ nodes) m none line more e = not_head line (histogram_node_line x) more (map histogram_node_line nodes ++ m) (histogram_node_line x ∷ (map histogram_node_line nodes ++ m)) 99 refl (λ f. absurd (omega (arith, f))) e
 
 same_pair_lines : (table : Table) (rows : ℕ) (p q : Pair) (A B : Lines) → rows ≤ 4000000 → (is_p : IsPair table rows p) (is_q : IsPair table rows q) → p.filter ≡ q.filter → p.joined ≡ q.joined
     → NoTree A → NoTree B → pair_rest p ++ A ≡ pair_rest q ++ B → SamePair p q A B
@@ -94,8 +94,8 @@ same_pair_lines table rows p q A B few is_p is_q filter joined none_a none_b e =
     let same_kind : is_q.filter.kind ≡ kind = ap (λ (c : Column). c.kind) (same_some is_q.filter is_p.filter (slice_get table.columns p.filter) column is_p.filter_is) in
     let line : whole_line p.whole ≡ whole_line q.whole = cc in
     let whole = lists_same rows few (codes "whole ") p.whole q.whole is_p.whole is_q.whole line in
-    let tree_p = tree_lines p.cuts p.nodes in
-    let tree_q = tree_lines q.cuts q.nodes in
+    let tree_p = histogram_lines p.cuts p.nodes in
+    let tree_q = histogram_lines q.cuts q.nodes in
     let behind : frequent_lines p.frequent p.rest p.cuts p.nodes ++ A ≡ frequent_lines q.frequent q.rest q.cuts q.nodes ++ B = cc in
     let regrouped : map value_line p.frequent ++ (rest_line p.rest ∷ (tree_p ++ A)) ≡ map value_line q.frequent ++ (rest_line q.rest ∷ (tree_q ++ B)) =
     sym (append_assoc (map value_line p.frequent) (rest_line p.rest ∷ tree_p) A) ∙ behind ∙ append_assoc (map value_line q.frequent) (rest_line q.rest ∷ tree_q) B in
@@ -108,12 +108,12 @@ same_pair_lines table rows p q A B few is_p is_q filter joined none_a none_b e =
     let last : rest_line p.rest ≡ rest_line q.rest = first_of values.1 in
     let rest = lists_same rows few (codes "rest ") p.rest q.rest is_p.rest is_q.rest last in
     let trees : tree_p ++ A ≡ tree_q ++ B = others_of values.1 in
-    let split : map cut_line p.cuts ++ (map node_line p.nodes ++ A) ≡ map cut_line q.cuts ++ (map node_line q.nodes ++ B) =
-    sym (append_assoc (map cut_line p.cuts) (map node_line p.nodes) A) ∙ trees ∙ append_assoc (map cut_line q.cuts) (map node_line q.nodes) B in
+    let split : map cut_line p.cuts ++ (map histogram_node_line p.nodes ++ A) ≡ map cut_line q.cuts ++ (map histogram_node_line q.nodes ++ B) =
+    sym (append_assoc (map cut_line p.cuts) (map histogram_node_line p.nodes) A) ∙ trees ∙ append_assoc (map cut_line q.cuts) (map histogram_node_line q.nodes) B in
     let cuts = same_mapped cut_line (IsOfKind kind) (λ a b x y f. same_datum kind a b x y (one_same (codes "cut ") (datum_text a) (datum_text b) f)) 99 (λ x. refl) p.cuts q.cuts
-    (map node_line p.nodes ++ A) (map node_line q.nodes ++ B) (cuts_are_of kind rows p.cuts p.nodes is_p.tree)
+    (map histogram_node_line p.nodes ++ A) (map histogram_node_line q.nodes ++ B) (cuts_are_of kind rows p.cuts p.nodes is_p.tree)
     (subst (λ x. All (IsOfKind x) q.cuts) same_kind (cuts_are_of is_q.filter.kind rows q.cuts q.nodes is_q.tree)) (no_node_tag p.nodes A none_a) (no_node_tag q.nodes B none_b) split in
-    let nodes = same_mapped node_line (IsList rows) (λ a b x y f. lists_same rows few (codes "node ") a b x y f) 110 (λ x. refl) p.nodes q.nodes A B
+    let nodes = same_mapped histogram_node_line (IsList rows) (λ a b x y f. lists_same rows few (codes "node ") a b x y f) 110 (λ x. refl) p.nodes q.nodes A B
     (nodes_are_lists kind rows p.cuts p.nodes is_p.tree) (nodes_are_lists is_q.filter.kind rows q.cuts q.nodes is_q.tree) (λ l more f. (none_a l more f).1) (λ l more f. (none_b l more f).1) cuts.1 in
     record { pairs = same_pair p q filter joined whole values.0 rest cuts.0 nodes.0; behind = nodes.1 }
   where

@@ -6,12 +6,12 @@ use Rattle.schema_types.specs.declared.types.Table.{Table}
 use Rattle.stats_file.specs.declared.types.Datum.{Datum}
 use Rattle.stats_file.specs.declared.types.Pair.{Pair}
 use Rattle.stats_file.specs.declared.types.StatsFile.{StatsFile}
-use Rattle.stats_file.specs.FileText.{node_line, value_line}
+use Rattle.stats_file.specs.FileText.{histogram_node_line, value_line}
 use Rattle.stats_file.specs.Lines.{cut_line}
 use Rattle.stats_file.specs.Rules.{KeepsRules}
 use Rattle.stats_reading.specs.declared.draft.Draft.{Draft}
 use Rattle.stats_reading.specs.Drafts.{with_cut, with_frequent, with_node, with_rest, with_whole, MayBeCut, MayBeFrequent, MayBeNode, MayBeRest, MayBeWhole}
-use Rattle.stats_reading.specs.Left.{frequent_lines, pairs_left, rest_line, tree_lines, whole_line, CutsLeft, FrequentLeft, Grows, InPair, NodesLeft, WholeLeft}
+use Rattle.stats_reading.specs.Left.{frequent_lines, pairs_left, rest_line, histogram_lines, whole_line, CutsLeft, FrequentLeft, PairGrows, InPair, NodesLeft, WholeLeft}
 use Rattle.stats_reading.specs.Valid.{IsKnown}
 use Rattle.stats_reading.proofs.NextFacts.{may_cut, may_frequent, may_node, may_rest, may_whole}
 use Rattle.stats_reading.proofs.RuleFacts.{pair_rules, PairRules}
@@ -73,7 +73,7 @@ open_cut schema s known file line more h t =
         table = h.table;
         exists = h.exists;
         pair = h.pair;
-        own = tree_lines f.rest tree.nodes;
+        own = histogram_lines f.rest tree.nodes;
         left = (
           f.rest,
           record {
@@ -94,7 +94,7 @@ open_cut schema s known file line more h t =
         tables = h.tables;
         keeps = h.keeps;
         is = h.is;
-        all = f.more_are ∙ sym (append_assoc (map cut_line f.rest) (map node_line tree.nodes) after);
+        all = f.more_are ∙ sym (append_assoc (map cut_line f.rest) (map histogram_node_line tree.nodes) after);
       };
     }
 
@@ -108,7 +108,7 @@ close_cut schema s cut file more h =
       table = h.table;
       exists = h.exists;
       pair = h.pair;
-      own = tree_lines (cut ∷ cuts) tree.nodes;
+      own = histogram_lines (cut ∷ cuts) tree.nodes;
       left = (
         cut ∷ cuts,
         record {
@@ -133,7 +133,7 @@ close_cut schema s cut file more h =
     }
 
 pub open_node : (schema : Schema) (s : Draft) → KnownIn schema s → (file : StatsFile) (line : List ℕ) (more : List (List ℕ)) → InPair (CutsLeft s.pair) schema s file (line ∷ more) → tag line ≡ 110
-    → Opened node_line (MayBeNode s) (λ v. InPair (NodesLeft (with_node s v).pair) schema (with_node s v) file more) line
+    → Opened histogram_node_line (MayBeNode s) (λ v. InPair (NodesLeft (with_node s v).pair) schema (with_node s v) file more) line
 open_node schema s known file line more h t =
     let found = (parts_here schema s file line more h).node t in
     let f = found.1 in
@@ -149,7 +149,7 @@ open_node schema s known file line more h t =
         table = h.table;
         exists = h.exists;
         pair = h.pair;
-        own = map node_line f.rest;
+        own = map histogram_node_line f.rest;
         left = record {
           nodes = f.rest;
           grows = record {
@@ -172,7 +172,7 @@ open_node schema s known file line more h t =
     }
 
 pub close_node : (schema : Schema) (s : Draft) (node : List ℕ) (file : StatsFile) (more : List (List ℕ)) → InPair (NodesLeft (with_node s node).pair) schema (with_node s node) file more
-    → InPair (NodesLeft s.pair) schema s file (node_line node ∷ more)
+    → InPair (NodesLeft s.pair) schema s file (histogram_node_line node ∷ more)
 close_node schema s node file more h =
     let tree = h.left in
     let after = pairs_left schema h.table h.pairs h.tables in
@@ -180,7 +180,7 @@ close_node schema s node file more h =
       table = h.table;
       exists = h.exists;
       pair = h.pair;
-      own = map node_line (node ∷ tree.nodes);
+      own = map histogram_node_line (node ∷ tree.nodes);
       left = record {
         nodes = node ∷ tree.nodes;
         grows = record {
@@ -198,7 +198,7 @@ close_node schema s node file more h =
       tables = h.tables;
       keeps = h.keeps;
       is = h.is;
-      all = ap (λ (ls : List (List ℕ)). node_line node ∷ ls) (h.all ∙ ap (λ (own : List (List ℕ)). own ++ after) tree.all);
+      all = ap (λ (ls : List (List ℕ)). histogram_node_line node ∷ ls) (h.all ∙ ap (λ (own : List (List ℕ)). own ++ after) tree.all);
     }
 
 -- ---- the list of all rows
@@ -227,7 +227,7 @@ open_whole schema s known file line more h =
       };
     }
   where
-    again : {p : Pair} {fs : List (Datum × List ℕ)} {cs : List Datum} {ns : List (List ℕ)} → Grows s.pair p fs cs ns → Grows (with_whole s p.whole).pair p fs cs ns
+    again : {p : Pair} {fs : List (Datum × List ℕ)} {cs : List Datum} {ns : List (List ℕ)} → PairGrows s.pair p fs cs ns → PairGrows (with_whole s p.whole).pair p fs cs ns
     again g = record { filter = g.filter; joined = g.joined; frequent_is = g.frequent_is; cuts_is = g.cuts_is; nodes_is = g.nodes_is }
 
 pub close_whole : (schema : Schema) (s : Draft) (list : List ℕ) (file : StatsFile) (more : List (List ℕ)) → InPair (FrequentLeft (with_whole s list).pair) schema (with_whole s list) file more
@@ -260,10 +260,10 @@ close_whole schema s list file more h =
 -- ---- frequent values, and the list of the others
 
 values_here : (schema : Schema) (s : Draft) (file : StatsFile) (line : List ℕ) (more : List (List ℕ)) (h : InPair (FrequentLeft s.pair) schema s file (line ∷ more))
-    → FrequentParts h.left.frequent h.pair.rest line more (tree_lines h.left.cuts h.left.nodes) (pairs_left schema h.table h.pairs h.tables)
+    → FrequentParts h.left.frequent h.pair.rest line more (histogram_lines h.left.cuts h.left.nodes) (pairs_left schema h.table h.pairs h.tables)
 values_here schema s file line more h =
     let after = pairs_left schema h.table h.pairs h.tables in
-    frequent_parts h.left.frequent h.pair.rest line more (tree_lines h.left.cuts h.left.nodes) after (h.all ∙ ap (λ (own : List (List ℕ)). own ++ after) h.left.all)
+    frequent_parts h.left.frequent h.pair.rest line more (histogram_lines h.left.cuts h.left.nodes) after (h.all ∙ ap (λ (own : List (List ℕ)). own ++ after) h.left.all)
 
 pub open_frequent : (schema : Schema) (s : Draft) → KnownIn schema s → (file : StatsFile) (line : List ℕ) (more : List (List ℕ)) → InPair (FrequentLeft s.pair) schema s file (line ∷ more)
     → tag line ≡ 102 → Opened value_line (MayBeFrequent s) (λ v. InPair (FrequentLeft (with_frequent s v).pair) schema (with_frequent s v) file more) line
@@ -300,7 +300,7 @@ open_frequent schema s known file line more h t =
         tables = h.tables;
         keeps = h.keeps;
         is = h.is;
-        all = f.more_are ∙ sym (append_assoc (map value_line f.rest) (rest_line h.pair.rest ∷ tree_lines own.cuts own.nodes) after);
+        all = f.more_are ∙ sym (append_assoc (map value_line f.rest) (rest_line h.pair.rest ∷ histogram_lines own.cuts own.nodes) after);
       };
     }
 
@@ -351,7 +351,7 @@ open_rest schema s known file line more h t =
         table = h.table;
         exists = h.exists;
         pair = h.pair;
-        own = tree_lines own.cuts own.nodes;
+        own = histogram_lines own.cuts own.nodes;
         left = (
           own.cuts,
           record {
@@ -395,5 +395,5 @@ close_rest schema s list file more h =
       keeps = h.keeps;
       is = h.is;
       all = ap (λ (ls : List (List ℕ)). rest_line list ∷ ls) (h.all ∙ ap (λ (o : List (List ℕ)). o ++ after) tree.all)
-          ∙ ap (λ (l : List ℕ). rest_line l ∷ (tree_lines cuts tree.nodes ++ after)) (sym tree.rest);
+          ∙ ap (λ (l : List ℕ). rest_line l ∷ (histogram_lines cuts tree.nodes ++ after)) (sym tree.rest);
     }

@@ -14,7 +14,7 @@ use Rattle.stats_file.specs.Rules.{IsList, IsOfKind, StandsBefore}
 use Rattle.stats_words.specs.Runs.{list_text}
 use Rattle.stats_words.specs.Words.{Spells}
 use Rattle.stats_reading.specs.declared.draft.Draft.{Draft}
-use Rattle.stats_reading.specs.Drafts.{empty_pair, empty_section, frequent_words, pair_words, table_words, BeginsPair, FrequentFollows, IsNamed, MayBeFrequent, MayBePair, MayBeTable, Place, Took}
+use Rattle.stats_reading.specs.Drafts.{empty_pair, empty_section, frequent_words, pair_words, table_words, BeginsPair, FrequentFollows, IsNamed, MayBeFrequent, MayBePair, MayBeTable, Place, WasTaken}
 use Rattle.stats_reading.proofs.Going.{two}
 use Rattle.stats_reading.proofs.Turns.{column_place, one_place, place_of}
 use Rattle.stats_reading.proofs.WordFacts.{same_datum, same_list}
@@ -39,7 +39,7 @@ no_pair table s filter joined i j good is_i is_j no' x may e =
 
 pub some_pair : (table : Table) (s t : Draft) (filter joined : List ℕ) (i j : ℕ) → IsColumn table filter i → IsColumn table joined j
     → All (λ q. StandsBefore q (empty_pair i j)) s.section.pairs → BeginsPair table s t i j
-    → Took (pair_words table) (λ c. MayBePair table s c.0 c.1) (λ c. BeginsPair table s t c.0 c.1) (filter, joined)
+    → WasTaken (pair_words table) (λ c. MayBePair table s c.0 c.1) (λ c. BeginsPair table s t c.0 c.1) (filter, joined)
 some_pair table s t filter joined i j is_i is_j later begun = record {
   value = (i, j);
   may = record { filter_is = column_within table filter i is_i; joined_is = column_within table joined j is_j; later = later };
@@ -63,7 +63,7 @@ no_table schema s name rows i good (t, at, is) no' x may e =
 
 pub some_table : (schema : Schema) (s t : Draft) (name rows : List ℕ) (i n : ℕ) → IsTable schema name i → Spells decimal (λ m. m ≤ most_rows) rows (Some n)
     → All (λ u. u.table < i) s.tables → t ≡ record s { section = empty_section i n }
-    → Took table_words (MayBeTable schema s) (λ v. t ≡ record s { section = empty_section v.place v.rows }) (name, rows)
+    → WasTaken table_words (MayBeTable schema s) (λ v. t ≡ record s { section = empty_section v.place v.rows }) (name, rows)
 some_table schema s t name rows i n (table, at, is) number later after = record {
   value = place_of table i n;
   may = record { exists = at; later = later; few = number.0 };

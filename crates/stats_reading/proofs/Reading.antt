@@ -11,14 +11,14 @@ use Rattle.stats_file.specs.FileText.{file_lines, file_text, pair_lines, section
 use Rattle.stats_file.specs.Grammar.{IsText}
 use Rattle.stats_file.specs.Lines.{end_line}
 use Rattle.stats_file.specs.Rules.{KeepsRules}
-use Rattle.stats_words.specs.Splits.{IsSplit, Without}
+use Rattle.stats_words.specs.Splits.{IsSplitAt, Without}
 use Rattle.stats_reading.specs.declared.draft.Draft.{Draft}
 use Rattle.stats_reading.specs.declared.fault.Fault.{Fault}
 use Rattle.stats_reading.specs.declared.fault.Fault.TheVariants as fault
 use Rattle.stats_reading.specs.declared.stages.Stage.{Stage}
 use Rattle.stats_reading.specs.declared.stages.Stage.TheVariants as stage
-use Rattle.stats_reading.specs.Goes.{Answers, Goes}
-use Rattle.stats_reading.specs.Left.{file_of, section_of, CutsLeft, FileLeft, FrequentLeft, InPair, NodesLeft, WholeLeft}
+use Rattle.stats_reading.specs.Goes.{LineAnswers, Goes}
+use Rattle.stats_reading.specs.Left.{file_of_draft, section_of, CutsLeft, FileLeft, FrequentLeft, InPair, NodesLeft, WholeLeft}
 use Rattle.stats_reading.specs.Refusals.{refusal_of}
 use Rattle.stats_reading.specs.Stages.{TextLeft}
 use Rattle.stats_reading.specs.Valid.{IsValidDraft, IsValidPair}
@@ -51,7 +51,7 @@ one_more lines line more = append_assoc lines (line ∷ []) more
 with_end : (text others : List ℕ) → text ++ (10 ∷ others) ≡ ended text ++ others
 with_end text others = sym (append_assoc text (codes "\n") others)
 
-pub read_more : (schema : Schema) (bytes rest text others : List ℕ) (s t : Draft) (line : ℕ) → IsRead schema bytes rest s line → IsSplit 10 rest text others → Goes schema s t (ended text)
+pub read_more : (schema : Schema) (bytes rest text others : List ℕ) (s t : Draft) (line : ℕ) → IsRead schema bytes rest s line → IsSplitAt 10 rest text others → Goes schema s t (ended text)
     → IsRead schema bytes others t (line + 1)
 read_more schema bytes rest text others s t line h split goes =
     let lines = h.lines ++ ended text ∷ [] in
@@ -85,7 +85,7 @@ record Begun (at : Stage) (schema : Schema) (s : Draft) : Type 0 where
 abbrev last : Lines
 last = end_line ∷ []
 
-in_pair : (Left : Pair → Lines → Type 0) (schema : Schema) (s : Draft) (v : IsValidPair Left schema s) → InPair Left schema s (file_of s (section_of s (v.pair ∷ []) ∷ [])) (v.own ++ last)
+in_pair : (Left : Pair → Lines → Type 0) (schema : Schema) (s : Draft) (v : IsValidPair Left schema s) → InPair Left schema s (file_of_draft s (section_of s (v.pair ∷ []) ∷ [])) (v.own ++ last)
 in_pair Left schema s v = record {
   table = v.table;
   exists = v.exists;
@@ -108,17 +108,17 @@ begun_at stage.Start schema s v = record {
   more = file_lines schema smallest;
   left = (record { least = omega arith; most = omega arith; order = λ i j d less lt. absurd (omega arith); tables = λ i d lt. absurd (omega arith) }, refl);
 }
-begun_at stage.Tables schema s v = record { file = file_of s []; more = last; left = record { tables = []; keeps = v; is = refl; all = refl } }
+begun_at stage.Tables schema s v = record { file = file_of_draft s []; more = last; left = record { tables = []; keeps = v; is = refl; all = refl } }
 begun_at stage.Pairs schema s v = record {
-  file = file_of s (section_of s [] ∷ []);
+  file = file_of_draft s (section_of s [] ∷ []);
   more = last;
   left = record { table = v.table; exists = v.exists; pairs = []; tables = []; keeps = v.keeps; is = refl; all = refl };
 }
-begun_at stage.Whole schema s v = record { file = file_of s (section_of s (v.pair ∷ []) ∷ []); more = v.own ++ last; left = in_pair (WholeLeft s.pair) schema s v }
-begun_at stage.Frequent schema s v = record { file = file_of s (section_of s (v.pair ∷ []) ∷ []); more = v.own ++ last; left = in_pair (FrequentLeft s.pair) schema s v }
-begun_at stage.Cuts schema s v = record { file = file_of s (section_of s (v.pair ∷ []) ∷ []); more = v.own ++ last; left = in_pair (CutsLeft s.pair) schema s v }
-begun_at stage.Nodes schema s v = record { file = file_of s (section_of s (v.pair ∷ []) ∷ []); more = v.own ++ last; left = in_pair (NodesLeft s.pair) schema s v }
-begun_at stage.Done schema s v = record { file = file_of s []; more = []; left = (v, refl, refl) }
+begun_at stage.Whole schema s v = record { file = file_of_draft s (section_of s (v.pair ∷ []) ∷ []); more = v.own ++ last; left = in_pair (WholeLeft s.pair) schema s v }
+begun_at stage.Frequent schema s v = record { file = file_of_draft s (section_of s (v.pair ∷ []) ∷ []); more = v.own ++ last; left = in_pair (FrequentLeft s.pair) schema s v }
+begun_at stage.Cuts schema s v = record { file = file_of_draft s (section_of s (v.pair ∷ []) ∷ []); more = v.own ++ last; left = in_pair (CutsLeft s.pair) schema s v }
+begun_at stage.Nodes schema s v = record { file = file_of_draft s (section_of s (v.pair ∷ []) ∷ []); more = v.own ++ last; left = in_pair (NodesLeft s.pair) schema s v }
+begun_at stage.Done schema s v = record { file = file_of_draft s []; more = []; left = (v, refl, refl) }
 
 -- the lines that are read are those with which some file begins
 read_up_to : (schema : Schema) (bytes rest : List ℕ) (s : Draft) (line : ℕ) (h : IsRead schema bytes rest s line) → IsReadUpTo schema bytes h.lines rest
@@ -129,11 +129,11 @@ read_up_to schema bytes rest s line h =
 
 -- ---- refusals
 
-next_line : (rest text others : List ℕ) → IsSplit 10 rest text others → BeginsWithLine rest (ended text) others
+next_line : (rest text others : List ℕ) → IsSplitAt 10 rest text others → BeginsWithLine rest (ended text) others
 next_line rest text others split = record { text = text; no_end = split.first; ended = refl; whole = split.whole ∙ with_end text others }
 
-pub refused : (schema : Schema) (bytes rest text others : List ℕ) (s t : Draft) (line : ℕ) (e : Fault) → IsRead schema bytes rest s line → IsSplit 10 rest text others
-    → Answers schema s t (ended text) (Err e) → FileAnswers schema bytes (Err (refusal_of line e))
+pub refused : (schema : Schema) (bytes rest text others : List ℕ) (s t : Draft) (line : ℕ) (e : Fault) → IsRead schema bytes rest s line → IsSplitAt 10 rest text others
+    → LineAnswers schema s t (ended text) (Err e) → FileAnswers schema bytes (Err (refusal_of line e))
 refused schema bytes rest text others s t line fault.Syntax h split none = record {
   lines = h.lines;
   left = rest;
@@ -198,7 +198,7 @@ too_early schema bytes rest s line h none other = record {
 
 -- ---- the file
 
-done_left : (at : Stage) (schema : Schema) (s : Draft) → at ≡ stage.Done → IsValidDraft at schema s → KeepsRules schema (file_of s []) × FileLeft at schema s (file_of s []) []
+done_left : (at : Stage) (schema : Schema) (s : Draft) → at ≡ stage.Done → IsValidDraft at schema s → KeepsRules schema (file_of_draft s []) × FileLeft at schema s (file_of_draft s []) []
 done_left stage.Start schema s is v = absurd (cc)
 done_left stage.Tables schema s is v = absurd (cc)
 done_left stage.Pairs schema s is v = absurd (cc)
@@ -208,11 +208,11 @@ done_left stage.Cuts schema s is v = absurd (cc)
 done_left stage.Nodes schema s is v = absurd (cc)
 done_left stage.Done schema s is v = (v, (v, refl, refl))
 
-pub all_read : (schema : Schema) (bytes rest : List ℕ) (s : Draft) (line : ℕ) (file : StatsFile) → IsRead schema bytes rest s line → s.stage ≡ stage.Done → rest ≡ [] → file ≡ file_of s []
+pub all_read : (schema : Schema) (bytes rest : List ℕ) (s : Draft) (line : ℕ) (file : StatsFile) → IsRead schema bytes rest s line → s.stage ≡ stage.Done → rest ≡ [] → file ≡ file_of_draft s []
     → FileAnswers schema bytes (Ok file)
 all_read schema bytes rest s line file h done none is =
     let left = (done_left s.stage schema s done h.valid).1 in
-    let both = (h.files (file_of s []) []).1 left in
+    let both = (h.files (file_of_draft s []) []).1 left in
     subst (λ (f : StatsFile). KeepsRules schema f × (bytes ≡ file_text schema f)) (sym is) (
       both.0,
       h.whole ∙ ap (λ (x : List ℕ). concat h.lines ++ x) none ∙ append-nil (concat h.lines) ∙ ap concat (sym (append-nil h.lines) ∙ both.1),

@@ -8,7 +8,7 @@ use Rattle.stats_file.specs.declared.types.Pair.{Pair}
 use Rattle.stats_file.specs.declared.types.TableStats.{TableStats}
 use Rattle.stats_file.specs.Rules.{Agree, IsPair, IsSection, KeepsRules, StandsBefore}
 use Rattle.stats_reading.specs.declared.draft.Draft.{Draft}
-use Rattle.stats_reading.specs.Left.{file_of, section_of}
+use Rattle.stats_reading.specs.Left.{file_of_draft, section_of}
 use Rattle.stats_reading.proofs.Seams.{all_here, all_left, all_more, pairs_front, pairs_here, same_some}
 
 -- the rules that speak of a pair behind those of the table
@@ -29,13 +29,13 @@ section_rules schema table section is exists =
     record { pairs = subst (λ t. All (IsPair t section.rows) section.pairs) same is.pairs; order = is.order; agree = is.agree }
 
 -- the table at hand keeps the rules
-pub section_at : (schema : Schema) (s : Draft) (pairs : List Pair) (tables : List TableStats) → KeepsRules schema (file_of s (section_of s pairs ∷ tables))
+pub section_at : (schema : Schema) (s : Draft) (pairs : List Pair) (tables : List TableStats) → KeepsRules schema (file_of_draft s (section_of s pairs ∷ tables))
     → IsSection schema (section_of s pairs)
 section_at schema s pairs tables keeps = all_here (IsSection schema) s.tables (section_of s pairs) tables keeps.tables
 
 -- the rules of the pair behind those of the draft
 pub pair_rules : (schema : Schema) (table : Table) (s : Draft) (pair : Pair) (pairs : List Pair) (tables : List TableStats) → slice_get schema.tables s.section.table ≡ Some table
-    → KeepsRules schema (file_of s (section_of s (pair ∷ pairs) ∷ tables)) → PairRules table s.section.rows s.section.pairs pair
+    → KeepsRules schema (file_of_draft s (section_of s (pair ∷ pairs) ∷ tables)) → PairRules table s.section.rows s.section.pairs pair
 pair_rules schema table s pair pairs tables exists keeps =
     let section = section_of s (pair ∷ pairs) in
     let rules = section_rules schema table section (section_at schema s (pair ∷ pairs) tables keeps) exists in
@@ -46,7 +46,7 @@ pair_rules schema table s pair pairs tables exists keeps =
     }
 
 -- the rules of a file with fewer tables
-pub fewer_tables : (schema : Schema) (s : Draft) (tables more : List TableStats) → KeepsRules schema (file_of s (tables ++ more)) → KeepsRules schema (file_of s tables)
+pub fewer_tables : (schema : Schema) (s : Draft) (tables more : List TableStats) → KeepsRules schema (file_of_draft s (tables ++ more)) → KeepsRules schema (file_of_draft s tables)
 fewer_tables schema s tables more keeps =
     let same : s.tables ++ (tables ++ more) ≡ (s.tables ++ tables) ++ more = sym (append_assoc s.tables tables more) in
     record {
@@ -69,7 +69,7 @@ fewer_pairs_section schema s pairs more is =
     }
 
 -- another last table of the same place
-other_last : (schema : Schema) (s : Draft) (a b : TableStats) → a.table ≡ b.table → IsSection schema b → KeepsRules schema (file_of s (a ∷ [])) → KeepsRules schema (file_of s (b ∷ []))
+other_last : (schema : Schema) (s : Draft) (a b : TableStats) → a.table ≡ b.table → IsSection schema b → KeepsRules schema (file_of_draft s (a ∷ [])) → KeepsRules schema (file_of_draft s (b ∷ []))
 other_last schema s a b same is keeps =
     let order = pairs_here (λ (x y : TableStats). x.table < y.table) s.tables a [] keeps.order in
     record {
@@ -81,16 +81,16 @@ other_last schema s a b same is keeps =
     }
 
 -- the rules of the draft alone, without the pair that goes on
-pub without_pair : (schema : Schema) (s : Draft) (pairs : List Pair) (tables : List TableStats) → KeepsRules schema (file_of s (section_of s pairs ∷ tables))
-    → KeepsRules schema (file_of s (section_of s [] ∷ []))
+pub without_pair : (schema : Schema) (s : Draft) (pairs : List Pair) (tables : List TableStats) → KeepsRules schema (file_of_draft s (section_of s pairs ∷ tables))
+    → KeepsRules schema (file_of_draft s (section_of s [] ∷ []))
 without_pair schema s pairs tables keeps =
     let one = fewer_tables schema s (section_of s pairs ∷ []) tables keeps in
     other_last schema s (section_of s pairs) (section_of s []) refl (fewer_pairs_section schema s [] pairs (section_at schema s pairs [] one)) one
 
 -- a pair that keeps the rules may stand behind those of the draft
 pub with_pair : (schema : Schema) (table : Table) (s : Draft) (pair : Pair) → slice_get schema.tables s.section.table ≡ Some table
-    → KeepsRules schema (file_of s (section_of s [] ∷ [])) → PairRules table s.section.rows s.section.pairs pair
-    → KeepsRules schema (file_of s (section_of s (pair ∷ []) ∷ []))
+    → KeepsRules schema (file_of_draft s (section_of s [] ∷ [])) → PairRules table s.section.rows s.section.pairs pair
+    → KeepsRules schema (file_of_draft s (section_of s (pair ∷ []) ∷ []))
 with_pair schema table s pair exists keeps rules =
     let old = section_at schema s [] [] keeps in
     let of_old = section_rules schema table (section_of s []) old exists in

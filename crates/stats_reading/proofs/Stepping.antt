@@ -6,7 +6,7 @@ use Rattle.schema_types.specs.declared.types.Schema.{Schema}
 use Rattle.stats_file.specs.declared.types.Datum.{Datum}
 use Rattle.stats_file.specs.declared.types.Pair.{Pair}
 use Rattle.stats_file.specs.declared.types.StatsFile.{StatsFile}
-use Rattle.stats_file.specs.FileText.{node_line, value_line}
+use Rattle.stats_file.specs.FileText.{histogram_node_line, value_line}
 use Rattle.stats_file.specs.Lines.{cut_line, datum_text}
 use Rattle.stats_words.specs.Runs.{list_text}
 use Rattle.stats_words.specs.Splits.{Without}
@@ -187,13 +187,13 @@ pub node_goes : (schema : Schema) (s t : Draft) (a b l : List ℕ) (r : Result (
 node_goes schema s t a b l r valid is takes =
     step_goes step (IsValidDraft stage.Nodes schema t) r takes (λ v may e. valid_along stage.Nodes schema (with_node s v) t e (node_grown schema s v valid may))
   where
-    step : IsStep node_line list_word (MayBeNode s) (λ v. t ≡ with_node s v) (FileLeft stage.Cuts schema s) (FileLeft stage.Nodes schema t) (ended l) (a, b)
+    step : IsStep histogram_node_line list_word (MayBeNode s) (λ v. t ≡ with_node s v) (FileLeft stage.Cuts schema s) (FileLeft stage.Nodes schema t) (ended l) (a, b)
     step = record {
       opens = λ file more h.
           let o = open_node schema s (knows (CutsLeft s.pair) schema s valid) file (ended l) more h (line_tag kind.Node a b l is) in
           record { value = o.value; is = o.is; may = o.may; rest = λ e. along stage.Nodes schema (with_node s o.value) t file more e o.rest };
       closes = λ v file more e may h.
-          weaker schema s file (node_line v ∷ more) (close_node schema s v file more (back_along stage.Nodes schema (with_node s v) t file more e h));
+          weaker schema s file (histogram_node_line v ∷ more) (close_node schema s v file more (back_along stage.Nodes schema (with_node s v) t file more e h));
       same = λ x y may_x may_y e. same_list s.section.rows x y (rows_fit (CutsLeft s.pair) schema s valid) may_x.0 may_y.0 (ap (λ (p : List ℕ × List ℕ). p.0) e);
       spells = λ v may. spells_one (codes "node ") (list_text v) a b l is.whole is.parts.1;
     }
@@ -203,7 +203,7 @@ pub next_node_goes : (schema : Schema) (s t : Draft) (a b l : List ℕ) (r : Res
 next_node_goes schema s t a b l r valid is takes =
     step_goes step (IsValidDraft stage.Nodes schema t) r takes (λ v may e. valid_along stage.Nodes schema (with_node s v) t e (node_grown schema s v (weaker_valid schema s valid) may))
   where
-    step : IsStep node_line list_word (MayBeNode s) (λ v. t ≡ with_node s v) (FileLeft stage.Nodes schema s) (FileLeft stage.Nodes schema t) (ended l) (a, b)
+    step : IsStep histogram_node_line list_word (MayBeNode s) (λ v. t ≡ with_node s v) (FileLeft stage.Nodes schema s) (FileLeft stage.Nodes schema t) (ended l) (a, b)
     step = record {
       opens = λ file more h.
           let o = open_node schema s (knows (NodesLeft s.pair) schema s valid) file (ended l) more (weaker schema s file (ended l ∷ more) h) (line_tag kind.Node a b l is) in

@@ -7,9 +7,9 @@ use Rattle.schema_types.specs.declared.types.Table.{Table}
 use Rattle.stats_file.specs.declared.types.Datum.{Datum}
 use Rattle.stats_file.specs.declared.types.Pair.{Pair}
 use Rattle.stats_file.specs.declared.types.TableStats.{TableStats}
-use Rattle.stats_file.specs.FileText.{name_at, node_line, pair_lines, section_lines, table_lines, value_line}
+use Rattle.stats_file.specs.FileText.{name_at, histogram_node_line, pair_lines, section_lines, table_lines, value_line}
 use Rattle.stats_file.specs.Lines.{cut_line, end_line, pair_line, table_line}
-use Rattle.stats_reading.specs.Left.{frequent_lines, pairs_left, rest_line, tables_left, tree_lines, whole_line}
+use Rattle.stats_reading.specs.Left.{frequent_lines, pairs_left, rest_line, tables_left, histogram_lines, whole_line}
 use Rattle.stats_reading.proofs.Seams.{first_line_of, FromMap}
 
 abbrev pub tag : List ℕ → ℕ
@@ -90,29 +90,29 @@ after_pairs schema tables line more e = at (tables_tag schema tables line more e
 
 -- the line is the next cut, or the next node, or comes behind them
 pub record TreeParts (cuts : List Datum) (nodes : List (List ℕ)) (line : List ℕ) (more after : List (List ℕ)) : Type 0 where
-  pub cut : tag line ≡ 99 → FromMap cut_line cuts line more (map node_line nodes ++ after)
-  pub node : tag line ≡ 110 → (cuts ≡ []) × FromMap node_line nodes line more after
+  pub cut : tag line ≡ 99 → FromMap cut_line cuts line more (map histogram_node_line nodes ++ after)
+  pub node : tag line ≡ 110 → (cuts ≡ []) × FromMap histogram_node_line nodes line more after
   pub behind : tag line ≢ 99 → tag line ≢ 110 → (cuts ≡ []) × (nodes ≡ []) × (line ∷ more ≡ after)
 
 pub tree_parts : (cuts : List Datum) (nodes : List (List ℕ)) (line : List ℕ) (more after : List (List ℕ)) → (line ∷ more ≡ after → (tag line ≢ 99) × (tag line ≢ 110))
-    → line ∷ more ≡ tree_lines cuts nodes ++ after → TreeParts cuts nodes line more after
+    → line ∷ more ≡ histogram_lines cuts nodes ++ after → TreeParts cuts nodes line more after
 tree_parts cuts nodes line more after other e =
-    let whole = e ∙ append_assoc (map cut_line cuts) (map node_line nodes) after in
-    by_cut (first_line_of cut_line cuts line more (map node_line nodes ++ after) whole)
+    let whole = e ∙ append_assoc (map cut_line cuts) (map histogram_node_line nodes) after in
+    by_cut (first_line_of cut_line cuts line more (map histogram_node_line nodes ++ after) whole)
   where
-    by_node : cuts ≡ [] → FromMap node_line nodes line more after ⊎ ((nodes ≡ []) × (line ∷ more ≡ after)) → TreeParts cuts nodes line more after
+    by_node : cuts ≡ [] → FromMap histogram_node_line nodes line more after ⊎ ((nodes ≡ []) × (line ∷ more ≡ after)) → TreeParts cuts nodes line more after
     by_node none (inl f) =
-        let is : tag line ≡ 110 = same_tag line (node_line f.head) f.line_is in
+        let is : tag line ≡ 110 = same_tag line (histogram_node_line f.head) f.line_is in
         record { cut = λ t. absurd (omega arith); node = λ t. (none, f); behind = λ a b. absurd (b is) }
     by_node none (inr (no_nodes, rest)) =
         let ne = other rest in
         record { cut = λ t. absurd (ne.0 t); node = λ t. absurd (ne.1 t); behind = λ a b. (none, no_nodes, rest) }
 
-    by_cut : FromMap cut_line cuts line more (map node_line nodes ++ after) ⊎ ((cuts ≡ []) × (line ∷ more ≡ map node_line nodes ++ after)) → TreeParts cuts nodes line more after
+    by_cut : FromMap cut_line cuts line more (map histogram_node_line nodes ++ after) ⊎ ((cuts ≡ []) × (line ∷ more ≡ map histogram_node_line nodes ++ after)) → TreeParts cuts nodes line more after
     by_cut (inl f) =
         let is : tag line ≡ 99 = same_tag line (cut_line f.head) f.line_is in
         record { cut = λ t. f; node = λ t. absurd (omega arith); behind = λ a b. absurd (a is) }
-    by_cut (inr (none, rest)) = by_node none (first_line_of node_line nodes line more after rest)
+    by_cut (inr (none, rest)) = by_node none (first_line_of histogram_node_line nodes line more after rest)
 
 -- ---- the lines of frequent values
 

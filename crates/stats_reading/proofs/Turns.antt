@@ -20,7 +20,7 @@ use Rattle.stats_reading.specs.declared.stages.Stage.TheVariants as stage
 use Rattle.stats_reading.specs.Drafts.{empty_draft, number_word, pair_ended, pair_words, table_ended, table_words, BeginsPair, MayBeAccuracy, MayBePair, MayBeTable, Place, Takes}
 use Rattle.stats_reading.specs.Goes.{BeginsPairOf, BeginsTable}
 use Rattle.stats_reading.specs.Kinds.{IsLineOf}
-use Rattle.stats_reading.specs.Left.{file_of, FileLeft, InFile, InTable}
+use Rattle.stats_reading.specs.Left.{file_of_draft, FileLeft, InFile, InTable}
 use Rattle.stats_reading.specs.Steps.{Ends, EndsAnd, PairEnds, TableEnds}
 use Rattle.stats_reading.specs.Valid.{IsValidDraft, IsValidTable}
 use Rattle.stats_reading.proofs.Begun.{pair_begun_valid, pair_ended_valid, table_begun_valid, table_ended_valid}
@@ -65,7 +65,7 @@ pub record PairEnding (at : Stage) (schema : Schema) (s : Draft) (line : List �
 
 pub record TableEnding (at : Stage) (schema : Schema) (s : Draft) (line : List ℕ) : Type 0 where
   pub ends : EndsBefore (TableEnds at s) (FileLeft at schema s) (InFile schema) line
-  pub valid : (m : Draft) → TableEnds at s m → KeepsRules schema (file_of m [])
+  pub valid : (m : Draft) → TableEnds at s m → KeepsRules schema (file_of_draft m [])
 
 moved : (P : Draft → Type 0) (a b : Draft) → b ≡ a → P a ↔ P b
 moved P a b e = (λ h. subst P (sym e) h, λ h. subst P e h)
@@ -109,7 +109,7 @@ ends_in_tables schema s line valid = record {
     may = λ file more h. (s, refl);
     same = λ m e file more. moved (λ (x : Draft). InFile schema x file (line ∷ more)) s m e;
   };
-  valid = λ m e. subst (λ (x : Draft). KeepsRules schema (file_of x [])) (sym e) valid;
+  valid = λ m e. subst (λ (x : Draft). KeepsRules schema (file_of_draft x [])) (sym e) valid;
 }
 
 -- after the pair the table ends
@@ -128,8 +128,8 @@ after_pair_ends at schema s line pair no_pair = record {
 }
 
 after_pair_valid : (at : Stage) (schema : Schema) (s : Draft) (line : List ℕ) → PairEnding at schema s line → (t : Draft) → (m : Draft) × PairEnds at s m × (t ≡ table_ended m)
-    → KeepsRules schema (file_of t [])
-after_pair_valid at schema s line pair t e = subst (λ (x : Draft). KeepsRules schema (file_of x [])) (sym e.2) (table_ended_valid schema e.0 (pair.valid e.0 e.1))
+    → KeepsRules schema (file_of_draft t [])
+after_pair_valid at schema s line pair t e = subst (λ (x : Draft). KeepsRules schema (file_of_draft x [])) (sym e.2) (table_ended_valid schema e.0 (pair.valid e.0 e.1))
 
 pub table_in_pairs : (schema : Schema) (s : Draft) (line : List ℕ) → PairEnding stage.Pairs schema s line → tag line ≢ 112 → TableEnding stage.Pairs schema s line
 table_in_pairs schema s line pair no_pair = record { ends = after_pair_ends stage.Pairs schema s line pair no_pair; valid = after_pair_valid stage.Pairs schema s line pair }
@@ -222,7 +222,7 @@ pub end_line_goes : (at : Stage) (schema : Schema) (s t : Draft) (a b l : List �
     → Ends (TableEnds at s) t r → FilesGo (FileLeft at schema s) (FileLeft stage.Done schema t) (IsValidDraft stage.Done schema t) (ended l) r
 end_line_goes at schema s t a b l r ending is ends =
     end_goes ending.ends (FileLeft stage.Done schema t) (IsValidDraft stage.Done schema t) t r ends (λ m may e.
-    (λ file more. same m e file more, subst (λ (x : Draft). KeepsRules schema (file_of x [])) e (ending.valid m may)))
+    (λ file more. same m e file more, subst (λ (x : Draft). KeepsRules schema (file_of_draft x [])) e (ending.valid m may)))
   where
     line_is : ended l ≡ end_line
     line_is = ap ended (is.whole ∙ ap (λ (x : List ℕ). codes "end" ++ x) is.parts.0)
@@ -234,14 +234,14 @@ end_line_goes at schema s t a b l r ending is ends =
           (close_end schema m file more (subst (λ (x : Draft). FileLeft stage.Done schema x file more) (sym e) h)),
     )
 
-first_valid : (schema : Schema) (k : ℕ) → MayBeAccuracy k → KeepsRules schema (file_of (record empty_draft { accuracy = k }) [])
+first_valid : (schema : Schema) (k : ℕ) → MayBeAccuracy k → KeepsRules schema (file_of_draft (record empty_draft { accuracy = k }) [])
 first_valid schema k may = record { least = may.0; most = may.1; order = λ i j d less lt. absurd (omega arith); tables = λ i d lt. absurd (omega arith) }
 
 pub first_goes : (schema : Schema) (s t : Draft) (a b l : List ℕ) (r : Result (Unit {0}) Fault) → IsValidDraft stage.Start schema s → IsLineOf kind.First a b l
     → Takes number_word MayBeAccuracy (λ k. t ≡ record s { accuracy = k }) (a, b) r
     → FilesGo (FileLeft stage.Start schema s) (FileLeft stage.Tables schema t) (IsValidDraft stage.Tables schema t) (ended l) r
 first_goes schema s t a b l r valid is takes =
-    step_goes step (IsValidDraft stage.Tables schema t) r takes (λ k may e. subst (λ (x : Draft). KeepsRules schema (file_of x [])) (sym (from_empty k e)) (first_valid schema k may))
+    step_goes step (IsValidDraft stage.Tables schema t) r takes (λ k may e. subst (λ (x : Draft). KeepsRules schema (file_of_draft x [])) (sym (from_empty k e)) (first_valid schema k may))
   where
     from_empty : (k : ℕ) → t ≡ record s { accuracy = k } → t ≡ record empty_draft { accuracy = k }
     from_empty k e = e ∙ ap (λ (x : Draft). record x { accuracy = k }) valid

@@ -34,8 +34,8 @@ empty_draft = record {
   section = empty_section 0 0;
   pair = empty_pair 0 0;
   kind = kind.Int;
-  like = 0;
-  twin = 0;
+  same_filter_at = 0;
+  same_joined_at = 0;
 }
 
 -- the pair at hand, with more of it
@@ -63,8 +63,8 @@ abbrev pub table_ended : Draft → Draft
 table_ended s = record s { tables = s.tables ++ s.section ∷ []; section = empty_section 0 0 }
 
 -- where there are rows, all cuts and nodes are there
-abbrev pub IsWhole : Draft → Type 0
-IsWhole s = 0 < s.section.rows → (length s.pair.cuts ≡ 32) × (length s.pair.nodes ≡ 63)
+abbrev pub HasAllNodes : Draft → Type 0
+HasAllNodes s = 0 < s.section.rows → (length s.pair.cuts ≡ 32) × (length s.pair.nodes ≡ 63)
 
 -- a place of an earlier pair with such a column, or one behind all where none has it
 pub record IsPlaceOf (column : Pair → ℕ) (wanted : ℕ) (pairs : List Pair) (place : ℕ) : Type 0 where
@@ -75,9 +75,9 @@ pub record IsPlaceOf (column : Pair → ℕ) (wanted : ℕ) (pairs : List Pair) 
 pub record BeginsPair (table : Table) (old new : Draft) (filter joined : ℕ) : Type 0 where
   pub column : Column
   pub column_is : slice_get table.columns filter ≡ Some column
-  pub like : IsPlaceOf (λ q. q.filter) filter old.section.pairs new.like
-  pub twin : IsPlaceOf (λ q. q.joined) joined old.section.pairs new.twin
-  pub whole : new ≡ record old { pair = empty_pair filter joined; kind = column.kind; like = new.like; twin = new.twin }
+  pub same_filter_at : IsPlaceOf (λ q. q.filter) filter old.section.pairs new.same_filter_at
+  pub same_joined_at : IsPlaceOf (λ q. q.joined) joined old.section.pairs new.same_joined_at
+  pub whole : new ≡ record old { pair = empty_pair filter joined; kind = column.kind; same_filter_at = new.same_filter_at; same_joined_at = new.same_joined_at }
 
 -- the tables that are complete, and the pairs of the table at hand that are, ascend
 abbrev pub TablesAscend : Draft → Type 0
@@ -90,10 +90,10 @@ PairsAscend s = AllPairs StandsBefore s.section.pairs
 
 -- the earlier pair with this filter column, if there is one
 abbrev pub IsLike : Draft → Pair → Type 0
-IsLike s q = slice_get s.section.pairs s.like ≡ Some q
+IsLike s q = slice_get s.section.pairs s.same_filter_at ≡ Some q
 
 abbrev pub IsTwin : Draft → Pair → Type 0
-IsTwin s q = slice_get s.section.pairs s.twin ≡ Some q
+IsTwin s q = slice_get s.section.pairs s.same_joined_at ≡ Some q
 
 abbrev pub MayBeAccuracy : ℕ → Type 0
 MayBeAccuracy k = (least_accuracy ≤ k) × (k ≤ most_accuracy)
@@ -178,14 +178,14 @@ MayBeNode s node = IsList s.section.rows node × NodeFollows s node
 -- ---- a step
 
 -- one of the values that may be next has these words, and was taken; or none of them has
-pub record Took {X : Type 0} (text : X → List ℕ × List ℕ) (MayBe After : X → Type 0) (words : List ℕ × List ℕ) : Type 0 where
+pub record WasTaken {X : Type 0} (text : X → List ℕ × List ℕ) (MayBe After : X → Type 0) (words : List ℕ × List ℕ) : Type 0 where
   pub value : X
   pub may : MayBe value
   pub spelled : text value ≡ words
   pub after : After value
 
 abbrev pub Takes : {X : Type 0} → (X → List ℕ × List ℕ) → (X → Type 0) → (X → Type 0) → List ℕ × List ℕ → Result (Unit {0}) Fault → Type 0
-Takes {X} text MayBe After words (Ok done) = Took text MayBe After words
+Takes {X} text MayBe After words (Ok done) = WasTaken text MayBe After words
 Takes {X} text MayBe After words (Err fault.Syntax) = ⊥
 Takes {X} text MayBe After words (Err fault.Rule) = (x : X) → MayBe x → text x ≢ words
 Takes {X} text MayBe After words (Err fault.NoMemory) = ⊤

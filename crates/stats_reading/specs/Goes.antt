@@ -38,19 +38,19 @@ abbrev pub IsReady : LineKind → Schema → Draft → Type 0
 IsReady k schema s = IsReadyAt s.stage k schema s
 
 -- the words of a line of this kind are read into a draft
-abbrev pub ReadsAt : Stage → Schema → LineKind → Draft → Draft → List ℕ × List ℕ → Result (Unit {0}) Fault → Type 0
-ReadsAt at schema kind.First s t words result = Takes number_word MayBeAccuracy (λ k. t ≡ record s { accuracy = k }) (words.0, []) result
-ReadsAt at schema kind.Table s t words result = EndsAnd (TableEnds at s) (BeginsTable schema t words) result
-ReadsAt at schema kind.Pair s t words result = EndsAnd (PairEnds at s) (BeginsPairOf schema t words) result
-ReadsAt at schema kind.Whole s t words result = Takes list_word (MayBeWhole s) (λ l. t ≡ with_whole s l) (words.0, []) result
-ReadsAt at schema kind.Frequent s t words result = Takes frequent_words (MayBeFrequent s) (λ f. t ≡ with_frequent s f) words result
-ReadsAt at schema kind.Rest s t words result = Takes list_word (MayBeRest s) (λ l. t ≡ with_rest s l) (words.0, []) result
-ReadsAt at schema kind.Cut s t words result = Takes value_word (MayBeCut s) (λ v. t ≡ with_cut s v) (words.0, []) result
-ReadsAt at schema kind.Node s t words result = Takes list_word (MayBeNode s) (λ l. t ≡ with_node s l) (words.0, []) result
-ReadsAt at schema kind.End s t words result = Ends (TableEnds at s) t result
+abbrev pub WordsAreRead : Stage → Schema → LineKind → Draft → Draft → List ℕ × List ℕ → Result (Unit {0}) Fault → Type 0
+WordsAreRead at schema kind.First s t words result = Takes number_word MayBeAccuracy (λ k. t ≡ record s { accuracy = k }) (words.0, []) result
+WordsAreRead at schema kind.Table s t words result = EndsAnd (TableEnds at s) (BeginsTable schema t words) result
+WordsAreRead at schema kind.Pair s t words result = EndsAnd (PairEnds at s) (BeginsPairOf schema t words) result
+WordsAreRead at schema kind.Whole s t words result = Takes list_word (MayBeWhole s) (λ l. t ≡ with_whole s l) (words.0, []) result
+WordsAreRead at schema kind.Frequent s t words result = Takes frequent_words (MayBeFrequent s) (λ f. t ≡ with_frequent s f) words result
+WordsAreRead at schema kind.Rest s t words result = Takes list_word (MayBeRest s) (λ l. t ≡ with_rest s l) (words.0, []) result
+WordsAreRead at schema kind.Cut s t words result = Takes value_word (MayBeCut s) (λ v. t ≡ with_cut s v) (words.0, []) result
+WordsAreRead at schema kind.Node s t words result = Takes list_word (MayBeNode s) (λ l. t ≡ with_node s l) (words.0, []) result
+WordsAreRead at schema kind.End s t words result = Ends (TableEnds at s) t result
 
-abbrev pub Reads : Schema → LineKind → Draft → Draft → List ℕ × List ℕ → Result (Unit {0}) Fault → Type 0
-Reads schema k s t words result = ReadsAt s.stage schema k s t words result
+abbrev pub LineIsRead : Schema → LineKind → Draft → Draft → List ℕ × List ℕ → Result (Unit {0}) Fault → Type 0
+LineIsRead schema k s t words result = WordsAreRead s.stage schema k s t words result
 
 -- the line is taken: what may follow it is what may follow the new draft
 pub record Goes (schema : Schema) (s t : Draft) (line : List ℕ) : Type 0 where
@@ -64,8 +64,8 @@ pub record Breaks (schema : Schema) (s : Draft) (line : List ℕ) : Type 0 where
   pub some : List (List ℕ)
   pub text : TextLeft s.stage (line ∷ some)
 
-abbrev pub Answers : Schema → Draft → Draft → List ℕ → Result (Unit {0}) Fault → Type 0
-Answers schema s t line (Ok done) = Goes schema s t line
-Answers schema s t line (Err fault.Syntax) = (more : List (List ℕ)) → TextLeft s.stage (line ∷ more) → ⊥
-Answers schema s t line (Err fault.Rule) = Breaks schema s line
-Answers schema s t line (Err fault.NoMemory) = ⊤
+abbrev pub LineAnswers : Schema → Draft → Draft → List ℕ → Result (Unit {0}) Fault → Type 0
+LineAnswers schema s t line (Ok done) = Goes schema s t line
+LineAnswers schema s t line (Err fault.Syntax) = (more : List (List ℕ)) → TextLeft s.stage (line ∷ more) → ⊥
+LineAnswers schema s t line (Err fault.Rule) = Breaks schema s line
+LineAnswers schema s t line (Err fault.NoMemory) = ⊤

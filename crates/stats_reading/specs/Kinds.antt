@@ -30,16 +30,16 @@ has_two kind.Node = false
 has_two kind.End = false
 
 -- words of the grammar, as a line of this kind has them
-abbrev pub AreParts : LineKind → List ℕ → List ℕ → Type 0
-AreParts kind.First first second = IsNumeral first × (second ≡ [])
-AreParts kind.Table first second = IsHexWord first × IsNumeral second
-AreParts kind.Pair first second = IsHexWord first × IsHexWord second
-AreParts kind.Whole first second = IsListWord first × (second ≡ [])
-AreParts kind.Frequent first second = IsValueWord first × IsListWord second
-AreParts kind.Rest first second = IsListWord first × (second ≡ [])
-AreParts kind.Cut first second = IsValueWord first × (second ≡ [])
-AreParts kind.Node first second = IsListWord first × (second ≡ [])
-AreParts kind.End first second = (first ≡ []) × (second ≡ [])
+abbrev pub AreLineParts : LineKind → List ℕ → List ℕ → Type 0
+AreLineParts kind.First first second = IsNumeral first × (second ≡ [])
+AreLineParts kind.Table first second = IsHexWord first × IsNumeral second
+AreLineParts kind.Pair first second = IsHexWord first × IsHexWord second
+AreLineParts kind.Whole first second = IsListWord first × (second ≡ [])
+AreLineParts kind.Frequent first second = IsValueWord first × IsListWord second
+AreLineParts kind.Rest first second = IsListWord first × (second ≡ [])
+AreLineParts kind.Cut first second = IsValueWord first × (second ≡ [])
+AreLineParts kind.Node first second = IsListWord first × (second ≡ [])
+AreLineParts kind.End first second = (first ≡ []) × (second ≡ [])
 
 -- the words, with a blank between two of them
 abbrev pub words_text : LineKind → List ℕ → List ℕ → List ℕ
@@ -47,7 +47,7 @@ words_text kind first second = if has_two kind then first ++ (codes " " ++ secon
 
 -- the line of this kind with these words
 pub record IsLineOf (kind : LineKind) (first second line : List ℕ) : Type 0 where
-  pub parts : AreParts kind first second
+  pub parts : AreLineParts kind first second
   pub whole : line ≡ front kind ++ words_text kind first second
 
 -- if there is one word, the second one is empty
@@ -58,7 +58,7 @@ IsAlone kind second = has_two kind ≡ false → second ≡ []
 pub record MayBeLineOf (kind : LineKind) (first second line : List ℕ) : Type 0 where
   pub whole : line ≡ front kind ++ words_text kind first second
   pub alone : IsAlone kind second
-  pub only : (k : LineKind) (a b : List ℕ) → IsLineOf k a b line → AreParts kind first second
+  pub only : (k : LineKind) (a b : List ℕ) → IsLineOf k a b line → AreLineParts kind first second
 
 -- a line that the grammar doesn't have
 abbrev pub IsNoLine : List ℕ → Type 0
@@ -68,11 +68,11 @@ IsNoLine line = (kind : LineKind) (first second : List ℕ) → IsLineOf kind fi
 pub record MayStandBehind (kind : LineKind) (words first second : List ℕ) : Type 0 where
   pub whole : words ≡ words_text kind first second
   pub alone : IsAlone kind second
-  pub only : (a b : List ℕ) → AreParts kind a b → words ≡ words_text kind a b → AreParts kind first second
+  pub only : (a b : List ℕ) → AreLineParts kind a b → words ≡ words_text kind a b → AreLineParts kind first second
 
 -- no words of a line of this kind stand there
-abbrev pub HasNoWords : LineKind → List ℕ → Type 0
-HasNoWords kind words = (first second : List ℕ) → AreParts kind first second → words ≡ words_text kind first second → ⊥
+abbrev pub HasNoLineWords : LineKind → List ℕ → Type 0
+HasNoLineWords kind words = (first second : List ℕ) → AreLineParts kind first second → words ≡ words_text kind first second → ⊥
 
 -- the kinds whose words are tested before they are read; what is read of the others is in the grammar
 abbrev pub is_tested : LineKind → Bool
@@ -88,8 +88,8 @@ is_tested kind.End = true
 
 -- a rule is broken only by words of the grammar: others are no line of it
 abbrev pub IsFaultOf : LineKind → List ℕ → List ℕ → Fault → Fault → Type 0
-IsFaultOf kind first second fault.Rule fault.Rule = AreParts kind first second
-IsFaultOf kind first second fault.Rule fault.Syntax = AreParts kind first second → ⊥
+IsFaultOf kind first second fault.Rule fault.Rule = AreLineParts kind first second
+IsFaultOf kind first second fault.Rule fault.Syntax = AreLineParts kind first second → ⊥
 IsFaultOf kind first second fault.Rule fault.NoMemory = ⊥
 IsFaultOf kind first second fault.Syntax new = new ≡ fault.Syntax
 IsFaultOf kind first second fault.NoMemory new = new ≡ fault.NoMemory

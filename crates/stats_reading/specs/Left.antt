@@ -7,7 +7,7 @@ use Rattle.stats_file.specs.declared.types.Datum.{Datum}
 use Rattle.stats_file.specs.declared.types.Pair.{Pair}
 use Rattle.stats_file.specs.declared.types.StatsFile.{StatsFile}
 use Rattle.stats_file.specs.declared.types.TableStats.{TableStats}
-use Rattle.stats_file.specs.FileText.{file_lines, node_line, pair_lines, section_lines, value_line}
+use Rattle.stats_file.specs.FileText.{file_lines, histogram_node_line, pair_lines, section_lines, value_line}
 use Rattle.stats_file.specs.Lines.{cut_line, end_line, list_line}
 use Rattle.stats_file.specs.Rules.{KeepsRules}
 use Rattle.stats_file.specs.Runs.{runs_of}
@@ -21,16 +21,16 @@ whole_line list = list_line (codes "whole") (runs_of list)
 abbrev pub rest_line : List ℕ → List ℕ
 rest_line list = list_line (codes "rest") (runs_of list)
 
-abbrev pub tree_lines : List Datum → List (List ℕ) → List (List ℕ)
-tree_lines cuts nodes = map cut_line cuts ++ map node_line nodes
+abbrev pub histogram_lines : List Datum → List (List ℕ) → List (List ℕ)
+histogram_lines cuts nodes = map cut_line cuts ++ map histogram_node_line nodes
 
 abbrev pub frequent_lines : List (Datum × List ℕ) → List ℕ → List Datum → List (List ℕ) → List (List ℕ)
-frequent_lines frequent rest cuts nodes = map value_line frequent ++ (rest_line rest ∷ tree_lines cuts nodes)
+frequent_lines frequent rest cuts nodes = map value_line frequent ++ (rest_line rest ∷ histogram_lines cuts nodes)
 
 -- ---- a pair that begins as the one at hand
 
 -- the columns are the same, and what has been read of lists is followed by these
-pub record Grows (d p : Pair) (frequent : List (Datum × List ℕ)) (cuts : List Datum) (nodes : List (List ℕ)) : Type 0 where
+pub record PairGrows (d p : Pair) (frequent : List (Datum × List ℕ)) (cuts : List Datum) (nodes : List (List ℕ)) : Type 0 where
   pub filter : p.filter ≡ d.filter
   pub joined : p.joined ≡ d.joined
   pub frequent_is : p.frequent ≡ d.frequent ++ frequent
@@ -41,23 +41,23 @@ pub record WholeLeft (d p : Pair) (lines : List (List ℕ)) : Type 0 where
   pub frequent : List (Datum × List ℕ)
   pub cuts : List Datum
   pub nodes : List (List ℕ)
-  pub grows : Grows d p frequent cuts nodes
+  pub grows : PairGrows d p frequent cuts nodes
   pub all : lines ≡ whole_line p.whole ∷ frequent_lines frequent p.rest cuts nodes
 
 pub record FrequentLeft (d p : Pair) (lines : List (List ℕ)) : Type 0 where
   pub frequent : List (Datum × List ℕ)
   pub cuts : List Datum
   pub nodes : List (List ℕ)
-  pub grows : Grows d p frequent cuts nodes
+  pub grows : PairGrows d p frequent cuts nodes
   pub whole : p.whole ≡ d.whole
   pub all : lines ≡ frequent_lines frequent p.rest cuts nodes
 
 pub record TreeLeft (d p : Pair) (cuts : List Datum) (lines : List (List ℕ)) : Type 0 where
   pub nodes : List (List ℕ)
-  pub grows : Grows d p [] cuts nodes
+  pub grows : PairGrows d p [] cuts nodes
   pub whole : p.whole ≡ d.whole
   pub rest : p.rest ≡ d.rest
-  pub all : lines ≡ tree_lines cuts nodes
+  pub all : lines ≡ histogram_lines cuts nodes
 
 abbrev pub CutsLeft : Pair → Pair → List (List ℕ) → Type 0
 CutsLeft d p lines = (cuts : List Datum) × TreeLeft d p cuts lines
@@ -75,8 +75,8 @@ tables_left schema tables = flat_map (section_lines schema) tables ++ (end_line 
 abbrev pub pairs_left : Schema → Table → List Pair → List TableStats → List (List ℕ)
 pairs_left schema table pairs tables = flat_map (pair_lines table) pairs ++ tables_left schema tables
 
-abbrev pub file_of : Draft → List TableStats → StatsFile
-file_of s tables = record { accuracy = s.accuracy; tables = s.tables ++ tables }
+abbrev pub file_of_draft : Draft → List TableStats → StatsFile
+file_of_draft s tables = record { accuracy = s.accuracy; tables = s.tables ++ tables }
 
 -- the table at hand, with further pairs
 abbrev pub section_of : Draft → List Pair → TableStats
@@ -86,7 +86,7 @@ section_of s pairs = record s.section { pairs = s.section.pairs ++ pairs }
 pub record InFile (schema : Schema) (s : Draft) (file : StatsFile) (lines : List (List ℕ)) : Type 0 where
   pub tables : List TableStats
   pub keeps : KeepsRules schema file
-  pub is : file ≡ file_of s tables
+  pub is : file ≡ file_of_draft s tables
   pub all : lines ≡ tables_left schema tables
 
 -- the table at hand goes on with pairs
@@ -96,7 +96,7 @@ pub record InTable (schema : Schema) (s : Draft) (file : StatsFile) (lines : Lis
   pub pairs : List Pair
   pub tables : List TableStats
   pub keeps : KeepsRules schema file
-  pub is : file ≡ file_of s (section_of s pairs ∷ tables)
+  pub is : file ≡ file_of_draft s (section_of s pairs ∷ tables)
   pub all : lines ≡ pairs_left schema table pairs tables
 
 -- the pair at hand goes on
@@ -110,7 +110,7 @@ pub record InPair (Left : Pair → List (List ℕ) → Type 0) (schema : Schema)
   pub pairs : List Pair
   pub tables : List TableStats
   pub keeps : KeepsRules schema file
-  pub is : file ≡ file_of s (section_of s (pair ∷ pairs) ∷ tables)
+  pub is : file ≡ file_of_draft s (section_of s (pair ∷ pairs) ∷ tables)
   pub all : lines ≡ own ++ pairs_left schema table pairs tables
 
 -- the file begins as the draft, and these lines are left of it
@@ -122,4 +122,4 @@ FileLeft stage.Whole schema s file lines = InPair (WholeLeft s.pair) schema s fi
 FileLeft stage.Frequent schema s file lines = InPair (FrequentLeft s.pair) schema s file lines
 FileLeft stage.Cuts schema s file lines = InPair (CutsLeft s.pair) schema s file lines
 FileLeft stage.Nodes schema s file lines = InPair (NodesLeft s.pair) schema s file lines
-FileLeft stage.Done schema s file lines = KeepsRules schema file × (file ≡ file_of s []) × (lines ≡ [])
+FileLeft stage.Done schema s file lines = KeepsRules schema file × (file ≡ file_of_draft s []) × (lines ≡ [])

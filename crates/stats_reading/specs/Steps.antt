@@ -5,12 +5,12 @@ use Rattle.stats_reading.specs.declared.fault.Fault.{Fault}
 use Rattle.stats_reading.specs.declared.fault.Fault.TheVariants as fault
 use Rattle.stats_reading.specs.declared.stages.Stage.{Stage}
 use Rattle.stats_reading.specs.declared.stages.Stage.TheVariants as stage
-use Rattle.stats_reading.specs.Drafts.{pair_ended, table_ended, IsWhole}
+use Rattle.stats_reading.specs.Drafts.{pair_ended, table_ended, HasAllNodes}
 
 -- the draft without an open pair
 abbrev pub PairEnds : Stage → Draft → Draft → Type 0
-PairEnds stage.Cuts s t = IsWhole s × (t ≡ pair_ended s)
-PairEnds stage.Nodes s t = IsWhole s × (t ≡ pair_ended s)
+PairEnds stage.Cuts s t = HasAllNodes s × (t ≡ pair_ended s)
+PairEnds stage.Nodes s t = HasAllNodes s × (t ≡ pair_ended s)
 PairEnds _ s t = t ≡ s
 
 -- the draft without an open table

@@ -9,21 +9,21 @@ use Rattle.stats_reading.specs.declared.draft.Draft.{Draft}
 use Rattle.stats_reading.specs.declared.stages.Stage.{Stage}
 use Rattle.stats_reading.specs.declared.stages.Stage.TheVariants as stage
 use Rattle.stats_reading.specs.Drafts.{empty_draft, IsPlaceOf}
-use Rattle.stats_reading.specs.Left.{file_of, section_of, CutsLeft, FrequentLeft, NodesLeft, WholeLeft}
+use Rattle.stats_reading.specs.Left.{file_of_draft, section_of, CutsLeft, FrequentLeft, NodesLeft, WholeLeft}
 
 -- what is known of the pair at hand
 pub record IsKnown (table : Table) (s : Draft) : Type 0 where
   pub column : Column
   pub column_is : slice_get table.columns s.pair.filter ≡ Some column
   pub kind_is : s.kind ≡ column.kind
-  pub like : IsPlaceOf (λ q. q.filter) s.pair.filter s.section.pairs s.like
-  pub twin : IsPlaceOf (λ q. q.joined) s.pair.joined s.section.pairs s.twin
+  pub same_filter_at : IsPlaceOf (λ q. q.filter) s.pair.filter s.section.pairs s.same_filter_at
+  pub same_joined_at : IsPlaceOf (λ q. q.joined) s.pair.joined s.section.pairs s.same_joined_at
 
 -- the table at hand keeps the rules
 pub record IsValidTable (schema : Schema) (s : Draft) : Type 0 where
   pub table : Table
   pub exists : slice_get schema.tables s.section.table ≡ Some table
-  pub keeps : KeepsRules schema (file_of s (section_of s [] ∷ []))
+  pub keeps : KeepsRules schema (file_of_draft s (section_of s [] ∷ []))
 
 -- some pair that begins as the one at hand keeps them too
 pub record IsValidPair (Left : Pair → List (List ℕ) → Type 0) (schema : Schema) (s : Draft) : Type 0 where
@@ -33,14 +33,14 @@ pub record IsValidPair (Left : Pair → List (List ℕ) → Type 0) (schema : Sc
   pub pair : Pair
   pub own : List (List ℕ)
   pub left : Left pair own
-  pub keeps : KeepsRules schema (file_of s (section_of s (pair ∷ []) ∷ []))
+  pub keeps : KeepsRules schema (file_of_draft s (section_of s (pair ∷ []) ∷ []))
 
 abbrev pub IsValidDraft : Stage → Schema → Draft → Type 0
 IsValidDraft stage.Start schema s = s ≡ empty_draft
-IsValidDraft stage.Tables schema s = KeepsRules schema (file_of s [])
+IsValidDraft stage.Tables schema s = KeepsRules schema (file_of_draft s [])
 IsValidDraft stage.Pairs schema s = IsValidTable schema s
 IsValidDraft stage.Whole schema s = IsValidPair (WholeLeft s.pair) schema s
 IsValidDraft stage.Frequent schema s = IsValidPair (FrequentLeft s.pair) schema s
 IsValidDraft stage.Cuts schema s = IsValidPair (CutsLeft s.pair) schema s
 IsValidDraft stage.Nodes schema s = IsValidPair (NodesLeft s.pair) schema s
-IsValidDraft stage.Done schema s = KeepsRules schema (file_of s [])
+IsValidDraft stage.Done schema s = KeepsRules schema (file_of_draft s [])

@@ -136,8 +136,8 @@ fn begin_pair(alloc: Global, table: &Table, draft: &mut Draft, filter: u32, join
     requires later { All (λ q. q.filter ≤ filter) draft.old.section.pairs }
     ensures { BeginsPair table.now draft.old draft.new filter joined }
 {
-    draft.like = place_of_filter(draft.section.pairs.as_slice(), filter);
-    draft.twin = place_of_joined(draft.section.pairs.as_slice(), joined);
+    draft.same_filter_at = place_of_filter(draft.section.pairs.as_slice(), filter);
+    draft.same_joined_at = place_of_joined(draft.section.pairs.as_slice(), joined);
     draft.kind = table.columns.get(filter as usize).kind;
     draft.pair = new_pair(alloc, filter, joined);
 }

@@ -20,8 +20,8 @@ pub struct Draft {
     pub section: TableStats,
     pub pair: Pair,
     pub kind: Kind,
-    pub like: usize,
-    pub twin: usize,
+    pub same_filter_at: usize,
+    pub same_joined_at: usize,
 }
 
 /// A pair of these columns without lists.
@@ -62,8 +62,8 @@ impl Draft {
             section: new_section(alloc, 0, 0),
             pair: new_pair(alloc, 0, 0),
             kind: Kind::Int,
-            like: 0,
-            twin: 0,
+            same_filter_at: 0,
+            same_joined_at: 0,
         }
     }
 }

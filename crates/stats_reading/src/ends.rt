@@ -1,6 +1,6 @@
 //! Pairs and tables that are complete.
 ghost use Rattle.std.specs.Prelude.{◌≡◌, ◌↔◌, IsTrue, OnOk};
-ghost use Rattle.stats_reading.specs.Drafts.{pair_ended, table_ended, IsWhole};
+ghost use Rattle.stats_reading.specs.Drafts.{pair_ended, table_ended, HasAllNodes};
 ghost use Rattle.stats_reading.specs.declared.draft.Draft.{Draft as State};
 ghost use Rattle.stats_reading.specs.Steps.{Ends, PairEnds, TableEnds};
 
@@ -11,7 +11,7 @@ use base_io::NoMemory;
 use std::alloc::Global;
 
 fn has_all(draft: &Draft) -> bool
-    ensures { IsTrue result ↔ IsWhole draft.now }
+    ensures { IsTrue result ↔ HasAllNodes draft.now }
 {
     draft.section.rows == 0 || (draft.pair.cuts.len() == 32 && draft.pair.nodes.len() == 63)
 }
@@ -31,7 +31,7 @@ fn push_section(alloc: Global, draft: &mut Draft) -> Result<(), NoMemory>
 }
 
 fn end_open_pair(alloc: Global, draft: &mut Draft) -> Result<(), Fault>
-    ensures { Ends (λ t. IsWhole draft.old × (t ≡ pair_ended draft.old)) draft.new result }
+    ensures { Ends (λ t. HasAllNodes draft.old × (t ≡ pair_ended draft.old)) draft.new result }
 {
     if !has_all(draft) {
         return Err(Fault::Rule);

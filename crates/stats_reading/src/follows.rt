@@ -27,9 +27,9 @@ fn pair_at(draft: &Draft, place: usize) -> Option<&Pair>
 fn is_whole_of_twin(draft: &Draft, list: &Pieces) -> bool
     ensures { IsTrue result ↔ ((q : Statistics) → IsTwin draft.now q → q.whole ≡ list.now) }
 {
-    match pair_at(draft, draft.twin) {
+    match pair_at(draft, draft.same_joined_at) {
         None => true,
-        Some(twin) => same_list(&twin.whole, list),
+        Some(same_joined_at) => same_list(&same_joined_at.whole, list),
     }
 }
 
@@ -79,9 +79,9 @@ fn is_alike_frequent(draft: &Draft, value: &Datum, list: &Pieces) -> bool
     ensures { IsTrue result
         ↔ ((q : Statistics) → IsLike draft.now q → IsSameValue (length draft.now.pair.frequent) (value.now, list.now) q) }
 {
-    match pair_at(draft, draft.like) {
+    match pair_at(draft, draft.same_filter_at) {
         None => true,
-        Some(like) => has_value(like, draft.pair.frequent.len(), value, list),
+        Some(same_filter_at) => has_value(same_filter_at, draft.pair.frequent.len(), value, list),
     }
 }
 
@@ -110,9 +110,9 @@ pub fn rest_follows(draft: &Draft, list: &Pieces) -> bool
     requires right { sum list.now < 2 ^ 64 }
     ensures { IsTrue result ↔ RestFollows draft.now list.now }
 {
-    match pair_at(draft, draft.like) {
+    match pair_at(draft, draft.same_filter_at) {
         None => true,
-        Some(like) => has_rest(like, draft.pair.frequent.len(), list),
+        Some(same_filter_at) => has_rest(same_filter_at, draft.pair.frequent.len(), list),
     }
 }
 
@@ -140,9 +140,9 @@ fn is_alike_cut(draft: &Draft, value: &Datum) -> bool
     ensures { IsTrue result
         ↔ ((q : Statistics) → IsLike draft.now q → slice_get q.cuts (length draft.now.pair.cuts) ≡ Some value.now) }
 {
-    match pair_at(draft, draft.like) {
+    match pair_at(draft, draft.same_filter_at) {
         None => true,
-        Some(like) => has_cut(like, draft.pair.cuts.len(), value),
+        Some(same_filter_at) => has_cut(same_filter_at, draft.pair.cuts.len(), value),
     }
 }
 
@@ -172,9 +172,9 @@ fn is_alike_node(draft: &Draft, node: &Pieces) -> bool
     requires right { sum node.now < 2 ^ 64 }
     ensures { IsTrue result ↔ ((q : Statistics) → IsLike draft.now q → IsSameTotal (length draft.now.pair.nodes) node.now q) }
 {
-    match pair_at(draft, draft.like) {
+    match pair_at(draft, draft.same_filter_at) {
         None => true,
-        Some(like) => has_node(like, draft.pair.nodes.len(), node),
+        Some(same_filter_at) => has_node(same_filter_at, draft.pair.nodes.len(), node),
     }
 }
 

@@ -1,6 +1,6 @@
 //! What a line is.
 ghost use Rattle.std.specs.Prelude.{◌≡◌, ◌≢◌, ◌↔◌, ◌++◌, [], ℕ, List, true, false, Some, IsTrue, MatchOption};
-ghost use Rattle.stats_reading.specs.Kinds.{front, has_two, is_tested as tested, AreParts, CanBe, HasNoWords, IsFaultOf, IsNoLine, MayBeLineOf, MayStandBehind};
+ghost use Rattle.stats_reading.specs.Kinds.{front, has_two, is_tested as tested, AreLineParts, CanBe, HasNoLineWords, IsFaultOf, IsNoLine, MayBeLineOf, MayStandBehind};
 
 use crate::fault::Fault;
 use stats_words::{is_hex_word, is_list_word, is_numeral, is_value_word, split_at_byte};
@@ -90,7 +90,7 @@ fn behind_front(kind: LineKind, line: &[u8]) -> Option<&[u8]>
 // Whether a word is that of a line of this kind, which has one.
 fn is_part(kind: LineKind, word: &[u8]) -> bool
     requires { has_two kind ≡ false }
-    ensures { IsTrue result ↔ AreParts kind word.now [] }
+    ensures { IsTrue result ↔ AreLineParts kind word.now [] }
 {
     match kind {
         LineKind::First => is_numeral(word),
@@ -103,7 +103,7 @@ fn is_part(kind: LineKind, word: &[u8]) -> bool
 // Whether two words are those of a line of this kind, which has two.
 fn are_parts(kind: LineKind, first: &[u8], second: &[u8]) -> bool
     requires { has_two kind ≡ true }
-    ensures { IsTrue result ↔ AreParts kind first.now second.now }
+    ensures { IsTrue result ↔ AreLineParts kind first.now second.now }
 {
     match kind {
         LineKind::Table => is_hex_word(first) && is_numeral(second),
@@ -120,7 +120,7 @@ fn has_two_words(kind: LineKind) -> bool
 
 fn two(kind: LineKind, words: &[u8]) -> Option<(&[u8], &[u8])>
     requires { has_two kind ≡ true }
-    ensures { MatchOption result (HasNoWords kind words.now) (λ w. MayStandBehind kind words.now w.0.now w.1.now) }
+    ensures { MatchOption result (HasNoLineWords kind words.now) (λ w. MayStandBehind kind words.now w.0.now w.1.now) }
 {
     match split_at_byte(words, b' ') {
         None => None,
@@ -130,7 +130,7 @@ fn two(kind: LineKind, words: &[u8]) -> Option<(&[u8], &[u8])>
 
 // The words of a line of this kind, which stand behind its front.
 fn words_of(kind: LineKind, words: &[u8]) -> Option<(&[u8], &[u8])>
-    ensures { MatchOption result (HasNoWords kind words.now) (λ w. MayStandBehind kind words.now w.0.now w.1.now) }
+    ensures { MatchOption result (HasNoLineWords kind words.now) (λ w. MayStandBehind kind words.now w.0.now w.1.now) }
 {
     if has_two_words(kind) {
         two(kind, words)
@@ -152,14 +152,14 @@ pub fn words_in(kind: LineKind, line: &[u8]) -> Option<(&[u8], &[u8])>
 // Whether these are the words of a line of this kind, which has one: the second is empty.
 fn is_part_alone(kind: LineKind, word: &[u8], second: &[u8]) -> bool
     requires { has_two kind ≡ false }
-    ensures { IsTrue result ↔ AreParts kind word.now second.now }
+    ensures { IsTrue result ↔ AreLineParts kind word.now second.now }
 {
     second.is_empty() && is_part(kind, word)
 }
 
 // Whether the words of a line are those of the grammar.
 fn are_words(line: Line) -> bool
-    ensures { IsTrue result ↔ AreParts line.entry.kind line.entry.first.now line.entry.second.now }
+    ensures { IsTrue result ↔ AreLineParts line.entry.kind line.entry.first.now line.entry.second.now }
 {
     if has_two_words(line.kind) {
         are_parts(line.kind, line.first, line.second)
@@ -179,7 +179,7 @@ fn is_tested(kind: LineKind) -> bool
 
 /// Whether the words of a line are known to be of the grammar, where its kind is one whose words are tested.
 pub fn may_be_read(line: Line) -> bool
-    ensures { IsTrue result ↔ (tested line.entry.kind ≡ true → AreParts line.entry.kind line.entry.first.now line.entry.second.now) }
+    ensures { IsTrue result ↔ (tested line.entry.kind ≡ true → AreLineParts line.entry.kind line.entry.first.now line.entry.second.now) }
 {
     !is_tested(line.kind) || are_words(line)
 }

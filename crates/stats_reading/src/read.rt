@@ -4,8 +4,8 @@ ghost use Rattle.limits.specs.Profile.{most_file};
 ghost use Rattle.schema_types.specs.Validity.{IsValid};
 ghost use Rattle.stats_file.specs.Answers.{Answers as FileAnswers};
 ghost use Rattle.stats_reading.specs.declared.stages.Stage.TheVariants as stages;
-ghost use Rattle.stats_reading.specs.Goes.{Answers};
-ghost use Rattle.stats_reading.specs.Left.{file_of};
+ghost use Rattle.stats_reading.specs.Goes.{LineAnswers};
+ghost use Rattle.stats_reading.specs.Left.{file_of_draft};
 ghost use Rattle.stats_reading.specs.Refusals.{refusal_of};
 ghost use Rattle.stats_reading.specs.Valid.{IsValidDraft};
 
@@ -34,7 +34,7 @@ fn refusal(fault: Fault, line: u32) -> StatsError
 fn take_line(alloc: Global, schema: &Schema, draft: &mut Draft, text: &[u8]) -> Result<(), Fault>
     requires schema { IsValid schema.now }
     requires valid { IsValidDraft draft.old.stage schema.now draft.old }
-    ensures { Answers schema.now draft.old draft.new (text.now ++ codes "\n") result }
+    ensures { LineAnswers schema.now draft.old draft.new (text.now ++ codes "\n") result }
 {
     let Some(kind) = kind_of(text) else {
         return Err(Fault::Syntax);
@@ -69,7 +69,7 @@ fn is_whole(draft: &Draft, rest: &[u8]) -> bool
 }
 
 fn finish(draft: Draft) -> StatsFile
-    ensures { result ≡ file_of draft [] }
+    ensures { result ≡ file_of_draft draft [] }
 {
     let Draft {
         stage: _,
@@ -78,8 +78,8 @@ fn finish(draft: Draft) -> StatsFile
         section: _,
         pair: _,
         kind: _,
-        like: _,
-        twin: _,
+        same_filter_at: _,
+        same_joined_at: _,
     } = draft;
     StatsFile { accuracy, tables }
 }

@@ -3,8 +3,8 @@ ghost use Rattle.std.specs.Prelude.{◌≡◌, ◌<◌, ◌++◌, ℕ, List, fal
 ghost use Rattle.schema_types.specs.Validity.{IsValid};
 ghost use Rattle.stats_reading.specs.declared.draft.Draft.{Draft as State};
 ghost use Rattle.stats_reading.specs.Drafts.{PairsAscend, TablesAscend};
-ghost use Rattle.stats_reading.specs.Goes.{Answers, BeginsPairOf, BeginsTable, IsReady, Reads};
-ghost use Rattle.stats_reading.specs.Kinds.{is_tested, AreParts, IsAlone, IsLineOf};
+ghost use Rattle.stats_reading.specs.Goes.{LineAnswers, BeginsPairOf, BeginsTable, IsReady, LineIsRead};
+ghost use Rattle.stats_reading.specs.Kinds.{is_tested, AreLineParts, IsAlone, IsLineOf};
 ghost use Rattle.stats_reading.specs.Steps.{EndsAnd, PairEnds, TableEnds};
 ghost use Rattle.stats_reading.specs.Valid.{IsValidDraft};
 
@@ -62,7 +62,7 @@ fn take_pair_line(
 fn take_words(alloc: Global, schema: &Schema, draft: &mut Draft, line: Line) -> Result<(), Fault>
     requires schema { IsValid schema.now }
     requires ready { IsReady line.kind schema.now draft.old }
-    ensures { Reads schema.now line.entry.kind draft.old draft.new (line.entry.first.now, line.entry.second.now) result }
+    ensures { LineIsRead schema.now line.entry.kind draft.old draft.new (line.entry.first.now, line.entry.second.now) result }
 {
     match line.kind {
         LineKind::First => take_accuracy(draft, line.first),
@@ -84,9 +84,9 @@ pub fn take(alloc: Global, schema: &Schema, draft: &mut Draft, line: Line) -> Re
     requires valid { IsValidDraft draft.old.stage schema.now draft.old }
     requires alone { IsAlone line.kind line.second.now }
     ensures answers { (l : List ℕ) → IsLineOf line.entry.kind line.entry.first.now line.entry.second.now l
-        → Answers schema.now draft.old draft.new (l ++ codes "\n") result }
+        → LineAnswers schema.now draft.old draft.new (l ++ codes "\n") result }
     ensures known { is_tested line.entry.kind ≡ false
-        → OnOk result (AreParts line.entry.kind line.entry.first.now line.entry.second.now) }
+        → OnOk result (AreLineParts line.entry.kind line.entry.first.now line.entry.second.now) }
 {
     let Some(stage) = stage_after(draft.stage, line.kind) else {
         return Err(Fault::Syntax);

@@ -13,8 +13,8 @@ use Rattle.stats_file.specs.Lines.{run_text, runs_text}
 use Rattle.stats_file.specs.Rules.{IsList}
 use Rattle.stats_file.specs.Runs.{runs_of}
 use Rattle.stats_file.proofs.RunFacts.{runs_found}
-use Rattle.stats_words.specs.Runs.{list_text, MayFollow}
-use Rattle.stats_words.specs.Splits.{IsSplit, Without}
+use Rattle.stats_words.specs.Runs.{list_text, RunMayFollow}
+use Rattle.stats_words.specs.Splits.{IsSplitAt, Without}
 use Rattle.stats_words.specs.Words.{Spells}
 use Rattle.stats_words.proofs.RunTexts.{at_least_both, ended, expanded_runs, no_blank_in, runs_fall, small_runs, stripped, Stripped, sum_of_runs, texts_joined}
 use Rattle.stats_words.proofs.SplitFacts.{not_without, split_same}
@@ -61,12 +61,12 @@ pub record Listed (rows : ℕ) (word rest list : List ℕ) (below left : ℕ) : 
   pub few : length list + left ≤ rows
 
 -- the next run may be appended
-pub may_push : (rows : ℕ) (word rest list : List ℕ) (below left : ℕ) (run : Piece) → Listed rows word rest list below left → MayFollow below left run → All (λ x. run.value ≤ x) list
+pub may_push : (rows : ℕ) (word rest list : List ℕ) (below left : ℕ) (run : Piece) → Listed rows word rest list below left → RunMayFollow below left run → All (λ x. run.value ≤ x) list
 may_push rows word rest list below left run h may =
     subst (λ (l : List ℕ). All (λ x. run.value ≤ x) l) (sym h.list_is)
     (All-from_recursion (λ x. run.value ≤ x) (expanded h.runs) (elements_above run.value h.runs (all_above run.value below h.runs may.lower h.above)))
 
-pub room : (rows : ℕ) (word rest list : List ℕ) (below left : ℕ) (run : Piece) → Listed rows word rest list below left → MayFollow below left run → length list + run.count ≤ rows
+pub room : (rows : ℕ) (word rest list : List ℕ) (below left : ℕ) (run : Piece) → Listed rows word rest list below left → RunMayFollow below left run → length list + run.count ≤ rows
 room rows word rest list below left run h may =
     let both = at_least_both run.value run.count may.value may.count in
     let within : run.count * run.value ≤ left = may.within in
@@ -77,7 +77,7 @@ record Pushed (rows : ℕ) (runs : List Piece) (run : Piece) (list : List ℕ) :
   pub falls : AreRuns (runs ++ run ∷ [])
   pub total : sum list ≡ sum (expanded runs) + run.count * run.value
 
-pushed : (rows : ℕ) (word rest list new : List ℕ) (below left : ℕ) (run : Piece) (h : Listed rows word rest list below left) → MayFollow below left run
+pushed : (rows : ℕ) (word rest list new : List ℕ) (below left : ℕ) (run : Piece) (h : Listed rows word rest list below left) → RunMayFollow below left run
     → new ≡ list ++ replicate run.count run.value → Pushed rows h.runs run new
 pushed rows word rest list new below left run h may is =
     let same : new ≡ expanded (h.runs ++ run ∷ []) = is ∙ ap (λ (l : List ℕ). l ++ replicate run.count run.value) h.list_is ∙ sym (expanded-push h.runs run) in
@@ -88,8 +88,8 @@ pushed rows word rest list new below left run h may is =
     }
 
 -- one more run is read, and a blank behind it
-pub listed_more : (rows : ℕ) (word rest first others list new : List ℕ) (below left : ℕ) (run : Piece) → Listed rows word rest list below left → IsSplit 32 rest first others
-    → Spells run_text (MayFollow below left) first (Some run) → new ≡ list ++ replicate run.count run.value → Listed rows word others new run.value (left - run.count * run.value)
+pub listed_more : (rows : ℕ) (word rest first others list new : List ℕ) (below left : ℕ) (run : Piece) → Listed rows word rest list below left → IsSplitAt 32 rest first others
+    → Spells run_text (RunMayFollow below left) first (Some run) → new ≡ list ++ replicate run.count run.value → Listed rows word others new run.value (left - run.count * run.value)
 listed_more rows word rest first others list new below left run h split (may, text) is =
     let more = pushed rows word rest list new below left run h may is in
     let both = at_least_both run.value run.count may.value may.count in
@@ -110,7 +110,7 @@ listed_more rows word rest first others list new below left run h split (may, te
 
 -- the last run is read
 pub listed_last : (rows : ℕ) (word rest list new : List ℕ) (below left : ℕ) (run : Piece) → rows < 2 ^ 32 → Listed rows word rest list below left
-    → Spells run_text (MayFollow below left) rest (Some run) → new ≡ list ++ replicate run.count run.value → Spells list_text (IsList rows) word (Some new)
+    → Spells run_text (RunMayFollow below left) rest (Some run) → new ≡ list ++ replicate run.count run.value → Spells list_text (IsList rows) word (Some new)
 listed_last rows word rest list new below left run fits h (may, text) is =
     let more = pushed rows word rest list new below left run h may is in
     let within : run.count * run.value ≤ left = may.within in
@@ -151,7 +151,7 @@ runs_at (r ∷ rs) m ms runs = runs_at rs m ms runs.2
 
 -- such another run may follow
 may_be_next : (rows : ℕ) (word rest list : List ℕ) (below left : ℕ) (h : Listed rows word rest list below left) (l : List ℕ) → IsList rows l
-    → (s : Stripped h.runs (runs_of l) rest) → MayFollow below left s.run
+    → (s : Stripped h.runs (runs_of l) rest) → RunMayFollow below left s.run
 may_be_next rows word rest list below left h l is s =
     let runs = subst AreRuns s.whole (runs_fall l is.falls is.positive) in
     let here = runs_at h.runs s.run s.more runs in
@@ -169,7 +169,7 @@ may_be_next rows word rest list below left h l is s =
 
 -- where the next run is none that may follow, no list has this text
 pub listed_none : (rows : ℕ) (word rest first others list : List ℕ) (below left : ℕ) → rows < 2 ^ 32 → word ≢ codes "-" → Listed rows word rest list below left
-    → IsSplit 32 rest first others → Spells run_text (MayFollow below left) first None → Spells list_text (IsList rows) word None
+    → IsSplitAt 32 rest first others → Spells run_text (RunMayFollow below left) first None → Spells list_text (IsList rows) word None
 listed_none rows word rest first others list below left fits dash h split no' l is e =
     let s = others_text rows word rest list below left fits dash h l is e in
     let may = may_be_next rows word rest list below left h l is s in
@@ -179,19 +179,19 @@ listed_none rows word rest first others list below left fits dash h split no' l 
     let free = no_blank_in rows s.run (omega arith) (omega (arith, both.0), omega (arith, both.1)) in
     first_run s.run s.more s.text free may
   where
-    first_run : (m : Piece) (ms : List Piece) → runs_text (m ∷ ms) ≡ rest → Without 32 (run_text m) → MayFollow below left m → ⊥
+    first_run : (m : Piece) (ms : List Piece) → runs_text (m ∷ ms) ≡ rest → Without 32 (run_text m) → RunMayFollow below left m → ⊥
     first_run m [] text free may =
         not_without 32 first others (subst (λ (w : List ℕ). Without 32 w) (sym (append-nil (run_text m)) ∙ text ∙ split.whole) free)
     first_run m (n ∷ ms) text free may =
         no' m may (split_same 32 (run_text m) first (runs_text (n ∷ ms)) others free split.first (text ∙ split.whole)).0
 
 pub listed_none_last : (rows : ℕ) (word rest list : List ℕ) (below left : ℕ) → rows < 2 ^ 32 → word ≢ codes "-" → Listed rows word rest list below left
-    → Without 32 rest → Spells run_text (MayFollow below left) rest None → Spells list_text (IsList rows) word None
+    → Without 32 rest → Spells run_text (RunMayFollow below left) rest None → Spells list_text (IsList rows) word None
 listed_none_last rows word rest list below left fits dash h none no' l is e =
     let s = others_text rows word rest list below left fits dash h l is e in
     first_run s.run s.more s.text (may_be_next rows word rest list below left h l is s)
   where
-    first_run : (m : Piece) (ms : List Piece) → runs_text (m ∷ ms) ≡ rest → MayFollow below left m → ⊥
+    first_run : (m : Piece) (ms : List Piece) → runs_text (m ∷ ms) ≡ rest → RunMayFollow below left m → ⊥
     first_run m [] text may = no' m may (sym (append-nil (run_text m)) ∙ text)
     first_run m (n ∷ ms) text may = not_without 32 (run_text m) (runs_text (n ∷ ms)) (subst (λ (w : List ℕ). Without 32 w) (sym text) none)
 

@@ -3,7 +3,7 @@ use Rattle.std.proofs.Common.{[], ◌≡◌, ℕ, zero, suc, ◌<◌, ◌↔◌,
 use Rattle.std.specs.Prelude.{codes}
 use Rattle.std.specs.List.{AllByRecursion, flat_map}
 use Rattle.stats_file.specs.Grammar.{AreRunWords, IsNumeral, IsRunWord}
-use Rattle.stats_words.specs.Splits.{IsSplit, Without}
+use Rattle.stats_words.specs.Splits.{IsSplitAt, Without}
 use Rattle.stats_words.proofs.NumberFacts.{are_digits}
 use Rattle.stats_words.proofs.SplitFacts.{both_without, digits_without, not_without, split_same}
 
@@ -26,7 +26,7 @@ pub no_star : (word : List ℕ) → Without 42 word → IsRunWord word → ⊥
 no_star word none is = not_without 42 is.value is.count (subst (λ (w : List ℕ). Without 42 w) is.whole none)
 
 -- a word with a star is a run exactly where numerals stand around it
-pub run_is : (word value count : List ℕ) → IsSplit 42 word value count → IsRunWord word ↔ (IsNumeral value × IsNumeral count)
+pub run_is : (word value count : List ℕ) → IsSplitAt 42 word value count → IsRunWord word ↔ (IsNumeral value × IsNumeral count)
 run_is word value count split = (to, from)
   where
     to : IsRunWord word → IsNumeral value × IsNumeral count
@@ -40,7 +40,7 @@ run_is word value count split = (to, from)
 abbrev next : List ℕ → List ℕ
 next run = codes " " ++ run
 
-run_first : (rest run others first : List ℕ) (more : List (List ℕ)) → IsSplit 32 rest run others → IsRunWord first → AllByRecursion IsRunWord more
+run_first : (rest run others first : List ℕ) (more : List (List ℕ)) → IsSplitAt 32 rest run others → IsRunWord first → AllByRecursion IsRunWord more
     → rest ≡ first ++ flat_map next more → IsRunWord run × AreRunWords others
 run_first rest run others first [] split first_is more_are whole =
     absurd (not_without 32 run others (subst (λ (w : List ℕ). Without 32 w) (sym (append-nil first) ∙ sym whole ∙ split.whole) (run_without first first_is)))
@@ -51,7 +51,7 @@ run_first rest run others first (o ∷ os) split first_is more_are whole =
     )
 
 -- runs with a blank among them are a first run, and then further ones
-pub run_more : (rest run others : List ℕ) → IsSplit 32 rest run others → AreRunWords rest ↔ (IsRunWord run × AreRunWords others)
+pub run_more : (rest run others : List ℕ) → IsSplitAt 32 rest run others → AreRunWords rest ↔ (IsRunWord run × AreRunWords others)
 run_more rest run others split = (to, from)
   where
     to : AreRunWords rest → IsRunWord run × AreRunWords others

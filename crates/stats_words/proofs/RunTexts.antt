@@ -13,8 +13,8 @@ use Rattle.stats_file.specs.Grammar.{IsRunWord}
 use Rattle.stats_file.specs.Lines.{run_text, runs_text}
 use Rattle.stats_file.specs.Runs.{in_front, run_of, runs_of}
 use Rattle.stats_file.proofs.WordFacts.{numeral}
-use Rattle.stats_words.specs.Runs.{MayFollow}
-use Rattle.stats_words.specs.Splits.{IsSplit, Without}
+use Rattle.stats_words.specs.Runs.{RunMayFollow}
+use Rattle.stats_words.specs.Splits.{IsSplitAt, Without}
 use Rattle.stats_words.specs.Words.{Spells}
 use Rattle.stats_words.proofs.ListWordFacts.{numeral_without, run_without}
 use Rattle.stats_words.proofs.SplitFacts.{not_without, split_same}
@@ -57,32 +57,32 @@ at_least_both zero c v_some c_some = absurd (omega arith)
 at_least_both (suc v) zero v_some c_some = absurd (omega arith)
 at_least_both (suc v) (suc c) v_some c_some = (grind arith, grind arith)
 
-pub small_of : (below left : ℕ) (run : Piece) → MayFollow below left run → IsSmall left run
+pub small_of : (below left : ℕ) (run : Piece) → RunMayFollow below left run → IsSmall left run
 small_of below left run may =
     let both = at_least_both run.value run.count may.value may.count in
     let within : run.count * run.value ≤ left = may.within in
     (omega (arith, both.0), omega (arith, both.1))
 
-words_of : (word value count : List ℕ) (run : Piece) (left : ℕ) → left < 2 ^ 64 → IsSmall left run → IsSplit 42 word value count → run_text run ≡ word
+words_of : (word value count : List ℕ) (run : Piece) (left : ℕ) → left < 2 ^ 64 → IsSmall left run → IsSplitAt 42 word value count → run_text run ≡ word
     → (decimal run.value ≡ value) × (decimal run.count ≡ count)
 words_of word value count run left fits small split e =
     let le : run.value ≤ left = small.0 in
     split_same 42 (decimal run.value) value (decimal run.count) count (no_star_in run.value (omega arith)) split.first (e ∙ split.whole)
 
 pub no_value : (below left : ℕ) (value count : List ℕ) → left < 2 ^ 64 → Spells decimal (λ n. n ≤ left) value None
-    → (word : List ℕ) → IsSplit 42 word value count → Spells run_text (MayFollow below left) word None
+    → (word : List ℕ) → IsSplitAt 42 word value count → Spells run_text (RunMayFollow below left) word None
 no_value below left value count fits h word split run may e =
     let small = small_of below left run may in
     h run.value small.0 (words_of word value count run left fits small split e).0
 
 pub no_count : (below left : ℕ) (value count : List ℕ) → left < 2 ^ 64 → Spells decimal (λ n. n ≤ left) count None
-    → (word : List ℕ) → IsSplit 42 word value count → Spells run_text (MayFollow below left) word None
+    → (word : List ℕ) → IsSplitAt 42 word value count → Spells run_text (RunMayFollow below left) word None
 no_count below left value count fits h word split run may e =
     let small = small_of below left run may in
     h run.count small.1 (words_of word value count run left fits small split e).1
 
 pub no_run : (below left : ℕ) (value count : List ℕ) (v c : ℕ) → left < 2 ^ 64 → Spells decimal (λ n. n ≤ left) value (Some v) → Spells decimal (λ n. n ≤ left) count (Some c)
-    → ((0 < v) × (0 < c) × (v < below) × (c * v ≤ left) → ⊥) → (word : List ℕ) → IsSplit 42 word value count → Spells run_text (MayFollow below left) word None
+    → ((0 < v) × (0 < c) × (v < below) × (c * v ≤ left) → ⊥) → (word : List ℕ) → IsSplitAt 42 word value count → Spells run_text (RunMayFollow below left) word None
 no_run below left value count v c fits hv hc other word split run may e =
     let small = small_of below left run may in
     let words = words_of word value count run left fits small split e in
@@ -99,14 +99,14 @@ no_run below left value count v c fits hv hc other word split run may e =
     other (omega arith, omega arith, omega arith, product)
 
 pub some_run : (below left : ℕ) (value count : List ℕ) (v c : ℕ) → Spells decimal (λ n. n ≤ left) value (Some v) → Spells decimal (λ n. n ≤ left) count (Some c)
-    → (0 < v) × (0 < c) × (v < below) × (c * v ≤ left) → (word : List ℕ) → IsSplit 42 word value count → Spells run_text (MayFollow below left) word (Some (run_of v c))
+    → (0 < v) × (0 < c) × (v < below) × (c * v ≤ left) → (word : List ℕ) → IsSplitAt 42 word value count → Spells run_text (RunMayFollow below left) word (Some (run_of v c))
 some_run below left value count v c hv hc may word split = (
   record { value = may.0; count = may.1; lower = may.2; within = may.3 },
   ap (λ (x : List ℕ). x ++ (42 ∷ decimal c)) hv.1 ∙ ap (λ (x : List ℕ). value ++ (42 ∷ x)) hc.1 ∙ sym split.whole,
 )
 
 -- a word without a star spells no run
-pub starless : (below left : ℕ) (word : List ℕ) → Without 42 word → Spells run_text (MayFollow below left) word None
+pub starless : (below left : ℕ) (word : List ℕ) → Without 42 word → Spells run_text (RunMayFollow below left) word None
 starless below left word none run may e = not_without 42 (decimal run.value) (decimal run.count) (subst (λ (w : List ℕ). Without 42 w) (sym e) none)
 
 -- runs that are followed by others

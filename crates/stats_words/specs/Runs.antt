@@ -5,7 +5,7 @@ use Rattle.stats_file.specs.Lines.{runs_text}
 use Rattle.stats_file.specs.Runs.{runs_of}
 
 -- a run of positive numbers below the run before it, with a total of at most so much
-pub record MayFollow (below left : ℕ) (run : Piece) : Type 0 where
+pub record RunMayFollow (below left : ℕ) (run : Piece) : Type 0 where
   pub value : 0 < run.value
   pub count : 0 < run.count
   pub lower : run.value < below

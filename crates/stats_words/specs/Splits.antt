@@ -5,6 +5,6 @@ abbrev pub Without : ℕ → List ℕ → Type 0
 Without byte text = All (λ c. c ≢ byte) text
 
 -- what stands before the first such byte, and what stands behind it
-pub record IsSplit (byte : ℕ) (text front rest : List ℕ) : Type 0 where
+pub record IsSplitAt (byte : ℕ) (text front rest : List ℕ) : Type 0 where
   pub first : Without byte front
   pub whole : text ≡ front ++ (byte ∷ rest)

@@ -3,8 +3,8 @@ ghost use Rattle.std.specs.Prelude.{◌≡◌, ◌≢◌, ◌*◌, ◌^◌, ◌<
 ghost use Rattle.stats_file.specs.Grammar.{AreRunWords, IsListWord, IsNumeral, IsRunWord};
 ghost use Rattle.stats_file.specs.Lines.{run_text};
 ghost use Rattle.stats_file.specs.Rules.{IsList};
-ghost use Rattle.stats_words.specs.Runs.{list_text, MayFollow};
-ghost use Rattle.stats_words.specs.Splits.{IsSplit};
+ghost use Rattle.stats_words.specs.Runs.{list_text, RunMayFollow};
+ghost use Rattle.stats_words.specs.Splits.{IsSplitAt};
 ghost use Rattle.stats_words.specs.Words.{Spells};
 
 use crate::numbers::{is_numeral, number};
@@ -69,7 +69,7 @@ fn may_follow(value: u64, count: u64, below: u64, left: u64) -> bool
 // The run of a value and a count, where it may follow a run of this value and so much is left.
 fn run_of_words(value: &[u8], count: &[u8], below: u64, left: u64) -> Option<Piece>
     requires { left < 2 ^ 32 }
-    ensures { (word : List ℕ) → IsSplit 42 word value.now count.now → Spells run_text (MayFollow below left) word result }
+    ensures { (word : List ℕ) → IsSplitAt 42 word value.now count.now → Spells run_text (RunMayFollow below left) word result }
 {
     let value = number(value, left)?;
     let count = number(count, left)?;
@@ -84,7 +84,7 @@ fn run_of_words(value: &[u8], count: &[u8], below: u64, left: u64) -> Option<Pie
 // The run that a word spells, where it may follow a run of this value and so much is left.
 fn next_run(word: &[u8], below: u64, left: u64) -> Option<Piece>
     requires { left < 2 ^ 32 }
-    ensures { Spells run_text (MayFollow below left) word.now result }
+    ensures { Spells run_text (RunMayFollow below left) word.now result }
 {
     match split_at_byte(word, b'*') {
         None => None,

@@ -67,7 +67,7 @@ module _ (Q R : Cond-F Cond → Type 0) (and : (all : List Cond) → R (layer.An
 
 module _ (schema : Schema) (query : Query) (d : Database) (has : HasCells schema query.from d) (long : length d.slots ≡ length query.from) where
   -- a column that the query finds is one of its entry's table
-  declared_at : (ref' : ColumnRef) (column : Column) → valid.Finds schema query.from ref' column
+  declared_at : (ref' : ColumnRef) (column : Column) → valid.FindsColumn schema query.from ref' column
       → slice_get (table_at schema (get_or (numbers_of query.from) ref'.from 0)).columns ref'.column ≡ Some column
   declared_at ref' column f =
       let number : get_or (numbers_of query.from) ref'.from 0 ≡ f.source.table =
@@ -76,7 +76,7 @@ module _ (schema : Schema) (query : Query) (d : Database) (has : HasCells schema
       let table : table_at schema f.source.table ≡ f.table = get_or_from_slice_get schema.tables f.source.table f.table no_table f.exists in
       ap (λ (n : ℕ). slice_get (table_at schema n).columns ref'.column) number ∙ ap (λ (t : Table). slice_get t.columns ref'.column) table ∙ f.declared
 
-  column_of : (ref' : ColumnRef) (column : Column) → valid.Finds schema query.from ref' column → asked.IsColumnOf d ref'
+  column_of : (ref' : ColumnRef) (column : Column) → valid.FindsColumn schema query.from ref' column → asked.IsColumnOf d ref'
   column_of ref' column f =
       let low : ref'.from < length query.from = slice_get_within query.from ref'.from f.source f.entry in
       let table : Table = table_at schema (get_or (numbers_of query.from) ref'.from 0) in
@@ -102,7 +102,7 @@ module _ (schema : Schema) (query : Query) (d : Database) (has : HasCells schema
   askable = carried (IsTypedLayer (valid.IsColumnOf schema query.from)) (IsTypedLayer (asked.IsColumnOfKind d)) (λ all. tt) (λ any. tt) (λ inner. tt)
       (λ op left right h. record { text = h.text; left_kind = operand_of left h.text h.left_kind; right_kind = operand_of right h.text h.right_kind })
 
-  pub output_of : (ref' : ColumnRef) (column : Column) → valid.Finds schema query.from ref' column → asked.IsColumnOf d ref'
+  pub output_of : (ref' : ColumnRef) (column : Column) → valid.FindsColumn schema query.from ref' column → asked.IsColumnOf d ref'
   output_of = column_of
 
 -- ---- the database

@@ -8,7 +8,7 @@ use Rattle.base_io.specs.Files.{Files}
 use Rattle.schema_types.specs.declared.types.Schema.{Schema}
 use Rattle.schema_types.specs.declared.types.Table.{Table}
 use Rattle.csv_tables.specs.Cells.{AreCellsOf, rows_of_cells}
-use Rattle.csv_tables.specs.Pools.{BeginsWith}
+use Rattle.csv_tables.specs.Pools.{PoolBeginsWith}
 use Rattle.csv_tables.specs.Rows.{Row}
 use Rattle.csv_tables.specs.declared.types.Cells.{Cells}
 use Rattle.csv_tables.proofs.TableFacts.{columns-grown, rows_of_columns-grown}
@@ -91,7 +91,7 @@ module _ (schema : Schema) (first second : Reading) (meets : Meets first second)
 
 -- ---- cells over a pool that grows
 
-module _ (schema : Schema) (a b : List (List ℕ)) (begins : BeginsWith a b) where
+module _ (schema : Schema) (a b : List (List ℕ)) (begins : PoolBeginsWith a b) where
   each-grown : (numbers : List ℕ) (found : List Cells) → AreCellsOfEach schema a numbers found → AreCellsOfEach schema b numbers found
   each-grown [] [] h = tt
   each-grown [] (c ∷ cs) h = absurd h
@@ -169,7 +169,7 @@ module _ (schema : Schema) (numbers : List ℕ) (first second : Reading) (meets 
   taken : take (i + 1) numbers ≡ take i numbers ++ n ∷ []
   taken = take_more numbers i 0 lt ∙ ap (λ (m : ℕ). take i numbers ++ m ∷ []) (sym is)
 
-  pub next_read : (b : List (List ℕ)) (c : Cells) → BeginsWith a b → length b ≤ length a + 256000000 → AreCellsOf t b c → AreOfAFile t (rows_of_cells b c)
+  pub next_read : (b : List (List ℕ)) (c : Cells) → PoolBeginsWith a b → length b ≤ length a + 256000000 → AreCellsOf t b c → AreOfAFile t (rows_of_cells b c)
       → Reads second (file_rows n t) (AtFile (file.Table n)) (Ok (rows_of_cells b c)) → SoFar schema numbers (joined first second) (i + 1) b (found ++ c ∷ [])
   next_read b c begins more cells file k =
       let rows : rows_of_tables a found ++ rows_of_cells b c ∷ [] ≡ rows_of_tables b (found ++ c ∷ []) =

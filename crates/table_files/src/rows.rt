@@ -3,7 +3,7 @@ ghost use Rattle.std.specs.Prelude.{◌≡◌, ◌<◌, ◌≤◌, All, IfOk, Is
 ghost use Rattle.limits.specs.Profile.{most_rows};
 ghost use Rattle.base_io.specs.Devices.{reading};
 ghost use Rattle.csv_tables.specs.Cells.{AreCellsOf};
-ghost use Rattle.csv_tables.specs.Pools.{AreDifferent};
+ghost use Rattle.csv_tables.specs.Pools.{TextsAreDifferent};
 ghost use Rattle.outcomes.specs.Reads.{AtFile, Reads, seen};
 ghost use Rattle.schema_types.specs.Validity.{IsValid};
 ghost use Rattle.table_files.specs.EntryTables.{rows_of_read};
@@ -40,7 +40,7 @@ pub fn read_rows<S: Store>(
 
     // Its texts are UTF-8, and no two are equal.
     ensures texts { IfOk result (λ read. All IsUtf8 read.pool) }
-    ensures different { IfOk result (λ read. AreDifferent read.pool) }
+    ensures different { IfOk result (λ read. TextsAreDifferent read.pool) }
 
     // Its rows are those of the file, or the ending has its cause.
     ensures reads { Reads (reading S.files S.faults S.misses store.old store.new) (rows_in number (table_at schema.now number) name.now)

@@ -1,6 +1,6 @@
 //! The tables of a query.
 ghost use Rattle.std.specs.Prelude.{◌≡◌, ◌<◌, All, IfOk, IsUtf8, length};
-ghost use Rattle.csv_tables.specs.Pools.{AreDifferent};
+ghost use Rattle.csv_tables.specs.Pools.{TextsAreDifferent};
 ghost use Rattle.base_io.specs.Devices.{reading};
 ghost use Rattle.outcomes.specs.Reads.{Reads, seen};
 ghost use Rattle.query_types.specs.Validity.{IsOf};
@@ -42,7 +42,7 @@ pub fn read_tables<S: Store>(
 
     // Its texts are UTF-8, and no two are equal.
     ensures texts { IfOk result (λ db. All IsUtf8 db.pool) }
-    ensures different { IfOk result (λ db. AreDifferent db.pool) }
+    ensures different { IfOk result (λ db. TextsAreDifferent db.pool) }
 
     // Its tables are those in some files, whose columns and keys were found to be as the schema declares.
     ensures files { IfOk result (λ db. AreOfFiles schema.now query.now.from (tables_of db)) }

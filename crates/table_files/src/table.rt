@@ -2,7 +2,7 @@
 ghost use Rattle.std.specs.Prelude.{◌≡◌, ◌≤◌, ◌+◌, length, IfOk, string_bytes};
 ghost use Rattle.limits.specs.Profile.{most_rows};
 ghost use Rattle.csv_tables.specs.Cells.{AreCellsOf, rows_of_cells};
-ghost use Rattle.csv_tables.specs.Pools.{BeginsWith};
+ghost use Rattle.csv_tables.specs.Pools.{PoolBeginsWith};
 ghost use Rattle.base_io.specs.Devices.{reading};
 ghost use Rattle.outcomes.specs.Reads.{AtFile, Reads, seen};
 ghost use Rattle.schema_types.specs.Validity.{IsValidTable};
@@ -41,7 +41,7 @@ pub(crate) fn load_rows<S: Store>(
     ensures cells { IfOk result (AreCellsOf table.now pool.new) }
     ensures few { IfOk result (λ cells. cells.rows ≤ most_rows) }
     ensures file { IfOk result (λ cells. AreOfAFile table.now (rows_of_cells pool.new cells)) }
-    ensures begins { IfOk result (λ _. BeginsWith pool.old pool.new) }
+    ensures begins { IfOk result (λ _. PoolBeginsWith pool.old pool.new) }
     ensures more { IfOk result (λ _. length pool.new ≤ length pool.old + 256000000) }
     ensures reads { Reads (reading S.files S.faults S.misses store.old store.new) (rows_in number table.now name.now)
         (AtFile (FileId.Table number))
@@ -68,7 +68,7 @@ pub(crate) fn load_table<S: Store>(
     ensures cells { IfOk result (AreCellsOf table.now pool.new) }
     ensures few { IfOk result (λ cells. cells.rows ≤ most_rows) }
     ensures file { IfOk result (λ cells. AreOfAFile table.now (rows_of_cells pool.new cells)) }
-    ensures begins { IfOk result (λ _. BeginsWith pool.old pool.new) }
+    ensures begins { IfOk result (λ _. PoolBeginsWith pool.old pool.new) }
     ensures more { IfOk result (λ _. length pool.new ≤ length pool.old + 256000000) }
     ensures reads { Reads (reading S.files S.faults S.misses store.old store.new) (file_rows number table.now)
         (AtFile (FileId.Table number))

@@ -14,10 +14,10 @@ use Rattle.cond_stats.specs.Lists.{compressed_degrees, list_of_range, list_of_va
 use Rattle.level_bounds.specs.Keys.{HaveDifferentCharacters}
 use Rattle.level_bounds.proofs.CellKeys.{equal_cells}
 use Rattle.level_bounds.proofs.Lists.{map_both}
-use Rattle.renamed_lists.specs.Renaming.{IsMissing, IsOneToOne, KeepsOrder, PassAlike}
-use Rattle.renamed_lists.proofs.Columns.{leaf_is}
-use Rattle.renamed_lists.proofs.Rows.{absent_is, columns_are, range_is, value_is, whole_is, stands_or_misses as found}
-use Rattle.table_stats.specs.Cells.{StandsFor}
+use Rattle.relabelling_laws.specs.Relabelling.{IsMissing, IsOneToOne, KeepsOrder, PassAlike}
+use Rattle.relabelling_laws.proofs.Columns.{leaf_is}
+use Rattle.relabelling_laws.proofs.Rows.{absent_is, columns_are, range_is, value_is, whole_is, stands_or_misses as found}
+use Rattle.table_stats.specs.Cells.{IsCellFor}
 use Rattle.table_stats.specs.Columns.{first_row, leaf_of_value, numbered, paired, row_le, value_of_row}
 use Rattle.table_stats.specs.Statistics.{end_leaf, list_between, list_with}
 use Rattle.table_stats.proofs.EqualValues.{alike_le, equal_back, equal_chain, equal_itself, is_equal}
@@ -87,7 +87,7 @@ module _ (texts : List (List ℕ)) (differ : HaveDifferentCharacters texts) (kin
       (found.0, found.1, equal_firsts cell_values (of_cell found.0) value (has_row found.0 found.1) (sym found.2))
 
   -- nothing that stands for a value is in the column where its number isn't, nor the other way round
-  pub both_missing : (value : Value) (cell : Option ℕ) → StandsFor texts kind value cell → IsMissing cells cell → IsMissing (map number_of cells) (Some (first_row cell_values value))
+  pub both_missing : (value : Value) (cell : Option ℕ) → IsCellFor texts kind value cell → IsMissing cells cell → IsMissing (map number_of cells) (Some (first_row cell_values value))
   both_missing value None stands missing has =
       let found = from_value value has in
       absurd (false≢true (sym (stands found.0 (is_cell found.0 found.1)) ∙ found.2))
@@ -97,7 +97,7 @@ module _ (texts : List (List ℕ)) (differ : HaveDifferentCharacters texts) (kin
       (equal_chain (of_cell found.0) value (of_cell cell) found.2 (equal_back (of_cell cell) value stands.1)) in
       missing (subst (Contains cells) same found.1)
 
-  pub its_number : (value : Value) (cell : ℕ) → StandsFor texts kind value (Some cell) → first_row cell_values value ≡ number_of cell
+  pub its_number : (value : Value) (cell : ℕ) → IsCellFor texts kind value (Some cell) → first_row cell_values value ≡ number_of cell
   its_number value cell stands = sym (same_first cell_values (of_cell cell) value stands.1)
 
 -- ---- two columns of cells, and the lists of their values
@@ -131,13 +131,13 @@ module _ (texts : List (List ℕ)) (differ : HaveDifferentCharacters texts) (kin
   same_whole =
       sym (ap (compressed_degrees accuracy) (numbers_of_cells texts differ other joined are_joined) ∙ whole_is accuracy joined_number joined joined_apart)
 
-  missing_equal : (value : Value) (cell : Option ℕ) → StandsFor texts kind value cell → IsMissing filter cell
+  missing_equal : (value : Value) (cell : Option ℕ) → IsCellFor texts kind value cell → IsMissing filter cell
       → list_of_value accuracy (zip (map filter_number filter) (map joined_number joined)) (Some (first_row filter_of value)) ≡ list_of_value accuracy (zip filter joined) cell
   missing_equal value cell stands missing =
       absent_is accuracy filter_number joined_number filter joined (Some (first_row filter_of value)) cell apart joined_apart
       (both_missing texts differ kind filter are_filter value cell stands missing) missing
 
-  stood_equal : (value : Value) (cell : Option ℕ) → StandsFor texts kind value cell
+  stood_equal : (value : Value) (cell : Option ℕ) → IsCellFor texts kind value cell
       → list_of_value accuracy (zip (map filter_number filter) (map joined_number joined)) (Some (first_row filter_of value)) ≡ list_of_value accuracy (zip filter joined) cell
   stood_equal value None stands = missing_equal value None stands tt
   stood_equal value (Some cell) stands = elim (found filter cell) [
@@ -147,7 +147,7 @@ module _ (texts : List (List ℕ)) (differ : HaveDifferentCharacters texts) (kin
     | inr missing ↦ missing_equal value (Some cell) stands missing
   ]
 
-  pub same_equal : (value : Value) (cell : Option ℕ) → StandsFor texts kind value cell
+  pub same_equal : (value : Value) (cell : Option ℕ) → IsCellFor texts kind value cell
       → list_of_value accuracy (zip filter joined) cell ≡ list_with accuracy filter_of joined_of value
   same_equal value cell stands =
       sym (ap (λ (rows : List (ℕ × ℕ)). list_of_value accuracy rows (Some (first_row filter_of value))) pairs ∙ stood_equal value cell stands)

@@ -7,7 +7,7 @@ use Rattle.csv_tables.specs.Values.{Value, Int}
 use Rattle.cond_stats.specs.Rows.{filter_values}
 use Rattle.filtered_lists.specs.Standing.{value_in_row}
 use Rattle.level_bounds.proofs.Lists.{map_both}
-use Rattle.renamed_lists.proofs.Rows.{columns_are}
+use Rattle.relabelling_laws.proofs.Rows.{columns_are}
 use Rattle.sql_meaning.specs.Tables.{Tables, row_counts}
 use Rattle.table_stats.specs.Keys.{TellsListed, TellsValues}
 use Rattle.table_stats.specs.Columns.{column_values, first_row, numbered, paired, value_of_row}

@@ -19,7 +19,7 @@ use Rattle.sql_meaning.specs.Databases.{AreCells, AreTables, IsColumnOf}
 use Rattle.sql_meaning.specs.Tables.{cells_of, no_cells, row_counts, tables_of}
 use Rattle.sql_meaning.proofs.ColumnFacts.{column_at, value_at}
 use Rattle.sql_meaning.proofs.LoopFacts.{rows_are}
-use Rattle.table_stats.specs.Cells.{StandsFor}
+use Rattle.table_stats.specs.Cells.{IsCellFor}
 use Rattle.table_stats.specs.Columns.{column_values, numbered}
 use Rattle.table_stats.specs.Statistics.{column_lists, list_between, list_with}
 use Rattle.table_stats.proofs.CellColumns.{same_equal, same_range, same_whole}
@@ -63,7 +63,7 @@ module _ (db : Database) (are : AreTables db) (differ : HaveDifferentCharacters 
         ∙ ap (λ (s : List Value). compressed_degrees accuracy (numbered s)) (values_are joined has_joined)
 
     module _ (filter : ℕ) (has_filter : Exists filter) where
-      pub equal_is_same : (value : Value) (cell : Option ℕ) → StandsFor db.pool (kind_at filter) value cell
+      pub equal_is_same : (value : Value) (cell : Option ℕ) → IsCellFor db.pool (kind_at filter) value cell
           → list_of_value accuracy (zip (column_at_all filter) (column_at_all joined)) cell ≡ (column_lists (tables_of db) accuracy entry joined).equal filter value
       equal_is_same value cell stands =
           same_equal db.pool differ (kind_at filter) (kind_at joined) (column_at_all filter) (column_at_all joined) (column_is filter has_filter).cells (column_is joined has_joined).cells accuracy
@@ -88,11 +88,11 @@ cells_whole db joined accuracy are differ there = whole_is_same db are differ jo
 
 pub cells_equal : (db : Database) (filter joined : ColumnRef) (accuracy : ℕ) (value : Value) (cell : Option ℕ)
     → AreTables db → HaveDifferentCharacters db.pool → IsColumnOf db filter → IsColumnOf db joined → filter.from ≡ joined.from
-    → StandsFor db.pool (get_or (cells_of db filter.from).kinds filter.column kind.Int) value cell
+    → IsCellFor db.pool (get_or (cells_of db filter.from).kinds filter.column kind.Int) value cell
     → list_of_value accuracy (zip (get_or (cells_of db filter.from).columns filter.column []) (get_or (cells_of db joined.from).columns joined.column [])) cell
     ≡ (column_lists (tables_of db) accuracy joined.from joined.column).equal filter.column value
 cells_equal db filter joined accuracy value cell are differ has_filter has_joined same stands =
-    subst (λ (from : ℕ). filter.column < length (cells_of db from).kinds → StandsFor db.pool (get_or (cells_of db from).kinds filter.column kind.Int) value cell
+    subst (λ (from : ℕ). filter.column < length (cells_of db from).kinds → IsCellFor db.pool (get_or (cells_of db from).kinds filter.column kind.Int) value cell
     → list_of_value accuracy (zip (get_or (cells_of db from).columns filter.column []) (get_or (cells_of db joined.from).columns joined.column [])) cell
     ≡ (column_lists (tables_of db) accuracy joined.from joined.column).equal filter.column value) (sym same)
     (λ exists stands. equal_is_same db are differ joined.from has_joined.entry accuracy joined.column has_joined.exists filter.column exists value cell stands)

@@ -18,9 +18,9 @@ use Rattle.filtered_lists.specs.Ranges.{Range}
 use Rattle.filtered_lists.specs.Standing.{ListsStandFor, has_value, is_from, is_in_range, is_up_to, rows_where}
 use Rattle.filtered_lists.proofs.Counting.{all_pass}
 use Rattle.level_bounds.proofs.Lists.{range_within}
-use Rattle.renamed_lists.specs.Renaming.{AreEqualAlike}
-use Rattle.renamed_lists.proofs.Dominated.{passing_dominated}
-use Rattle.renamed_lists.proofs.Rows.{of_rows}
+use Rattle.relabelling_laws.specs.Relabelling.{AreEqualAlike}
+use Rattle.relabelling_laws.proofs.Dominated.{passing_dominated}
+use Rattle.relabelling_laws.proofs.Rows.{of_rows}
 use Rattle.sql_meaning.specs.Tables.{Tables, row_counts}
 use Rattle.table_stats.specs.Columns.{column_values, first_row, numbered, paired, row_le, value_of_row}
 use Rattle.table_stats.specs.Keys.{TellsListed, TellsValues}

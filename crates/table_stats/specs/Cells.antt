@@ -18,6 +18,6 @@ abbrev pub kind_of_column : Database → ColumnRef → Kind
 kind_of_column db column = slice_index_or (cells_of db column.from).kinds column.column kind.Int
 
 -- it is a cell of this kind and has the value; or no cell of this kind has it
-abbrev pub StandsFor : List (List ℕ) → Kind → Value → Option ℕ → Type 0
-StandsFor texts kind value (Some cell) = IsCell texts kind cell × (is_eq (value_cmp (value_of_cell texts kind cell) value) ≡ true)
-StandsFor texts kind value None = (cell : ℕ) → IsCell texts kind cell → is_eq (value_cmp (value_of_cell texts kind cell) value) ≡ false
+abbrev pub IsCellFor : List (List ℕ) → Kind → Value → Option ℕ → Type 0
+IsCellFor texts kind value (Some cell) = IsCell texts kind cell × (is_eq (value_cmp (value_of_cell texts kind cell) value) ≡ true)
+IsCellFor texts kind value None = (cell : ℕ) → IsCell texts kind cell → is_eq (value_cmp (value_of_cell texts kind cell) value) ≡ false

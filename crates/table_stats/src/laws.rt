@@ -11,7 +11,7 @@ ghost use Rattle.filtered_lists.specs.Standing.{CountsStandFor, ListsFall, Lists
 ghost use Rattle.level_bounds.specs.Keys.{AreKeys, HaveDifferentCharacters, Keys};
 ghost use Rattle.sql_meaning.specs.Databases.{AreTables, IsColumnOf};
 ghost use Rattle.sql_meaning.specs.Tables.{Tables, row_counts, tables_of};
-ghost use Rattle.table_stats.specs.Cells.{StandsFor, cells_of_column, kind_of_column};
+ghost use Rattle.table_stats.specs.Cells.{IsCellFor, cells_of_column, kind_of_column};
 ghost use Rattle.table_stats.specs.Columns.{column_values};
 ghost use Rattle.table_stats.specs.Keys.{TellsListed, TellsValues};
 ghost use Rattle.table_stats.specs.Statistics.{column_lists, entry_counts, lists_over};
@@ -52,7 +52,7 @@ pub fn cells_have_the_same_lists()
         ≡ (column_lists (tables_of db) accuracy joined.from joined.column).whole }
     ensures equal { (db : Database) (filter joined : ColumnRef) (accuracy : ℕ) (value : Value) (cell : Option ℕ)
         → AreTables db → HaveDifferentCharacters db.pool → IsColumnOf db filter → IsColumnOf db joined → filter.from ≡ joined.from
-        → StandsFor db.pool (kind_of_column db filter) value cell
+        → IsCellFor db.pool (kind_of_column db filter) value cell
         → list_of_value accuracy (zip (cells_of_column db filter) (cells_of_column db joined)) cell
         ≡ (column_lists (tables_of db) accuracy joined.from joined.column).equal filter.column value }
     ensures range { (db : Database) (filter joined : ColumnRef) (accuracy : ℕ) (low high : Option Value)

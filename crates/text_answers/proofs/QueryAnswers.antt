@@ -20,18 +20,18 @@ use Rattle.query_names.specs.declared.errors.QueryError.TheVariants as error
 use Rattle.query_names.specs.Names.{entries}
 use Rattle.query_names.specs.Offences.{name_offences, all_kind_offences}
 use Rattle.query_names.specs.Values.{query_of}
-use Rattle.sql_parse.specs.Bound.{refusal, over, first_list, limit_refusals, first_place, name_error, kind_error, long_lists, refusals, unless, bound}
+use Rattle.sql_parse.specs.QueryOrRefusal.{refusal, over, first_list, limit_refusals, first_place, name_error, kind_error, long_lists, refusals, unless, query_or_refusal}
 use Rattle.query_names.specs.Numbers.{number_offences}
 use Rattle.sql_parse.specs.Reading.{lexemes_of, most_nesting, unless_number, IsAnswer}
 use Rattle.sql_parse.proofs.OneAnswer.{one_answer}
 use Rattle.sql_parse.proofs.AnswerOfSchema.{answer_of_schema}
 use Rattle.text_answers.specs.Stages.{after, tokens_of}
-use Rattle.text_answers.specs.QueryTexts.{syntax, tree_of, spelled_answer, nested_answer, query_answer}
+use Rattle.text_answers.specs.QueryTexts.{syntax, syntax_tree_of, spelled_answer, nested_answer, query_answer}
 use Rattle.text_answers.proofs.Tokens.{AreTold, are_told}
 use Rattle.text_answers.proofs.Spellings.{IsSpelling, is_spelling}
 
-trees_told : (text_len : ℕ) (tokens : List Lexeme) → IsSpelling QuerySpecification tokens text_len (tree_of text_len tokens)
-unfolding tree_of
+trees_told : (text_len : ℕ) (tokens : List Lexeme) → IsSpelling QuerySpecification tokens text_len (syntax_tree_of text_len tokens)
+unfolding syntax_tree_of
 trees_told text_len tokens = is_spelling reads_queries tokens text_len
 
 -- ---- the answer is allowed
@@ -46,10 +46,10 @@ module _ (schema : Schema) (text : List ℕ) where
   unfolding nested_answer
   nested_allowed tokens lexed = by (nat_lt most_nesting (nesting (lexemes_of text tokens))) refl where
     by : (deep : Bool) → nat_lt most_nesting (nesting (lexemes_of text tokens)) ≡ deep
-        → IsAnswer schema text (cond deep (Err (refusal limit.Nesting (nesting (lexemes_of text tokens)))) (spelled_answer schema text (lexemes_of text tokens) (tree_of (length text) (lexemes_of text tokens))))
+        → IsAnswer schema text (cond deep (Err (refusal limit.Nesting (nesting (lexemes_of text tokens)))) (spelled_answer schema text (lexemes_of text tokens) (syntax_tree_of (length text) (lexemes_of text tokens))))
     by true e = inr (inr (inl (record { tokens = tokens; lexed = lexed; deep = ltb-true most_nesting (nesting (lexemes_of text tokens)) e; refused = refl })))
     by false e =
-        spelled_allowed tokens (tree_of (length text) (lexemes_of text tokens)) lexed (ltb-false most_nesting (nesting (lexemes_of text tokens)) e) (trees_told (length text) (lexemes_of text tokens))
+        spelled_allowed tokens (syntax_tree_of (length text) (lexemes_of text tokens)) lexed (ltb-false most_nesting (nesting (lexemes_of text tokens)) e) (trees_told (length text) (lexemes_of text tokens))
 
   lexed_allowed : (tokens : Result (List Token) ℕ) → AreTold text tokens → IsAnswer schema text (after syntax tokens (λ tokens. nested_answer schema text (lexemes_of text tokens)))
   lexed_allowed (Ok tokens) lexed = nested_allowed tokens lexed
@@ -109,8 +109,8 @@ unless_not_memory : (wrong : List QueryError) (query : Query) → BeginsWell wro
 unless_not_memory [] query h e = cc
 unless_not_memory (w ∷ rest) query h e = h (let same : w ≡ error.NoMemory = cc in same)
 
-bound_not_memory : (schema : Schema) (text : List ℕ) (tree : QueryText) → bound schema text tree ≢ Err error.NoMemory
-unfolding bound
+bound_not_memory : (schema : Schema) (text : List ℕ) (tree : QueryText) → query_or_refusal schema text tree ≢ Err error.NoMemory
+unfolding query_or_refusal
 bound_not_memory schema text tree = unless_not_memory (refusals schema text tree) (query_of schema text tree) (refusals_begin schema text tree)
 
 number_not_memory : (places : List ℕ) (answer : Result Query QueryError) → answer ≢ Err error.NoMemory → unless_number places answer ≢ Err error.NoMemory
@@ -119,15 +119,15 @@ number_not_memory (place ∷ rest) answer h = λ e. cc
 
 module _ (schema : Schema) (text : List ℕ) where
   spelled_not_memory : (tokens : List Lexeme) (tree : Result QueryText ℕ) → spelled_answer schema text tokens tree ≢ Err error.NoMemory
-  spelled_not_memory tokens (Ok tree) = number_not_memory (number_offences text tokens) (bound schema text tree) (bound_not_memory schema text tree)
+  spelled_not_memory tokens (Ok tree) = number_not_memory (number_offences text tokens) (query_or_refusal schema text tree) (bound_not_memory schema text tree)
   spelled_not_memory tokens (Err at) = λ e. cc
 
   nested_not_memory : (tokens : List Lexeme) → nested_answer schema text tokens ≢ Err error.NoMemory
   unfolding nested_answer
   nested_not_memory tokens = by (nat_lt most_nesting (nesting tokens)) where
-    by : (deep : Bool) → cond deep (Err (refusal limit.Nesting (nesting tokens))) (spelled_answer schema text tokens (tree_of (length text) tokens)) ≢ Err error.NoMemory
+    by : (deep : Bool) → cond deep (Err (refusal limit.Nesting (nesting tokens))) (spelled_answer schema text tokens (syntax_tree_of (length text) tokens)) ≢ Err error.NoMemory
     by true = λ e. cc
-    by false = spelled_not_memory tokens (tree_of (length text) tokens)
+    by false = spelled_not_memory tokens (syntax_tree_of (length text) tokens)
 
   lexed_not_memory : (tokens : Result (List Token) ℕ) → after syntax tokens (λ tokens. nested_answer schema text (lexemes_of text tokens)) ≢ Err error.NoMemory
   lexed_not_memory (Ok tokens) = nested_not_memory (lexemes_of text tokens)

@@ -9,7 +9,7 @@ use Rattle.query_names.specs.declared.errors.QueryError.{QueryError}
 use Rattle.query_names.specs.Names.{entries}
 use Rattle.query_names.specs.Offences.{name_offences, all_kind_offences}
 use Rattle.query_names.specs.Values.{query_of}
-use Rattle.sql_parse.specs.Bound.{over, first_list, limit_refusals, first_place, name_error, kind_error, long_lists, refusals, bound}
+use Rattle.sql_parse.specs.QueryOrRefusal.{over, first_list, limit_refusals, first_place, name_error, kind_error, long_lists, refusals, query_or_refusal}
 use Rattle.query_names.specs.Numbers.{number_offences}
 use Rattle.sql_parse.specs.Reading.{lexemes_of, IsAnswer}
 use Rattle.sql_parse.proofs.AnswerOfSchema.{none_before, none_behind, unless_ok, unless_number_ok}
@@ -34,8 +34,8 @@ kept query lists none =
       outputs = not_over limit.Outputs most_outputs (length query.select) (none_behind (before ++ many_conjuncts) many_outputs none);
     }
 
-bound_keeps : (schema : Schema) (text : List ℕ) (tree : QueryText) (query : Query) → bound schema text tree ≡ Ok query → KeepsLimits query
-unfolding bound refusals
+bound_keeps : (schema : Schema) (text : List ℕ) (tree : QueryText) (query : Query) → query_or_refusal schema text tree ≡ Ok query → KeepsLimits query
+unfolding query_or_refusal refusals
 bound_keeps schema text tree query is =
     let names : List QueryError = first_place name_error (name_offences schema text (entries schema text tree) tree) in
     let kinds : List QueryError = first_place kind_error (all_kind_offences schema text (entries schema text tree) tree) in
@@ -52,7 +52,7 @@ answer_keeps schema text query (inr (inr (inl deep))) = absurd (let is = deep.re
 answer_keeps schema text query (inr (inr (inr (inl unspelled)))) = absurd (let is = unspelled.refused in cc)
 answer_keeps schema text query (inr (inr (inr (inr spelled)))) =
     bound_keeps schema text spelled.tree query
-    (unless_number_ok (number_offences text (lexemes_of text spelled.tokens)) (bound schema text spelled.tree) query spelled.answered)
+    (unless_number_ok (number_offences text (lexemes_of text spelled.tokens)) (query_or_refusal schema text spelled.tree) query spelled.answered)
 
 -- and so the one that is computed
 pub text_keeps : (schema : Schema) (text : List ℕ) (query : Query) → query_answer schema text ≡ Ok query → KeepsLimits query

@@ -11,7 +11,7 @@ use Rattle.schema_types.specs.declared.errors.LimitKind.TheVariants as limit
 use Rattle.schema_types.specs.declared.errors.SchemaError.{SchemaError}
 use Rattle.schema_types.specs.declared.errors.SchemaError.TheVariants as error
 use Rattle.schema_types.specs.declared.types.Schema.{Schema}
-use Rattle.schema_types.specs.Meaning.{unless_found, within_limits, bound}
+use Rattle.schema_types.specs.Meaning.{unless_found, within_limits, schema_or_refusal}
 use Rattle.schema_types.specs.Names.{first}
 use Rattle.schema_types.specs.Offences.{offences}
 use Rattle.schema_types.specs.Refusals.{nullable_places, above, in_64_bits, column_counts, text_lengths}
@@ -45,15 +45,15 @@ within_declared text tables rest is =
     (unless_declared (first (above 64 (column_counts tables))) (λ found. error.Limit limit.Columns (in_64_bits found)) _ (λ n. tt)
     (unless_declared (first (above 1000000 (text_lengths text tables))) (λ found. error.Limit limit.TextLength (in_64_bits found)) rest (λ n. tt) is))
 
-bound_declared : (text : List ℕ) (tables : List TableText) → IsDeclared (bound text tables)
-unfolding bound
+bound_declared : (text : List ℕ) (tables : List TableText) → IsDeclared (schema_or_refusal text tables)
+unfolding schema_or_refusal
 bound_declared text tables =
     unless_declared (first (offences text tables)) (λ at. error.Name at) _ (λ n. tt)
     (unless_declared (first (nullable_places text tables)) (λ at. error.Nullable at) _ (λ n. tt) (within_declared text tables _ tt))
 
 -- ---- the answer is allowed
 
-declared_allowed : (text : List ℕ) (tables : List TableText) (answer : Result Schema SchemaError) → Spells text tables → bound text tables ≡ answer → IsDeclared answer → IsSchemaOf text answer
+declared_allowed : (text : List ℕ) (tables : List TableText) (answer : Result Schema SchemaError) → Spells text tables → schema_or_refusal text tables ≡ answer → IsDeclared answer → IsSchemaOf text answer
 declared_allowed text tables (Ok schema) spells e is = record { tables = tables; spells = spells; answers = e }
 declared_allowed text tables (Err (error.Name at)) spells e is = record { tables = tables; spells = spells; answers = e }
 declared_allowed text tables (Err (error.Nullable at)) spells e is = record { tables = tables; spells = spells; answers = e }
@@ -66,11 +66,11 @@ unfolding tables_of
 tables_told text tokens = is_spelling reads_all_tables (map (lexeme_of text) tokens) (length text)
 
 spelled_allowed : (text : List ℕ) (tokens : List Token) (tables : Result (List TableText) ℕ) → IsLexed text tokens → IsSpelling SchemaText (map (lexeme_of text) tokens) (length text) tables
-    → IsSchemaOf text (after syntax tables (bound text))
-spelled_allowed text tokens (Ok tables) lexed spelled = declared_allowed text tables (bound text tables) (record { tokens = tokens; lexed = lexed; spelled = spelled }) refl (bound_declared text tables)
+    → IsSchemaOf text (after syntax tables (schema_or_refusal text))
+spelled_allowed text tokens (Ok tables) lexed spelled = declared_allowed text tables (schema_or_refusal text tables) (record { tokens = tokens; lexed = lexed; spelled = spelled }) refl (bound_declared text tables)
 spelled_allowed text tokens (Err at) lexed place = inr (record { tokens = tokens; lexed = lexed; place = place })
 
-lexed_allowed : (text : List ℕ) (tokens : Result (List Token) ℕ) → AreTold text tokens → IsSchemaOf text (after syntax tokens (λ tokens. after syntax (tables_of text tokens) (bound text)))
+lexed_allowed : (text : List ℕ) (tokens : Result (List Token) ℕ) → AreTold text tokens → IsSchemaOf text (after syntax tokens (λ tokens. after syntax (tables_of text tokens) (schema_or_refusal text)))
 lexed_allowed text (Ok tokens) lexed = spelled_allowed text tokens (tables_of text tokens) lexed (tables_told text tokens)
 lexed_allowed text (Err at) bad = inl bad
 
@@ -83,11 +83,11 @@ allowed text = lexed_allowed text (tokens_of text) (are_told text)
 not_memory : (answer : Result Schema SchemaError) → IsDeclared answer → answer ≢ Err error.NoMemory
 not_memory answer is e = subst IsDeclared e is
 
-spelled_not_memory : (text : List ℕ) (tables : Result (List TableText) ℕ) → after syntax tables (bound text) ≢ Err error.NoMemory
-spelled_not_memory text (Ok tables) e = not_memory (bound text tables) (bound_declared text tables) e
+spelled_not_memory : (text : List ℕ) (tables : Result (List TableText) ℕ) → after syntax tables (schema_or_refusal text) ≢ Err error.NoMemory
+spelled_not_memory text (Ok tables) e = not_memory (schema_or_refusal text tables) (bound_declared text tables) e
 spelled_not_memory text (Err at) e = cc
 
-lexed_not_memory : (text : List ℕ) (tokens : Result (List Token) ℕ) → after syntax tokens (λ tokens. after syntax (tables_of text tokens) (bound text)) ≢ Err error.NoMemory
+lexed_not_memory : (text : List ℕ) (tokens : Result (List Token) ℕ) → after syntax tokens (λ tokens. after syntax (tables_of text tokens) (schema_or_refusal text)) ≢ Err error.NoMemory
 lexed_not_memory text (Ok tokens) e = spelled_not_memory text (tables_of text tokens) e
 lexed_not_memory text (Err at) e = cc
 

@@ -10,7 +10,7 @@ use Rattle.schema_types.specs.declared.types.Schema.{Schema}
 use Rattle.query_types.specs.declared.types.Query.{Query}
 use Rattle.query_names.specs.declared.errors.QueryError.{QueryError}
 use Rattle.query_names.specs.declared.errors.QueryError.TheVariants as error
-use Rattle.sql_parse.specs.Bound.{bound, refusal}
+use Rattle.sql_parse.specs.QueryOrRefusal.{query_or_refusal, refusal}
 use Rattle.query_names.specs.Numbers.{number_offences}
 use Rattle.sql_parse.specs.Reading.{lexemes_of, most_nesting, least, unless_number}
 use Rattle.text_answers.specs.Stages.{after, tokens_of, parsed}
@@ -19,20 +19,20 @@ abbrev pub syntax : ℕ → QueryError
 syntax at = error.Syntax at
 
 -- the syntax tree that the tokens of a text of so many bytes spell
-unfoldable pub tree_of : ℕ → List Lexeme → Result QueryText ℕ
-tree_of text_len tokens = parsed (read_query read_condition) text_len tokens
+unfoldable pub syntax_tree_of : ℕ → List Lexeme → Result QueryText ℕ
+syntax_tree_of text_len tokens = parsed (read_query read_condition) text_len tokens
 
 module _ (schema : Schema) (text : List ℕ) where
   -- tokens that spell a tree, or go wrong at a place: a number outside the range is refused where it is the first offence
   abbrev pub spelled_answer : List Lexeme → Result QueryText ℕ → Result Query QueryError
-  spelled_answer tokens (Ok tree) = unless_number (number_offences text tokens) (bound schema text tree)
+  spelled_answer tokens (Ok tree) = unless_number (number_offences text tokens) (query_or_refusal schema text tree)
   spelled_answer tokens (Err at) = Err (error.Syntax (least at (number_offences text tokens)))
 
   -- the limit on nesting comes before the grammar
   unfoldable pub nested_answer : List Lexeme → Result Query QueryError
   nested_answer tokens =
       if nat_lt most_nesting (nesting tokens) then Err (refusal limit.Nesting (nesting tokens))
-      else spelled_answer tokens (tree_of (length text) tokens)
+      else spelled_answer tokens (syntax_tree_of (length text) tokens)
 
   -- the query of a text, or its first refusal: Syntax of tokens, the limit on nesting, Syntax, then Name, Kind and Limit
   unfoldable pub query_answer : Result Query QueryError

@@ -7,7 +7,7 @@ use Rattle.sql_tokens.specs.Words.{lexeme_of}
 use Rattle.schema_types.specs.declared.errors.SchemaError.{SchemaError}
 use Rattle.schema_types.specs.declared.errors.SchemaError.TheVariants as error
 use Rattle.schema_types.specs.declared.types.Schema.{Schema}
-use Rattle.schema_types.specs.Meaning.{bound}
+use Rattle.schema_types.specs.Meaning.{schema_or_refusal}
 use Rattle.text_answers.specs.Stages.{after, tokens_of, parsed}
 
 abbrev pub syntax : ℕ → SchemaError
@@ -19,4 +19,4 @@ tables_of text tokens = parsed read_all_tables (length text) (map (lexeme_of tex
 
 -- the schema of a text, or its first refusal: Syntax, then Name, Nullable and Limit
 unfoldable pub schema_answer : List ℕ → Result Schema SchemaError
-schema_answer text = after syntax (tokens_of text) (λ tokens. after syntax (tables_of text tokens) (bound text))
+schema_answer text = after syntax (tokens_of text) (λ tokens. after syntax (tables_of text tokens) (schema_or_refusal text))

@@ -4,15 +4,15 @@ use Rattle.std.specs.Prelude.{◌⊎◌, ◌&&◌, ◌||◌, not, find, unwrap_o
 use Rattle.std.specs.List.{AllByRecursion as Each, list_all}
 use Rattle.std.proofs.lemmas.Bool.{and_from, and_parts, both_ways, cases_Bool, cases_lt, eq-eqb, eqb-true, false_from_ne_true, lt-ltb, ltb-true, not-true, not_from_false, or_cases, or_left, or_right}
 use Rattle.plan_answers.proofs.AllOrders.{each_so}
-use Rattle.bushy_plan.specs.BestTree.{IsBefore, IsBest, all_of, cost, total}
-use Rattle.bushy_plan.specs.JoinTrees.{IsTreeOver, JoinTree, leaf, node, entries_of}
+use Rattle.bushy_plan.specs.BestTree.{IsTreeBefore, IsBest, all_of, cost, total}
+use Rattle.bushy_plan.specs.PlanTrees.{IsTreeOver, PlanTree, leaf, node, leaf_set}
 use Rattle.bushy_plan.proofs.SomeBest.{some_best}
 use Rattle.tree_answers.specs.AllTrees.{all_trees, best_tree, is_before, is_no_worse, is_same}
 use Rattle.tree_answers.proofs.Listed.{at_tree, listed_are_trees}
 
 -- ---- the tests of two trees
 
-told_same : (a b : JoinTree) → is_same a b ≡ true → a ≡ b
+told_same : (a b : PlanTree) → is_same a b ≡ true → a ≡ b
 told_same (leaf a) (leaf b) h = ap leaf (eqb-true a b h)
 told_same (leaf a) (node left right) h = absurd (both_ways false refl h)
 told_same (node left right) (leaf b) h = absurd (both_ways false refl h)
@@ -22,21 +22,21 @@ told_same (node left right) (node left' right') h =
     let rights : right ≡ right' = told_same right right' parts.1 in
     rw (lefts, rights) refl
 
-same_itself : (tree : JoinTree) → is_same tree tree ≡ true
+same_itself : (tree : PlanTree) → is_same tree tree ≡ true
 same_itself (leaf entry) = eq-eqb entry entry refl
 same_itself (node left right) = and_from (is_same left left) (is_same right right) (same_itself left) (same_itself right)
 
-abbrev deeper : JoinTree → JoinTree → JoinTree → JoinTree → Bool
+abbrev deeper : PlanTree → PlanTree → PlanTree → PlanTree → Bool
 deeper a b c d = is_before a b || (is_same a b && is_before c d)
 
-told_before : (a b : JoinTree) → is_before a b ≡ true → IsBefore a b
+told_before : (a b : PlanTree) → is_before a b ≡ true → IsTreeBefore a b
 told_before (leaf a) b h = absurd (both_ways false refl h)
 told_before (node left right) (leaf b) h = absurd (both_ways false refl h)
-told_before (node left right) (node left' right') h = elim (or_cases (ltb (entries_of left) (entries_of left')) (eqb (entries_of left) (entries_of left') && deeper left left' right right') h) [
-  | inl less ↦ inl (ltb-true (entries_of left) (entries_of left') less)
-  | inr here ↦ (let parts : (eqb (entries_of left) (entries_of left') ≡ true) × (deeper left left' right right' ≡ true) = and_parts (eqb (entries_of left) (entries_of left')) (deeper left left' right right') here in
+told_before (node left right) (node left' right') h = elim (or_cases (ltb (leaf_set left) (leaf_set left')) (eqb (leaf_set left) (leaf_set left') && deeper left left' right right') h) [
+  | inl less ↦ inl (ltb-true (leaf_set left) (leaf_set left') less)
+  | inr here ↦ (let parts : (eqb (leaf_set left) (leaf_set left') ≡ true) × (deeper left left' right right' ≡ true) = and_parts (eqb (leaf_set left) (leaf_set left')) (deeper left left' right right') here in
       inr (
-        eqb-true (entries_of left) (entries_of left') parts.0,
+        eqb-true (leaf_set left) (leaf_set left') parts.0,
         elim (or_cases (is_before left left') (is_same left left' && is_before right right') parts.1) [
           | inl first ↦ inl (told_before left left' first)
           | inr second ↦ (let both : (is_same left left' ≡ true) × (is_before right right' ≡ true) = and_parts (is_same left left') (is_before right right') second in
@@ -45,16 +45,16 @@ told_before (node left right) (node left' right') h = elim (or_cases (ltb (entri
       ))
 ]
 
-tells_before : (a b : JoinTree) → IsBefore a b → is_before a b ≡ true
+tells_before : (a b : PlanTree) → IsTreeBefore a b → is_before a b ≡ true
 tells_before (leaf a) b h = absurd h
 tells_before (node left right) (leaf b) h = absurd h
 tells_before (node left right) (node left' right') h = elim h [
-  | inl less ↦ or_left (ltb (entries_of left) (entries_of left')) (eqb (entries_of left) (entries_of left') && deeper left left' right right') (lt-ltb (entries_of left) (entries_of left') less)
-  | inr here ↦ or_right (ltb (entries_of left) (entries_of left')) (eqb (entries_of left) (entries_of left') && deeper left left' right right')
-      (and_from (eqb (entries_of left) (entries_of left')) (deeper left left' right right') (eq-eqb (entries_of left) (entries_of left') here.0) (elim here.1 [
+  | inl less ↦ or_left (ltb (leaf_set left) (leaf_set left')) (eqb (leaf_set left) (leaf_set left') && deeper left left' right right') (lt-ltb (leaf_set left) (leaf_set left') less)
+  | inr here ↦ or_right (ltb (leaf_set left) (leaf_set left')) (eqb (leaf_set left) (leaf_set left') && deeper left left' right right')
+      (and_from (eqb (leaf_set left) (leaf_set left')) (deeper left left' right right') (eq-eqb (leaf_set left) (leaf_set left') here.0) (elim here.1 [
         | inl first ↦ or_left (is_before left left') (is_same left left' && is_before right right') (tells_before left left' first)
         | inr second ↦ or_right (is_before left left') (is_same left left' && is_before right right')
-            (and_from (is_same left left') (is_before right right') (subst (λ (t : JoinTree). is_same left t ≡ true) second.0 (same_itself left)) (tells_before right right' second.1))
+            (and_from (is_same left left') (is_before right right') (subst (λ (t : PlanTree). is_same left t ≡ true) second.0 (same_itself left)) (tells_before right right' second.1))
       ]))
 ]
 
@@ -85,34 +85,34 @@ tells c d s t behind cheaper smaller earlier = elim (cases_lt c d) [
 
 -- ---- the first that passes a test
 
-record IsFirst (P : JoinTree → Type 0) (test : JoinTree → Bool) (xs : List JoinTree) (x : JoinTree) : Type 0 where
+record IsFirst (P : PlanTree → Type 0) (test : PlanTree → Bool) (xs : List PlanTree) (x : PlanTree) : Type 0 where
   found : find test xs ≡ Some x
   is : P x
   passes : test x ≡ true
 
-first_of : (P : JoinTree → Type 0) (test : JoinTree → Bool) (xs : List JoinTree) → Each P xs → (Each (λ x. test x ≡ false) xs → ⊥) → (x : JoinTree) × IsFirst P test xs x
+first_of : (P : PlanTree → Type 0) (test : PlanTree → Bool) (xs : List PlanTree) → Each P xs → (Each (λ x. test x ≡ false) xs → ⊥) → (x : PlanTree) × IsFirst P test xs x
 first_of P test [] each some = absurd (some tt)
 first_of P test (x ∷ xs) each some = elim (cases_Bool (test x)) [
   | inl passes ↦ (x, record { found = rw passes refl; is = each.0; passes = passes })
-  | inr fails ↦ (let first : (y : JoinTree) × IsFirst P test xs y = first_of P test xs each.1 (λ none. some (fails, none)) in
+  | inr fails ↦ (let first : (y : PlanTree) × IsFirst P test xs y = first_of P test xs each.1 (λ none. some (fails, none)) in
       (first.0, record { found = rw fails first.1.found; is = first.1.is; passes = first.1.passes }))
 ]
 
-all_true : (test : JoinTree → Bool) (xs : List JoinTree) → Each (λ x. test x ≡ true) xs → list_all test xs ≡ true
+all_true : (test : PlanTree → Bool) (xs : List PlanTree) → Each (λ x. test x ≡ true) xs → list_all test xs ≡ true
 all_true test [] h = refl
 all_true test (x ∷ xs) h = and_from (test x) (list_all test xs) h.0 (all_true test xs h.1)
 
-each_true : (test : JoinTree → Bool) (xs : List JoinTree) → list_all test xs ≡ true → Each (λ x. test x ≡ true) xs
+each_true : (test : PlanTree → Bool) (xs : List PlanTree) → list_all test xs ≡ true → Each (λ x. test x ≡ true) xs
 each_true test [] h = tt
 each_true test (x ∷ xs) h = let parts : (test x ≡ true) × (list_all test xs ≡ true) = and_parts (test x) (list_all test xs) h in (parts.0, each_true test xs parts.1)
 
 -- ---- the best tree
 
 module _ (bounds : List ℕ) (n : ℕ) (some : 0 < n) where
-  abbrev test : JoinTree → Bool
+  abbrev test : PlanTree → Bool
   test tree = list_all (λ other. is_no_worse bounds tree other) (all_trees n)
 
-  best_passes : (best : JoinTree) → IsBest bounds n best → test best ≡ true
+  best_passes : (best : PlanTree) → IsBest bounds n best → test best ≡ true
   best_passes best is =
       all_true (λ other. is_no_worse bounds best other) (all_trees n)
       (each_so (IsTreeOver (all_of n)) (λ other. is_no_worse bounds best other ≡ true)
@@ -123,17 +123,17 @@ module _ (bounds : List ℕ) (n : ℕ) (some : 0 < n) where
 
   some_passes : Each (λ tree. test tree ≡ false) (all_trees n) → ⊥
   some_passes none =
-      let best : (tree : JoinTree) × IsBest bounds n tree = some_best bounds n some in
+      let best : (tree : PlanTree) × IsBest bounds n tree = some_best bounds n some in
       both_ways (test best.0) (at_tree n (λ tree. test tree ≡ false) best.0 some none best.1.is_tree) (best_passes best.0 best.1)
 
-  by_cost : (x : JoinTree) → test x ≡ true → (other : JoinTree) → IsTreeOver (all_of n) other
+  by_cost : (x : PlanTree) → test x ≡ true → (other : PlanTree) → IsTreeOver (all_of n) other
       → (cost bounds x < cost bounds other) ⊎ ((cost bounds x ≡ cost bounds other)
       × ((total bounds x < total bounds other) ⊎ ((total bounds x ≡ total bounds other) × (not (is_before other x) ≡ true))))
   by_cost x passes other over =
       told (cost bounds x) (cost bounds other) (total bounds x) (total bounds other) (not (is_before other x))
       (at_tree n (λ tree. is_no_worse bounds x tree ≡ true) other some (each_true (λ tree. is_no_worse bounds x tree) (all_trees n) passes) over)
 
-  first_is_best : (x : JoinTree) → IsTreeOver (all_of n) x → test x ≡ true → IsBest bounds n x
+  first_is_best : (x : PlanTree) → IsTreeOver (all_of n) x → test x ≡ true → IsBest bounds n x
   first_is_best x is passes = record {
     is_tree = is;
     none_cheaper = λ other over. elim (by_cost x passes other over) [
@@ -159,5 +159,5 @@ module _ (bounds : List ℕ) (n : ℕ) (some : 0 < n) where
   pub best_computed : IsBest bounds n (best_tree bounds n)
   unfolding best_tree
   best_computed =
-      let first : (x : JoinTree) × IsFirst (IsTreeOver (all_of n)) test (all_trees n) x = first_of (IsTreeOver (all_of n)) test (all_trees n) (listed_are_trees n) some_passes in
+      let first : (x : PlanTree) × IsFirst (IsTreeOver (all_of n)) test (all_trees n) x = first_of (IsTreeOver (all_of n)) test (all_trees n) (listed_are_trees n) some_passes in
       subst (IsBest bounds n) (sym (ap (λ found. unwrap_or found (leaf 0)) first.1.found)) (first_is_best first.0 first.1.is first.1.passes)

@@ -5,14 +5,14 @@ use Rattle.std.proofs.lemmas.Nat.{pow_pos}
 use Rattle.entry_sets.proofs.Bits.{twice}
 use Rattle.plan_answers.proofs.AllOrders.{each_append, each_flat, each_map, each_of_flat, each_of_map, each_of_two, each_so}
 use Rattle.bushy_plan.specs.BestTree.{all_of}
-use Rattle.bushy_plan.specs.JoinTrees.{IsTreeOver, JoinTree, leaf, node}
+use Rattle.bushy_plan.specs.PlanTrees.{IsTreeOver, PlanTree, leaf, node}
 use Rattle.bushy_plan.proofs.AllTrees.{IsWith, only_last, without_last}
 use Rattle.bushy_plan.proofs.SomeBest.{with_over}
 use Rattle.tree_answers.specs.AllTrees.{all_trees, trees_with}
 
 -- ---- nothing else
 
-listed_with : (last : ℕ) (rest : JoinTree) → Each (IsWith last rest) (trees_with last rest)
+listed_with : (last : ℕ) (rest : PlanTree) → Each (IsWith last rest) (trees_with last rest)
 listed_with last (leaf entry) = (refl, tt)
 listed_with last (node left right) = (
   inl refl,
@@ -33,7 +33,7 @@ listed_are_trees (suc (suc n)) =
     whole : 2 ^ suc n - 1 + 2 ^ suc n ≡ 2 ^ suc (suc n) - 1
     whole = omega (arith, twice (suc n), pow_pos (suc n))
 
-    with_last : (rest : JoinTree) → IsTreeOver (all_of (suc n)) rest → Each (IsTreeOver (all_of (suc (suc n)))) (trees_with (suc n) rest)
+    with_last : (rest : PlanTree) → IsTreeOver (all_of (suc n)) rest → Each (IsTreeOver (all_of (suc (suc n)))) (trees_with (suc n) rest)
     with_last rest over =
         each_so (IsWith (suc n) rest) (IsTreeOver (all_of (suc (suc n))))
         (λ tree is_with. subst (λ (k : ℕ). IsTreeOver k tree) whole (with_over (all_of (suc n)) (suc n) rest tree (omega (arith, pow_pos (suc n))) over is_with))
@@ -41,7 +41,7 @@ listed_are_trees (suc (suc n)) =
 
 -- ---- what is true of each that is listed is true of each that there is
 
-at_with : (last : ℕ) (Q : JoinTree → Type 0) (rest tree : JoinTree) → IsWith last rest tree → Each Q (trees_with last rest) → Q tree
+at_with : (last : ℕ) (Q : PlanTree → Type 0) (rest tree : PlanTree) → IsWith last rest tree → Each Q (trees_with last rest) → Q tree
 at_with last Q (leaf entry) tree is_with h = subst Q (sym is_with) h.0
 at_with last Q (node left right) tree is_with h = elim is_with [
   | inl root ↦ subst Q (sym root) h.0
@@ -54,10 +54,10 @@ at_with last Q (node left right) tree is_with h = elim is_with [
     sides : Each Q (map (λ t. node t right) (trees_with last left)) × Each Q (map (λ t. node left t) (trees_with last right))
     sides = each_of_two Q (map (λ t. node t right) (trees_with last left)) (map (λ t. node left t) (trees_with last right)) h.1
 
-pub at_tree : (n : ℕ) (Q : JoinTree → Type 0) (tree : JoinTree) → 0 < n → Each Q (all_trees n) → IsTreeOver (all_of n) tree → Q tree
+pub at_tree : (n : ℕ) (Q : PlanTree → Type 0) (tree : PlanTree) → 0 < n → Each Q (all_trees n) → IsTreeOver (all_of n) tree → Q tree
 at_tree zero Q tree some h is_tree = absurd (omega arith)
 at_tree (suc zero) Q tree some h is_tree = subst Q (sym (only_last 0 tree is_tree)) h.0
 at_tree (suc (suc n)) Q tree some h is_tree =
-    let rest : (rest : JoinTree) × IsTreeOver (all_of (suc n)) rest × IsWith (suc n) rest tree = without_last n tree is_tree in
+    let rest : (rest : PlanTree) × IsTreeOver (all_of (suc n)) rest × IsWith (suc n) rest tree = without_last n tree is_tree in
     at_with (suc n) Q rest.0 tree rest.2
     (at_tree (suc n) (λ t. Each Q (trees_with (suc n) t)) rest.0 (omega arith) (each_of_flat Q (λ t. trees_with (suc n) t) (all_trees (suc n)) h) rest.1)

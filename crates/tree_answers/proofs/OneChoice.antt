@@ -7,7 +7,7 @@ use Rattle.order_search.specs.declared.refusal.PlanError.TheVariants as error
 use Rattle.tree_plans.specs.declared.bushy.BushyPlan.{BushyPlan}
 use Rattle.bushy_plan.specs.BestTree.{AreOfBest, IsBest, IsBestPlan, IsLeastCost, cost}
 use Rattle.bushy_plan.specs.Causes.{IsCause}
-use Rattle.bushy_plan.specs.JoinTrees.{JoinTree, joins_from}
+use Rattle.bushy_plan.specs.PlanTrees.{PlanTree, joins_from}
 use Rattle.bushy_plan.proofs.OneBest.{least_of_best, one_best}
 use Rattle.bushy_plan.proofs.Whole.{plan_from}
 use Rattle.tree_answers.specs.AllTrees.{best_tree}
@@ -15,27 +15,27 @@ use Rattle.tree_answers.specs.Promised.{IsPromised}
 use Rattle.tree_answers.specs.TreeAnswer.{answer_over, plan_over, tree_answer}
 use Rattle.tree_answers.proofs.BestComputed.{best_computed}
 
-pub only_best : (bounds : List ℕ) (n : ℕ) (tree : JoinTree) → 0 < n → IsBest bounds n tree → tree ≡ best_tree bounds n
+pub only_best : (bounds : List ℕ) (n : ℕ) (tree : PlanTree) → 0 < n → IsBest bounds n tree → tree ≡ best_tree bounds n
 only_best bounds n tree some is = one_best bounds n tree (best_tree bounds n) is (best_computed bounds n some)
 
 module _ (bounds scans : List ℕ) (budget : ℕ) where
   -- ---- the three cases
 
-  past : (tree : JoinTree) → 2 ^ 128 - 2 < cost bounds tree → answer_over bounds scans budget tree ≡ Err error.PastBits
+  past : (tree : PlanTree) → 2 ^ 128 - 2 < cost bounds tree → answer_over bounds scans budget tree ≡ Err error.PastBits
   past tree above = rw (lt-ltb (2 ^ 128 - 2) (cost bounds tree) above) refl
 
-  over : (tree : JoinTree) → cost bounds tree ≤ 2 ^ 128 - 2 → budget < cost bounds tree → answer_over bounds scans budget tree ≡ Err (error.Budget (cost bounds tree))
+  over : (tree : PlanTree) → cost bounds tree ≤ 2 ^ 128 - 2 → budget < cost bounds tree → answer_over bounds scans budget tree ≡ Err (error.Budget (cost bounds tree))
   over tree is_told above = rw (le-ltb (2 ^ 128 - 2) (cost bounds tree) is_told, lt-ltb budget (cost bounds tree) above) refl
 
-  fits : (tree : JoinTree) → cost bounds tree ≤ 2 ^ 128 - 2 → cost bounds tree ≤ budget → answer_over bounds scans budget tree ≡ Ok (plan_over bounds scans tree)
+  fits : (tree : PlanTree) → cost bounds tree ≤ 2 ^ 128 - 2 → cost bounds tree ≤ budget → answer_over bounds scans budget tree ≡ Ok (plan_over bounds scans tree)
   fits tree is_told within = rw (le-ltb (2 ^ 128 - 2) (cost bounds tree) is_told, le-ltb budget (cost bounds tree) within) refl
 
   -- ---- the answer is promised
 
-  of_best : (tree : JoinTree) → IsBest bounds (length scans) tree → AreOfBest bounds (length scans) (cost bounds tree) (joins_from bounds (length scans) tree)
+  of_best : (tree : PlanTree) → IsBest bounds (length scans) tree → AreOfBest bounds (length scans) (cost bounds tree) (joins_from bounds (length scans) tree)
   of_best tree is = record { tree = tree; is_best = is; are_its = refl; is_its = refl }
 
-  along : (tree : JoinTree) → length scans ≤ 12 → IsBest bounds (length scans) tree → IsPromised bounds scans budget (answer_over bounds scans budget tree)
+  along : (tree : PlanTree) → length scans ≤ 12 → IsBest bounds (length scans) tree → IsPromised bounds scans budget (answer_over bounds scans budget tree)
   along tree few is = elim (cases_lt (2 ^ 128 - 2) (cost bounds tree)) [
     | inl above ↦ rw (past tree above) (record { plan = tt; best = tt; within = tt; scans_kept = tt; refused = (cost bounds tree, least_of_best bounds (length scans) tree is, above) })
     | inr is_told ↦ elim (cases_lt budget (cost bounds tree)) [
@@ -56,7 +56,7 @@ module _ (bounds scans : List ℕ) (budget : ℕ) where
 
   -- ---- and no other
 
-  same_plan : (plan : BushyPlan) (tree : JoinTree) → plan.joins ≡ joins_from bounds (length scans) tree → plan.cost ≡ cost bounds tree → plan.scans ≡ scans → plan ≡ plan_over bounds scans tree
+  same_plan : (plan : BushyPlan) (tree : PlanTree) → plan.joins ≡ joins_from bounds (length scans) tree → plan.cost ≡ cost bounds tree → plan.scans ≡ scans → plan ≡ plan_over bounds scans tree
   same_plan plan tree has_joins has_cost has_scans = rw (sym has_joins, sym has_cost, sym has_scans) refl
 
   pub chosen : (plan : BushyPlan) → 1 ≤ length scans → budget ≤ 2 ^ 59 → IsBestPlan bounds (length scans) plan → plan.cost ≤ budget → plan.scans ≡ scans
@@ -88,7 +88,7 @@ module _ (bounds scans : List ℕ) (budget : ℕ) where
   only (Err error.PastBits) some few is = inr (sym (refused error.PastBits some (λ same. absurd (cc)) is.refused))
   only (Err (error.Budget least)) some few is = inr (sym (refused (error.Budget least) some (λ same. absurd (cc)) is.refused))
 
-  never_over : (tree : JoinTree) → answer_over bounds scans budget tree ≢ Err error.NoMemory
+  never_over : (tree : PlanTree) → answer_over bounds scans budget tree ≢ Err error.NoMemory
   never_over tree same = elim (cases_lt (2 ^ 128 - 2) (cost bounds tree)) [
     | inl above ↦ absurd (cc (same, past tree above))
     | inr is_told ↦ elim (cases_lt budget (cost bounds tree)) [

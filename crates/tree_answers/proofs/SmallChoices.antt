@@ -3,7 +3,7 @@ use Rattle.std.proofs.Common.{◌≡◌, ◌^◌, ◌-◌, [], ◌∷◌, Ok, Er
 use Rattle.order_search.specs.declared.refusal.PlanError.TheVariants as error
 use Rattle.tree_plans.specs.Examples.{join, plan_of}
 use Rattle.bushy_plan.specs.Examples.{one_pair, triangle}
-use Rattle.bushy_plan.specs.JoinTrees.{leaf, node}
+use Rattle.bushy_plan.specs.PlanTrees.{leaf, node}
 use Rattle.tree_answers.specs.AllTrees.{best_tree}
 use Rattle.tree_answers.specs.TreeAnswer.{tree_answer}
 

@@ -4,15 +4,15 @@ use Rattle.order_search.specs.declared.refusal.PlanError.{PlanError}
 use Rattle.order_search.specs.declared.refusal.PlanError.TheVariants as error
 use Rattle.tree_plans.specs.declared.bushy.BushyPlan.{BushyPlan}
 use Rattle.bushy_plan.specs.BestTree.{cost}
-use Rattle.bushy_plan.specs.JoinTrees.{JoinTree, joins_from}
+use Rattle.bushy_plan.specs.PlanTrees.{PlanTree, joins_from}
 use Rattle.tree_answers.specs.AllTrees.{best_tree}
 
 -- the joins of a tree with their bounds, the bounds of all scans, and the tree's cost
-abbrev pub plan_over : List ℕ → List ℕ → JoinTree → BushyPlan
+abbrev pub plan_over : List ℕ → List ℕ → PlanTree → BushyPlan
 plan_over bounds scans tree = record { joins = joins_from bounds (length scans) tree; scans = scans; cost = cost bounds tree }
 
 -- a tree is refused where 128 bits don't tell its cost, and then where that is above the budget
-abbrev pub answer_over : List ℕ → List ℕ → ℕ → JoinTree → Result BushyPlan PlanError
+abbrev pub answer_over : List ℕ → List ℕ → ℕ → PlanTree → Result BushyPlan PlanError
 answer_over bounds scans budget tree =
     if nat_lt (2 ^ 128 - 2) (cost bounds tree) then Err error.PastBits
     else if nat_lt budget (cost bounds tree) then Err (error.Budget (cost bounds tree))

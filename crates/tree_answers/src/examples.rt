@@ -3,7 +3,7 @@ ghost use Rattle.std.specs.Prelude.{◌≡◌, ◌-◌, ◌^◌, true, [], ◌�
 ghost use Rattle.order_search.specs.declared.refusal.PlanError.TheVariants as error;
 ghost use Rattle.tree_plans.specs.Examples.{join, plan_of};
 ghost use Rattle.bushy_plan.specs.Examples.{one_pair, triangle};
-ghost use Rattle.bushy_plan.specs.JoinTrees.{leaf, node};
+ghost use Rattle.bushy_plan.specs.PlanTrees.{leaf, node};
 ghost use Rattle.tree_answers.specs.AllTrees.{all_trees, best_tree, is_before};
 ghost use Rattle.tree_answers.specs.TreeAnswer.{tree_answer};
 

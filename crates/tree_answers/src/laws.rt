@@ -6,7 +6,7 @@ ghost use Rattle.order_search.specs.declared.refusal.PlanError.TheVariants as er
 ghost use Rattle.tree_plans.specs.declared.bushy.BushyPlan.{BushyPlan};
 ghost use Rattle.bushy_plan.specs.BestTree.{IsBest, IsBestPlan};
 ghost use Rattle.bushy_plan.specs.Causes.{IsCause};
-ghost use Rattle.bushy_plan.specs.JoinTrees.{JoinTree};
+ghost use Rattle.bushy_plan.specs.PlanTrees.{PlanTree};
 ghost use Rattle.tree_answers.specs.AllTrees.{best_tree};
 ghost use Rattle.tree_answers.specs.Promised.{IsPromised};
 ghost use Rattle.tree_answers.specs.TreeAnswer.{tree_answer};
@@ -14,7 +14,7 @@ ghost use Rattle.tree_answers.specs.TreeAnswer.{tree_answer};
 /// The tree that is computed is the best one.
 pub fn best_trees()
     ensures best { (bounds : List ℕ) (n : ℕ) → 1 ≤ n → IsBest bounds n (best_tree bounds n) }
-    ensures only { (bounds : List ℕ) (n : ℕ) (tree : JoinTree) → 1 ≤ n → IsBest bounds n tree → tree ≡ best_tree bounds n }
+    ensures only { (bounds : List ℕ) (n : ℕ) (tree : PlanTree) → 1 ≤ n → IsBest bounds n tree → tree ≡ best_tree bounds n }
 {}
 
 /// What `choose_bushy` promises is true of one answer, `tree_answer`, besides that memory is wanting. At each of

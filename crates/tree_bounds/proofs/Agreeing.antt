@@ -8,16 +8,16 @@ use Rattle.berge_tree.specs.Equalities.{place, places_of, class_of}
 use Rattle.berge_tree.specs.Rooted.{class_columns, member_places, FollowsBelow, FollowsWithin, IsTreeOf, AreAllTreesOf}
 use Rattle.entry_sets.specs.Sets.{entries_of_set}
 use Rattle.berge_tree.specs.Testing.{joined_parts}
-use Rattle.berge_tree.specs.Trees.{Classes, no_class, and_class, Members, one_member, and_member, JoinTree, entries_below, entries_within, entries, entries_of_all}
+use Rattle.berge_tree.specs.Trees.{Classes, no_class, and_class, Members, one_member, and_member, BergeTree, entries_below, entries_within, entries, entries_of_all}
 use Rattle.berge_tree.proofs.Joining.{joined}
 use Rattle.berge_tree.proofs.Separate.{all_map}
 use Rattle.join_graph.specs.Kept.{equalities_within, order_of_turn, kept_by_names, kept_of}
 use Rattle.join_graph.proofs.Turning.{append_all}
 use Rattle.entry_sets.proofs.Listing.{in_rest, in_front, in_none, each, one_in}
 use Rattle.tree_bounds.specs.Columns.{EachColumnBelow, EachColumnWithin, EachColumn, EachNamedColumn}
-use Rattle.tree_bounds.specs.TreeBounds.{EntryBounds, HasList, HasLists, bound_of_trees}
+use Rattle.tree_bounds.specs.TreeBounds.{EntryBounds, HasList, TreeHasLists, bound_of_trees}
 use Rattle.tree_bounds.specs.SetBounds.{SetHasLists}
-use Rattle.tree_bounds.specs.Tables.{KeyedTables, key_of, AgreesBelow, AgreesWithin, Agrees, Satisfies, AreDifferent, RowsFit, Dominates, TreeDominates, SetDominates}
+use Rattle.tree_bounds.specs.Tables.{KeyedTables, key_of, AgreesBelow, AgreesWithin, Agrees, Satisfies, ChoicesAreDifferent, RowsFit, Dominates, TreeDominates, SetDominates}
 use Rattle.tree_bounds.proofs.Injected.{for_each, choices_within_all}
 
 -- ---- what holds of a set's equalities holds of those that are kept
@@ -88,10 +88,10 @@ module _ (Q : ℕ → ℕ → Type 0) where
         columns_within rest (λ q m. k q (in_rest (place entry column) (member_places rest) q m)) f.2,
       )
 
-    pub tree_columns : (t : JoinTree) → IsTreeOf es t → EachColumn Q t
+    pub tree_columns : (t : BergeTree) → IsTreeOf es t → EachColumn Q t
     tree_columns t tree = columns_below t.root t.below (λ c m. (tree.columns.some c m).0) tree.follows
 
-pub for_trees : (Q R : JoinTree → Type 0) → ((t : JoinTree) → Q t → R t) → (ts : List JoinTree) → AllByRecursion Q ts → AllByRecursion R ts
+pub for_trees : (Q R : BergeTree → Type 0) → ((t : BergeTree) → Q t → R t) → (ts : List BergeTree) → AllByRecursion Q ts → AllByRecursion R ts
 for_trees Q R f [] h = tt
 for_trees Q R f (t ∷ ts) h = (f t h.0, for_trees Q R f ts h.1)
 
@@ -135,7 +135,7 @@ module _ (tables : KeyedTables) (choice : ℕ → ℕ) (es : List Edge)
       agrees_within above rest (λ q m. same q (in_rest (place entry column) (member_places rest) q m)) f.2 (all_right HasRow (entries_below below) (entries_within rest) rows.1),
     )
 
-  agrees_all : (ts : List JoinTree) → AllByRecursion (IsTreeOf es) ts → AllByRecursion HasRow (entries_of_all ts) → AllByRecursion (λ t. Agrees tables t choice) ts
+  agrees_all : (ts : List BergeTree) → AllByRecursion (IsTreeOf es) ts → AllByRecursion HasRow (entries_of_all ts) → AllByRecursion (λ t. Agrees tables t choice) ts
   agrees_all [] trees rows = tt
   agrees_all (t ∷ ts) trees rows = (
     let own : AllByRecursion HasRow (entries t) = all_left HasRow (entries t) (entries_of_all ts) rows in
@@ -146,20 +146,20 @@ module _ (tables : KeyedTables) (choice : ℕ → ℕ) (es : List Edge)
 -- ---- a turn
 
 -- what holds of all entries of trees holds of their roots
-pub at_roots : (Q : ℕ → Type 0) (ts : List JoinTree) → AllByRecursion Q (entries_of_all ts) → AllByRecursion (λ t. Q t.root) ts
+pub at_roots : (Q : ℕ → Type 0) (ts : List BergeTree) → AllByRecursion Q (entries_of_all ts) → AllByRecursion (λ t. Q t.root) ts
 at_roots Q [] h = tt
 at_roots Q (t ∷ ts) h = (h.0, at_roots Q ts (all_right Q (entries t) (entries_of_all ts) h))
 
-module _ (es : List Edge) (subset turn : ℕ) (ts : List JoinTree) (all : AreAllTreesOf (kept_of subset turn es) (entries_of_set subset) ts) where
+module _ (es : List Edge) (subset turn : ℕ) (ts : List BergeTree) (all : AreAllTreesOf (kept_of subset turn es) (entries_of_set subset) ts) where
   pub in_trees : (Q : ℕ → Type 0) → AllByRecursion Q (entries_of_set subset) → AllByRecursion Q (entries_of_all ts)
   in_trees Q h = all_map (Contains (entries_of_set subset)) Q (λ e k. each Q (entries_of_set subset) h e k) (entries_of_all ts) all.within
 
-  pub have_lists : (b : EntryBounds) → SetHasLists b es subset → AllByRecursion (HasLists b) ts
-  have_lists b h = for_trees (IsTreeOf (kept_of subset turn es)) (HasLists b)
+  pub have_lists : (b : EntryBounds) → SetHasLists b es subset → AllByRecursion (TreeHasLists b) ts
+  have_lists b h = for_trees (IsTreeOf (kept_of subset turn es)) (TreeHasLists b)
       (tree_columns (HasList b) (kept_of subset turn es) (named_in_turn (HasList b) subset turn es h)) ts all.trees
 
-module _ (b : EntryBounds) (tables : KeyedTables) (es : List Edge) (subset turn : ℕ) (ts : List JoinTree) (all : AreAllTreesOf (kept_of subset turn es) (entries_of_set subset) ts) where
-  dominated : (us : List JoinTree) → SetDominates b tables es subset → AllByRecursion (λ t. RowsFit b tables t.root) us → AllByRecursion (IsTreeOf (kept_of subset turn es)) us → AllByRecursion (TreeDominates b tables) us
+module _ (b : EntryBounds) (tables : KeyedTables) (es : List Edge) (subset turn : ℕ) (ts : List BergeTree) (all : AreAllTreesOf (kept_of subset turn es) (entries_of_set subset) ts) where
+  dominated : (us : List BergeTree) → SetDominates b tables es subset → AllByRecursion (λ t. RowsFit b tables t.root) us → AllByRecursion (IsTreeOf (kept_of subset turn es)) us → AllByRecursion (TreeDominates b tables) us
   dominated [] d fit trees = tt
   dominated (u ∷ us) d fit trees = (
     record { root = fit.0; columns = tree_columns (Dominates b tables) (kept_of subset turn es) (named_in_turn (Dominates b tables) subset turn es d.columns) u trees.0 },
@@ -174,7 +174,7 @@ module _ (b : EntryBounds) (tables : KeyedTables) (es : List Edge) (subset turn 
 
   -- different choices that satisfy all equalities of the set are no more than the bound of the turn's trees
   pub satisfying_within : SetHasLists b es subset → SetDominates b tables es subset → (cs : List (ℕ → ℕ))
-      → AllByRecursion (Satisfies tables (entries_of_set subset) (equalities_within subset es)) cs → AreDifferent (entries_of_set subset) cs → length cs ≤ bound_of_trees b ts
+      → AllByRecursion (Satisfies tables (entries_of_set subset) (equalities_within subset es)) cs → ChoicesAreDifferent (entries_of_set subset) cs → length cs ≤ bound_of_trees b ts
   satisfying_within h d cs satisfy differ =
       choices_within_all b tables ts (have_lists es subset turn ts all b h) (dominated ts d (at_roots (RowsFit b tables) ts (in_trees es subset turn ts all (RowsFit b tables) d.rows)) all.trees) (entries_of_set subset) all.covers cs
       (for_each (Satisfies tables (entries_of_set subset) (equalities_within subset es)) (λ c. AllByRecursion (λ t. Agrees tables t c) ts) agree cs satisfy) differ

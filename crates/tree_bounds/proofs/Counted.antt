@@ -10,9 +10,9 @@ use Rattle.degree_sequences.proofs.ByRank.{IsFalling-rank_product}
 use Rattle.degree_sequences.proofs.CompositionDominates.{composed_dominates, root_at_least}
 use Rattle.degree_sequences.proofs.ProductDominates.{rank_product_dominates}
 use Rattle.degree_sequences.proofs.RowWeights.{IsFalling-composed}
-use Rattle.berge_tree.specs.Trees.{Classes, no_class, and_class, Members, one_member, and_member, JoinTree}
+use Rattle.berge_tree.specs.Trees.{Classes, no_class, and_class, Members, one_member, and_member, BergeTree}
 use Rattle.tree_bounds.specs.Columns.{EachColumnBelow, EachColumnWithin}
-use Rattle.tree_bounds.specs.TreeBounds.{EntryBounds, IsListOf, HasList, HasLists, child_lists, class_list, bound_of_tree}
+use Rattle.tree_bounds.specs.TreeBounds.{EntryBounds, IsListOf, HasList, TreeHasLists, child_lists, class_list, bound_of_tree}
 use Rattle.tree_bounds.specs.Tables.{KeyedTables, Dominates, TreeDominates}
 use Rattle.tree_bounds.specs.Counting.{child_keys, choices_for, number_of_choices}
 
@@ -59,7 +59,7 @@ module _ (b : EntryBounds) (tables : KeyedTables) where
         d.0.keys d.0.key_per_row (children_dominate entry below h.1 d.1))
         (class_dominates rest h.2 d.2)
 
-  pub number_within : (t : JoinTree) → HasLists b t → TreeDominates b tables t → number_of_choices tables t ≤ bound_of_tree b t
+  pub number_within : (t : BergeTree) → TreeHasLists b t → TreeDominates b tables t → number_of_choices tables t ≤ bound_of_tree b t
   number_within t h d =
       root_at_least (b.rows t.root) (tables.rows t.root) d.root (child_lists b t.root t.below) (child_keys tables t.root t.below)
       (children_dominate t.root t.below h d.columns)

@@ -9,11 +9,11 @@ use Rattle.std.proofs.lemmas.Cmp.{nat_list_eq_equiv}
 use Rattle.std.proofs.lemmas.List.{length-map, map-append, get_or-map}
 use Rattle.std.proofs.lemmas.Map.Keys.{IsDistinct-cons}
 use Rattle.std.proofs.lemmas.Map.Made.{length-le_from_is_member}
-use Rattle.berge_tree.specs.Trees.{Classes, no_class, and_class, Members, one_member, and_member, JoinTree, entries_below, entries_within, entries, entries_of_all}
+use Rattle.berge_tree.specs.Trees.{Classes, no_class, and_class, Members, one_member, and_member, BergeTree, entries_below, entries_within, entries, entries_of_all}
 use Rattle.tree_bounds.specs.Columns.{EachColumnBelow, EachColumnWithin}
-use Rattle.tree_bounds.specs.TreeBounds.{EntryBounds, HasLists, bound_of_tree, bound_of_trees}
-use Rattle.tree_bounds.specs.Tables.{KeyedTables, key_of, AgreesBelow, AgreesWithin, Agrees, AreDifferent, Dominates, TreeDominates}
-use Rattle.tree_bounds.specs.Counting.{with_row, paired, rows_with_key, chosen_below, chosen_within, chosen_rows, chosen_rows_of_all}
+use Rattle.tree_bounds.specs.TreeBounds.{EntryBounds, TreeHasLists, bound_of_tree, bound_of_trees}
+use Rattle.tree_bounds.specs.Tables.{KeyedTables, key_of, AgreesBelow, AgreesWithin, Agrees, ChoicesAreDifferent, Dominates, TreeDominates}
+use Rattle.tree_bounds.specs.Counting.{with_row, paired, rows_with_key, chosen_below, chosen_within, tree_choices, chosen_rows_of_all}
 use Rattle.tree_bounds.proofs.Counted.{number_within}
 use Rattle.tree_bounds.proofs.Listed.{length-paired, length-chosen_rows}
 
@@ -82,17 +82,17 @@ module _ (b : EntryBounds) (tables : KeyedTables) (choice : ℕ → ℕ) where
         d.0.key_per_row a.0 a.1 (listed_below entry below d.1 a.2))
         (listed_within key rest d.2 a.3))
 
-  listed : (t : JoinTree) → TreeDominates b tables t → Agrees tables t choice → Stands (map choice (entries t)) (chosen_rows tables t)
+  listed : (t : BergeTree) → TreeDominates b tables t → Agrees tables t choice → Stands (map choice (entries t)) (tree_choices tables t)
   listed t d a =
       stands_for_row (λ row. with_row row (chosen_below tables t.root t.below row)) (map choice (entries t)) (tables.rows t.root) 0 (choice t.root) (omega arith) (omega (arith, a.0))
       (stands_mapped (λ (rows : List ℕ). choice t.root ∷ rows) (map choice (entries_below t.below)) (chosen_below tables t.root t.below (choice t.root)) (listed_below t.root t.below d.columns a.1))
 
-  listed_all : (ts : List JoinTree) → AllByRecursion (TreeDominates b tables) ts → AllByRecursion (λ t. Agrees tables t choice) ts
+  listed_all : (ts : List BergeTree) → AllByRecursion (TreeDominates b tables) ts → AllByRecursion (λ t. Agrees tables t choice) ts
       → Stands (map choice (entries_of_all ts)) (chosen_rows_of_all tables ts)
   listed_all [] d a = inl refl
   listed_all (t ∷ ts) d a =
       rw (map-append choice (entries t) (entries_of_all ts))
-      (stands_paired (map choice (entries t)) (map choice (entries_of_all ts)) (chosen_rows tables t) (chosen_rows_of_all tables ts) (listed t d.0 a.0) (listed_all ts d.1 a.1))
+      (stands_paired (map choice (entries t)) (map choice (entries_of_all ts)) (tree_choices tables t) (chosen_rows_of_all tables ts) (listed t d.0 a.0) (listed_all ts d.1 a.1))
 
 contains_from : (q : List ℕ) (xs : List (List ℕ)) → Stands q xs → Contains xs q
 contains_from q [] h = absurd h
@@ -102,9 +102,9 @@ contains_from q (x ∷ xs) h = elim h [
 ]
 
 -- the rows of a choice that agrees stand in the list of all
-pub choice_listed : (b : EntryBounds) (tables : KeyedTables) (t : JoinTree) → TreeDominates b tables t → (choice : ℕ → ℕ) → Agrees tables t choice
-    → Contains (chosen_rows tables t) (map choice (entries t))
-choice_listed b tables t d choice a = contains_from (map choice (entries t)) (chosen_rows tables t) (listed b tables choice t d a)
+pub choice_listed : (b : EntryBounds) (tables : KeyedTables) (t : BergeTree) → TreeDominates b tables t → (choice : ℕ → ℕ) → Agrees tables t choice
+    → Contains (tree_choices tables t) (map choice (entries t))
+choice_listed b tables t d choice a = contains_from (map choice (entries t)) (tree_choices tables t) (listed b tables choice t d a)
 
 -- ---- different choices are different members
 
@@ -130,7 +130,7 @@ unlike_first : (set : List ℕ) (x : ℕ → ℕ) (cs : List (ℕ → ℕ)) → 
 unlike_first set x [] h = tt
 unlike_first set x (c ∷ cs) h = (not_alike (map x set) (map c set) (h 0 (omega arith)), unlike_first set x cs (λ j k. h (suc j) (omega arith)))
 
-all_unlike : (set : List ℕ) (cs : List (ℕ → ℕ)) → AreDifferent set cs → IsDistinct (pointwise nat_eq) (map (λ c. map c set) cs)
+all_unlike : (set : List ℕ) (cs : List (ℕ → ℕ)) → ChoicesAreDifferent set cs → IsDistinct (pointwise nat_eq) (map (λ c. map c set) cs)
 all_unlike set [] h = none_alike
 all_unlike set (c ∷ cs) h =
     IsDistinct-cons (pointwise nat_eq) (map c set) (map (λ c. map c set) cs)
@@ -146,7 +146,7 @@ all_members set (c ∷ cs) xs h q e = elim (cases_Bool (pointwise nat_eq q (map 
 ]
 
 -- different choices whose rows stand in a list are no more than the list has
-no_more : (set : List ℕ) (cs : List (ℕ → ℕ)) (xs : List (List ℕ)) → AreDifferent set cs → AllByRecursion (λ c. Stands (map c set) xs) cs → length cs ≤ length xs
+no_more : (set : List ℕ) (cs : List (ℕ → ℕ)) (xs : List (List ℕ)) → ChoicesAreDifferent set cs → AllByRecursion (λ c. Stands (map c set) xs) cs → length cs ≤ length xs
 no_more set cs xs differ all =
     omega (arith, length-map cs (λ c. map c set), length-le_from_is_member nat_list_eq_equiv (map (λ c. map c set) cs) xs (all_unlike set cs differ) (all_members set cs xs all))
 
@@ -157,22 +157,22 @@ for_each Q R f [] h = tt
 for_each Q R f (c ∷ cs) h = (f c h.0, for_each Q R f cs h.1)
 
 module _ (b : EntryBounds) (tables : KeyedTables) where
-  pub choices_within : (t : JoinTree) → HasLists b t → TreeDominates b tables t → (cs : List (ℕ → ℕ)) → AllByRecursion (Agrees tables t) cs → AreDifferent (entries t) cs
+  pub choices_within : (t : BergeTree) → TreeHasLists b t → TreeDominates b tables t → (cs : List (ℕ → ℕ)) → AllByRecursion (Agrees tables t) cs → ChoicesAreDifferent (entries t) cs
       → length cs ≤ bound_of_tree b t
   choices_within t h d cs agree differ =
       omega (
         arith,
-        no_more (entries t) cs (chosen_rows tables t) differ
-            (for_each (Agrees tables t) (λ c. Stands (map c (entries t)) (chosen_rows tables t)) (λ c a. listed b tables c t d a) cs agree),
+        no_more (entries t) cs (tree_choices tables t) differ
+            (for_each (Agrees tables t) (λ c. Stands (map c (entries t)) (tree_choices tables t)) (λ c a. listed b tables c t d a) cs agree),
         length-chosen_rows tables t,
         number_within b tables t h d,
       )
 
-  length-all : (ts : List JoinTree) → AllByRecursion (HasLists b) ts → AllByRecursion (TreeDominates b tables) ts → length (chosen_rows_of_all tables ts) ≤ bound_of_trees b ts
+  length-all : (ts : List BergeTree) → AllByRecursion (TreeHasLists b) ts → AllByRecursion (TreeDominates b tables) ts → length (chosen_rows_of_all tables ts) ≤ bound_of_trees b ts
   length-all [] h d = omega arith
   length-all (t ∷ ts) h d =
-      let one : length (chosen_rows tables t) ≤ bound_of_tree b t = omega (arith, length-chosen_rows tables t, number_within b tables t h.0 d.0) in
-      omega (arith, length-paired (chosen_rows tables t) (chosen_rows_of_all tables ts), mul-le-mul one (length-all ts h.1 d.1))
+      let one : length (tree_choices tables t) ≤ bound_of_tree b t = omega (arith, length-chosen_rows tables t, number_within b tables t h.0 d.0) in
+      omega (arith, length-paired (tree_choices tables t) (chosen_rows_of_all tables ts), mul-le-mul one (length-all ts h.1 d.1))
 
   same_there : (es : List ℕ) (e : ℕ) → Contains es e → (x y : ℕ → ℕ) → map x es ≡ map y es → x e ≡ y e
   same_there es e k x y same =
@@ -183,8 +183,8 @@ module _ (b : EntryBounds) (tables : KeyedTables) where
   same_on es (e ∷ set) k x y same = rw (same_there es e k.0 x y same, same_on es set k.1 x y same) refl
 
   -- choices that differ on a set of entries that stand in the trees
-  pub choices_within_all : (ts : List JoinTree) → AllByRecursion (HasLists b) ts → AllByRecursion (TreeDominates b tables) ts → (set : List ℕ) → AllByRecursion (Contains (entries_of_all ts)) set
-      → (cs : List (ℕ → ℕ)) → AllByRecursion (λ c. AllByRecursion (λ t. Agrees tables t c) ts) cs → AreDifferent set cs → length cs ≤ bound_of_trees b ts
+  pub choices_within_all : (ts : List BergeTree) → AllByRecursion (TreeHasLists b) ts → AllByRecursion (TreeDominates b tables) ts → (set : List ℕ) → AllByRecursion (Contains (entries_of_all ts)) set
+      → (cs : List (ℕ → ℕ)) → AllByRecursion (λ c. AllByRecursion (λ t. Agrees tables t c) ts) cs → ChoicesAreDifferent set cs → length cs ≤ bound_of_trees b ts
   choices_within_all ts h d set inside cs agree differ =
       omega (
         arith,

@@ -5,10 +5,10 @@ use Rattle.std.proofs.Math.Nat.{suc-mul, zero-mul}
 use Rattle.std.proofs.lemmas.List.{length-map}
 use Rattle.std.proofs.lemmas.List.Concat.{length-flat_map}
 use Rattle.degree_sequences.specs.KeyedRows.{ChildKeys, weight_of_row, weight_of_key}
-use Rattle.berge_tree.specs.Trees.{Classes, no_class, and_class, Members, one_member, and_member, JoinTree}
+use Rattle.berge_tree.specs.Trees.{Classes, no_class, and_class, Members, one_member, and_member, BergeTree}
 use Rattle.degree_sequences.proofs.Counting.{sum_by-same}
 use Rattle.tree_bounds.specs.Tables.{KeyedTables}
-use Rattle.tree_bounds.specs.Counting.{child_keys, choices_for, number_of_choices, with_row, paired, rows_with_key, chosen_below, chosen_within, chosen_rows}
+use Rattle.tree_bounds.specs.Counting.{child_keys, choices_for, number_of_choices, with_row, paired, rows_with_key, chosen_below, chosen_within, tree_choices}
 
 pub length-paired : (xs ys : List (List ℕ)) → length (paired xs ys) ≡ length xs * length ys
 length-paired [] ys = sym (zero-mul (length ys))
@@ -50,7 +50,7 @@ module _ (tables : KeyedTables) where
         length-paired (rows_with_key (tables.keys entry column) (chosen_below tables entry below) key) (chosen_within tables rest key)
         ∙ times _ _ _ _ (length-rows_with_key (tables.keys entry column) (chosen_below tables entry below) (child_keys tables entry below) (length-below entry below) key) (length-within rest key)
 
-  pub length-chosen_rows : (t : JoinTree) → length (chosen_rows tables t) ≡ number_of_choices tables t
+  pub length-chosen_rows : (t : BergeTree) → length (tree_choices tables t) ≡ number_of_choices tables t
   length-chosen_rows t =
       length-flat_map (λ row. with_row row (chosen_below tables t.root t.below row)) (range_with_len 0 (tables.rows t.root))
       ∙ sum_by-same (λ row. length (with_row row (chosen_below tables t.root t.below row))) (weight_of_row (child_keys tables t.root t.below))

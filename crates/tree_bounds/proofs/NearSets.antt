@@ -11,7 +11,7 @@ use Rattle.std.proofs.lemmas.Map.Made.{length-le_from_is_member}
 use Rattle.berge_tree.specs.declared.edges.Edge.{Edge}
 use Rattle.berge_tree.specs.Rooted.{IsTreeOf, AreAllTreesOf}
 use Rattle.entry_sets.specs.Sets.{entries_of_set}
-use Rattle.berge_tree.specs.Trees.{JoinTree, entries_of_all}
+use Rattle.berge_tree.specs.Trees.{BergeTree, entries_of_all}
 use Rattle.entry_sets.proofs.Listing.{set_increases, in_none, one_in}
 use Rattle.join_graph.specs.Kept.{kept_of, turn_count}
 use Rattle.tree_bounds.specs.TreeBounds.{EntryBounds, bound_of_trees}
@@ -62,7 +62,7 @@ below_apart xs h i j d k l same = differ (get_or xs i d) (get_or xs j d) (h i j 
     differ : (a b : ℕ) → a < b → a ≡ b → ⊥
     differ a b h e = omega arith
 
-as_many : (es : List Edge) (subset : ℕ) (ts : List JoinTree) → AreAllTreesOf es (entries_of_set subset) ts → length (entries_of_all ts) ≡ length (entries_of_set subset)
+as_many : (es : List Edge) (subset : ℕ) (ts : List BergeTree) → AreAllTreesOf es (entries_of_set subset) ts → length (entries_of_all ts) ≡ length (entries_of_set subset)
 as_many es subset ts all =
     let set : List ℕ = entries_of_set subset in
     let some : length (entries_of_all ts) ≤ length set = no_longer (entries_of_all ts) set all.once all.within in
@@ -72,7 +72,7 @@ as_many es subset ts all =
 -- ---- a set
 
 module _ (accuracy : ℕ) (b exact : EntryBounds) (es : List Edge) (subset : ℕ) (h : SetHasLists b es subset) (k : SetHasLists exact es subset) (near : SetIsNear accuracy b exact es subset) where
-  all_near : (turn : ℕ) (ts : List JoinTree) → AllByRecursion (λ t. RowsAreNear accuracy b exact t.root) ts → AllByRecursion (IsTreeOf (kept_of subset turn es)) ts → AllByRecursion (TreeIsNear accuracy b exact) ts
+  all_near : (turn : ℕ) (ts : List BergeTree) → AllByRecursion (λ t. RowsAreNear accuracy b exact t.root) ts → AllByRecursion (IsTreeOf (kept_of subset turn es)) ts → AllByRecursion (TreeIsNear accuracy b exact) ts
   all_near turn [] rows trees = tt
   all_near turn (t ∷ ts) rows trees = (
     record { root = rows.0; columns = tree_columns (ListIsNear accuracy b exact) (kept_of subset turn es) (named_in_turn (ListIsNear accuracy b exact) subset turn es near.columns) t trees.0 },
@@ -81,7 +81,7 @@ module _ (accuracy : ℕ) (b exact : EntryBounds) (es : List Edge) (subset : ℕ
 
   pub turn_near : (turn : ℕ) → accuracy ^ length (entries_of_set subset) * bound_of_turn b es subset turn ≤ (accuracy + 1) ^ length (entries_of_set subset) * bound_of_turn exact es subset turn
   turn_near turn =
-      let ts : List JoinTree = trees_of (kept_of subset turn es) subset in
+      let ts : List BergeTree = trees_of (kept_of subset turn es) subset in
       let all : AreAllTreesOf (kept_of subset turn es) (entries_of_set subset) ts = trees_there es subset turn in
       subst (λ (n : ℕ). accuracy ^ n * bound_of_trees b ts ≤ (accuracy + 1) ^ n * bound_of_trees exact ts) (as_many (kept_of subset turn es) subset ts all)
       (trees_near accuracy b exact ts (have_lists es subset turn ts all b h) (have_lists es subset turn ts all exact k)

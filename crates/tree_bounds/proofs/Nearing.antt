@@ -6,14 +6,14 @@ use Rattle.std.proofs.lemmas.Nat.{pow-add}
 use Rattle.std.proofs.lemmas.List.{length-map}
 use Rattle.std.proofs.lemmas.List.FromFn.{length-range_with_len}
 use Rattle.degree_sequences.specs.Composition.{ChildLists, composed, row_weights, root_total, weight_by_rank}
-use Rattle.degree_sequences.specs.Families.{ColumnFalls, IsNear, IsWithin, MatchedChild, factors, scales}
+use Rattle.degree_sequences.specs.Families.{ColumnFalls, IsNear, SumsAreWithin, MatchedChild, factors, scales}
 use Rattle.degree_sequences.specs.RunningSums.{running_sum}
 use Rattle.degree_sequences.proofs.RowWeights.{IsFalling-composed, running_sum-composition}
 use Rattle.degree_sequences.proofs.RunningSums.{running_sum-nil, running_sum-whole}
 use Rattle.degree_sequences.proofs.Scaling.{composed-near, rank_product-near}
-use Rattle.berge_tree.specs.Trees.{Classes, no_class, and_class, Members, one_member, and_member, JoinTree, entries_below, entries_within, entries, entries_of_all}
+use Rattle.berge_tree.specs.Trees.{Classes, no_class, and_class, Members, one_member, and_member, BergeTree, entries_below, entries_within, entries, entries_of_all}
 use Rattle.tree_bounds.specs.Columns.{EachColumnBelow, EachColumnWithin}
-use Rattle.tree_bounds.specs.TreeBounds.{EntryBounds, HasList, HasLists, child_lists, class_list, bound_of_tree, bound_of_trees}
+use Rattle.tree_bounds.specs.TreeBounds.{EntryBounds, HasList, TreeHasLists, child_lists, class_list, bound_of_tree, bound_of_trees}
 use Rattle.tree_bounds.specs.Nearness.{ListIsNear, TreeIsNear}
 use Rattle.tree_bounds.proofs.Counted.{children_fall, class_falls}
 
@@ -66,9 +66,9 @@ module _ (accuracy : ℕ) (b exact : EntryBounds) where
   columns_fall entry (and_class column members rest) h = (h.0.falls, columns_fall entry rest h.2)
 
   -- a list of an entry composed with its classes, where the classes are near
-  composed_near : (g f : List ℕ) (entry : ℕ) (cs : Classes) → IsWithin accuracy (accuracy + 1) g f → sum g ≡ b.rows entry → sum f ≡ exact.rows entry
+  composed_near : (g f : List ℕ) (entry : ℕ) (cs : Classes) → SumsAreWithin accuracy (accuracy + 1) g f → sum g ≡ b.rows entry → sum f ≡ exact.rows entry
       → EachColumnBelow (HasList b) entry cs → EachColumnBelow (HasList exact) entry cs → AllByRecursion (IsNear accuracy) (matched entry cs)
-      → IsWithin (low (suc (length (entries_below cs)))) (high (suc (length (entries_below cs)))) (composed g (child_lists b entry cs)) (composed f (child_lists exact entry cs))
+      → SumsAreWithin (low (suc (length (entries_below cs)))) (high (suc (length (entries_below cs)))) (composed g (child_lists b entry cs)) (composed f (child_lists exact entry cs))
   composed_near g f entry cs near total total' h k each r =
       let ms : List MatchedChild = matched entry cs in
       let n : ℕ = length (entries_below cs) in
@@ -86,7 +86,7 @@ module _ (accuracy : ℕ) (b exact : EntryBounds) where
     below_near entry (and_class column members rest) h k near = (record { column = near.0; class = within_near members h.1 k.1 near.1 }, below_near entry rest h.2 k.2 near.2)
 
     within_near : (ms : Members) → EachColumnWithin (HasList b) ms → EachColumnWithin (HasList exact) ms → EachColumnWithin (ListIsNear accuracy b exact) ms
-        → IsWithin (low (length (entries_within ms))) (high (length (entries_within ms))) (class_list b ms) (class_list exact ms)
+        → SumsAreWithin (low (length (entries_within ms))) (high (length (entries_within ms))) (class_list b ms) (class_list exact ms)
     within_near (one_member entry column below) h k near =
         composed_near (b.list entry column) (exact.list entry column) entry below near.0 h.0.total k.0.total h.1 k.1 (below_near entry below h.1 k.1 near.1)
     within_near (and_member entry column below rest) h k near =
@@ -115,11 +115,11 @@ module _ (accuracy : ℕ) (b exact : EntryBounds) where
           let whole : length (row_weights children n) ≡ n = length-map (range_with_len 1 n) (weight_by_rank children) ∙ length-range_with_len 1 n in
           ap (running_sum (row_weights children n)) (sym whole) ∙ running_sum-whole (row_weights children n)
 
-  one_within : (m n : ℕ) → accuracy * m ≤ (accuracy + 1) * n → IsWithin accuracy (accuracy + 1) (m ∷ []) (n ∷ [])
+  one_within : (m n : ℕ) → accuracy * m ≤ (accuracy + 1) * n → SumsAreWithin accuracy (accuracy + 1) (m ∷ []) (n ∷ [])
   one_within m n h zero = omega arith
   one_within m n h (suc r) = let a : running_sum (m ∷ []) (suc r) ≡ m = omega (arith, running_sum-nil r) in let c : running_sum (n ∷ []) (suc r) ≡ n = omega (arith, running_sum-nil r) in rw (a, c) h
 
-  pub tree_near : (t : JoinTree) → HasLists b t → HasLists exact t → TreeIsNear accuracy b exact t → low (length (entries t)) * bound_of_tree b t ≤ high (length (entries t)) * bound_of_tree exact t
+  pub tree_near : (t : BergeTree) → TreeHasLists b t → TreeHasLists exact t → TreeIsNear accuracy b exact t → low (length (entries t)) * bound_of_tree b t ≤ high (length (entries t)) * bound_of_tree exact t
   tree_near t h k near =
       let g : List ℕ = b.rows t.root ∷ [] in
       let f : List ℕ = exact.rows t.root ∷ [] in
@@ -134,7 +134,7 @@ module _ (accuracy : ℕ) (b exact : EntryBounds) where
       regrouped : (a c e d : ℕ) → (a * c) * (e * d) ≡ (a * e) * (c * d)
       regrouped a c e d = omega arith
 
-  pub trees_near : (ts : List JoinTree) → AllByRecursion (HasLists b) ts → AllByRecursion (HasLists exact) ts → AllByRecursion (TreeIsNear accuracy b exact) ts
+  pub trees_near : (ts : List BergeTree) → AllByRecursion (TreeHasLists b) ts → AllByRecursion (TreeHasLists exact) ts → AllByRecursion (TreeIsNear accuracy b exact) ts
       → low (length (entries_of_all ts)) * bound_of_trees b ts ≤ high (length (entries_of_all ts)) * bound_of_trees exact ts
   trees_near [] h k near = rw (pow-zero accuracy, pow-zero (accuracy + 1)) (omega arith)
   trees_near (t ∷ ts) h k near =

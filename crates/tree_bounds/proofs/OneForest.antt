@@ -8,7 +8,7 @@ use Rattle.berge_tree.specs.declared.edges.Place.{Place}
 use Rattle.berge_tree.specs.declared.edges.Edge.{Edge}
 use Rattle.berge_tree.specs.Equalities.{place, ClosesNoCycle}
 use Rattle.berge_tree.specs.Rooted.{class_columns, member_places, member_entries, AreItsColumns, AreItsOthers, FollowsBelow, FollowsWithin, IsTreeOf, AreAllTreesOf, roots}
-use Rattle.berge_tree.specs.Trees.{Classes, no_class, and_class, Members, one_member, and_member, JoinTree, entries_below, entries, entries_of_all}
+use Rattle.berge_tree.specs.Trees.{Classes, no_class, and_class, Members, one_member, and_member, BergeTree, entries_below, entries, entries_of_all}
 use Rattle.berge_tree.specs.Walk.{is_among}
 use Rattle.berge_tree.proofs.Closed.{closed_tree}
 use Rattle.berge_tree.proofs.Forest.{among, is_in, IsClosed, closed_side}
@@ -128,14 +128,14 @@ module _ (es : List Edge) where
         rest_of : {p q : Place} {ps qs : List Place} → p ∷ ps ≡ q ∷ qs → ps ≡ qs
         rest_of e = cc
 
-  same_tree : (t u : JoinTree) → t.root ≡ u.root → IsTreeOf es t → IsTreeOf es u → t ≡ u
+  same_tree : (t u : BergeTree) → t.root ≡ u.root → IsTreeOf es t → IsTreeOf es u → t ≡ u
   same_tree t u e f g =
       by_parts t u e (same_below t.root u.root t.below u.below e (same_columns t.root u.root None None (class_columns t.below) (class_columns u.below) e refl f.columns g.columns) f.follows g.follows)
     where
-      by_parts : (t u : JoinTree) → t.root ≡ u.root → t.below ≡ u.below → t ≡ u
+      by_parts : (t u : BergeTree) → t.root ≡ u.root → t.below ≡ u.below → t ≡ u
       by_parts t u e f = rw (e, f) refl
 
-  same_trees : (ts us : List JoinTree) → roots ts ≡ roots us → AllByRecursion (IsTreeOf es) ts → AllByRecursion (IsTreeOf es) us → ts ≡ us
+  same_trees : (ts us : List BergeTree) → roots ts ≡ roots us → AllByRecursion (IsTreeOf es) ts → AllByRecursion (IsTreeOf es) us → ts ≡ us
   same_trees [] [] e f g = refl
   same_trees [] (u ∷ us) e f g = absurd (cc)
   same_trees (t ∷ ts) [] e f g = absurd (cc)
@@ -146,13 +146,13 @@ module _ (es : List Edge) where
 
   -- ---- both lists of trees have the same roots
 
-  record Rooted (ts : List JoinTree) (r : ℕ) : Type 0 where
-    tree : JoinTree
+  record Rooted (ts : List BergeTree) (r : ℕ) : Type 0 where
+    tree : BergeTree
     root : tree.root ≡ r
     is : IsTreeOf es tree
     within : Contains (entries_of_all ts) r
 
-  rooted : (ts : List JoinTree) → AllByRecursion (IsTreeOf es) ts → (r : ℕ) → Contains (roots ts) r → Rooted ts r
+  rooted : (ts : List BergeTree) → AllByRecursion (IsTreeOf es) ts → (r : ℕ) → Contains (roots ts) r → Rooted ts r
   rooted [] h r k = absurd (in_none r k)
   rooted (t ∷ ts) h r k = elim (one_in t.root (roots ts) r k) [
     | inr is ↦ record {
@@ -165,13 +165,13 @@ module _ (es : List Edge) where
         record { tree = found.tree; root = found.root; is = found.is; within = Contains-append_right (entries t) (entries_of_all ts) r found.within })
   ]
 
-  record Standing (ts : List JoinTree) (x : ℕ) : Type 0 where
-    tree : JoinTree
+  record Standing (ts : List BergeTree) (x : ℕ) : Type 0 where
+    tree : BergeTree
     is : IsTreeOf es tree
     has : Contains (entries tree) x
     root : Contains (roots ts) tree.root
 
-  standing : (ts : List JoinTree) → AllByRecursion (IsTreeOf es) ts → (x : ℕ) → Contains (entries_of_all ts) x → Standing ts x
+  standing : (ts : List BergeTree) → AllByRecursion (IsTreeOf es) ts → (x : ℕ) → Contains (entries_of_all ts) x → Standing ts x
   standing [] h x k = absurd (in_none x k)
   standing (t ∷ ts) h x k = elim (Contains-append_cases (entries t) (entries_of_all ts) x k) [
     | inl own ↦ record { tree = t; is = h.0; has = own; root = in_front t.root (roots ts) t.root refl }
@@ -181,7 +181,7 @@ module _ (es : List Edge) where
 
   module _ (closes : ClosesNoCycle es) where
     -- two trees with one entry in common have one root
-    one_root : (t u : JoinTree) → IsTreeOf es t → IsTreeOf es u → Contains (entries u) t.root → t.root ≡ u.root
+    one_root : (t u : BergeTree) → IsTreeOf es t → IsTreeOf es u → Contains (entries u) t.root → t.root ≡ u.root
     one_root t u f g k =
         let closed : IsClosed es (entries t) = λ p q e m. closed_tree es t f.columns f.follows p q m e in
         let side : ℕ → Bool = is_among (entries t) in
@@ -192,7 +192,7 @@ module _ (es : List Edge) where
         let below : u.root ≤ t.root = each (λ e. u.root ≤ e) (entries u) g.least t.root k in
         omega arith
 
-    root_there : (set : List ℕ) (ts us : List JoinTree) → AreAllTreesOf es set ts → AreAllTreesOf es set us → (r : ℕ) → Contains (roots ts) r → Contains (roots us) r
+    root_there : (set : List ℕ) (ts us : List BergeTree) → AreAllTreesOf es set ts → AreAllTreesOf es set us → (r : ℕ) → Contains (roots ts) r → Contains (roots us) r
     root_there set ts us f g r k =
         let mine : Rooted ts r = rooted ts f.trees r k in
         let in_set : Contains set r = each (Contains set) (entries_of_all ts) f.within r mine.within in
@@ -200,7 +200,7 @@ module _ (es : List Edge) where
         let same : mine.tree.root ≡ theirs.tree.root = one_root mine.tree theirs.tree mine.is theirs.is (subst (Contains (entries theirs.tree)) (sym mine.root) theirs.has) in
         subst (Contains (roots us)) (sym same ∙ mine.root) theirs.root
 
-    pub one_forest : (set : List ℕ) (ts us : List JoinTree) → AreAllTreesOf es set ts → AreAllTreesOf es set us → ts ≡ us
+    pub one_forest : (set : List ℕ) (ts us : List BergeTree) → AreAllTreesOf es set ts → AreAllTreesOf es set us → ts ≡ us
     one_forest set ts us f g =
         same_trees ts us
         (same_list (λ x. x) (roots ts) (roots us) (ascend_numbers (roots ts) (AllPairs-from_increasing (roots ts) f.ascending)) (ascend_numbers (roots us) (AllPairs-from_increasing (roots us) g.ascending))

@@ -1,6 +1,6 @@
 -- The premises of the laws, for the lists of two small tables.
 use Rattle.std.proofs.Common.{ℕ, zero, suc, ◌≤◌, ◌*◌, get_or, List, [], ◌∷◌, refl, arith}
-use Rattle.degree_sequences.specs.Families.{IsWithin}
+use Rattle.degree_sequences.specs.Families.{SumsAreWithin}
 use Rattle.degree_sequences.specs.RunningSums.{running_sum}
 use Rattle.degree_sequences.proofs.CompressedLists.{IsFalling-compressed, compressed-near}
 use Rattle.degree_sequences.proofs.DegreeLists.{IsFalling-degree_list, sum-degree_list, degree_list_dominates}
@@ -28,7 +28,7 @@ pub right_near_list : HasList compressed_bounds 1 0
 right_near_list = record { falls = IsFalling-compressed 1 (exact_list 1 0) right_list.falls; total = refl }
 
 -- elements that are near have running sums that are near
-pub within_by_elements : (a c : ℕ) (s t : List ℕ) → ((r : ℕ) → a * get_or s r 0 ≤ c * get_or t r 0) → IsWithin a c s t
+pub within_by_elements : (a c : ℕ) (s t : List ℕ) → ((r : ℕ) → a * get_or s r 0 ≤ c * get_or t r 0) → SumsAreWithin a c s t
 within_by_elements a c s t h zero = omega arith
 within_by_elements a c [] t h (suc r) = omega arith
 within_by_elements a c (x ∷ s) [] h (suc r) =
@@ -36,8 +36,8 @@ within_by_elements a c (x ∷ s) [] h (suc r) =
     omega (arith, h 0, rw (running_sum-nil r) at rest)
 within_by_elements a c (x ∷ s) (y ∷ t) h (suc r) = omega (arith, h 0, within_by_elements a c s t (λ i. h (suc i)) r)
 
-pub left_near : IsWithin 1 2 (compressed_list 0 0) (exact_list 0 0)
+pub left_near : SumsAreWithin 1 2 (compressed_list 0 0) (exact_list 0 0)
 left_near = within_by_elements 1 2 (compressed_list 0 0) (exact_list 0 0) (compressed-near 1 (exact_list 0 0) left_list.falls)
 
-pub right_near : IsWithin 1 2 (compressed_list 1 0) (exact_list 1 0)
+pub right_near : SumsAreWithin 1 2 (compressed_list 1 0) (exact_list 1 0)
 right_near = within_by_elements 1 2 (compressed_list 1 0) (exact_list 1 0) (compressed-near 1 (exact_list 1 0) right_list.falls)

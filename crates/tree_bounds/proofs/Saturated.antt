@@ -10,7 +10,7 @@ use Rattle.degree_sequences.specs.Falling.{trimmed}
 use Rattle.degree_sequences.specs.Rank.{rank}
 use Rattle.degree_sequences.specs.Saturation.{saturated}
 use Rattle.degree_sequences.proofs.SaturationLaws.{saturated-mul, saturated-block_sums, saturated-rank_product, saturated-trimmed}
-use Rattle.berge_tree.specs.Trees.{JoinTree}
+use Rattle.berge_tree.specs.Trees.{BergeTree}
 use Rattle.tree_bounds.specs.TreeBounds.{EntryBounds, bound_of_tree, bound_of_trees}
 use Rattle.tree_bounds.specs.Saturating.{saturated_class}
 
@@ -76,11 +76,11 @@ pub saturated-product_more : (lists : List (List ℕ)) (list : List ℕ) → 0 <
 saturated-product_more [] list some = absurd (omega arith)
 saturated-product_more (s ∷ lists) list some = saturated-rank_product (rank_product_with s lists) list ∙ ap (map saturated) (sym (with_one_more s lists list))
 
-trees_and_one : (b : EntryBounds) (ts : List JoinTree) (t : JoinTree) → bound_of_trees b (ts ++ t ∷ []) ≡ bound_of_trees b ts * bound_of_tree b t
+trees_and_one : (b : EntryBounds) (ts : List BergeTree) (t : BergeTree) → bound_of_trees b (ts ++ t ∷ []) ≡ bound_of_trees b ts * bound_of_tree b t
 trees_and_one b [] t = mul-one (bound_of_tree b t) ∙ sym (one-mul (bound_of_tree b t))
 trees_and_one b (u ∷ ts) t = ap (λ n. bound_of_tree b u * n) (trees_and_one b ts t) ∙ sym (mul_assoc (bound_of_tree b u) (bound_of_trees b ts) (bound_of_tree b t))
 
-pub saturated-trees_more : (b : EntryBounds) (ts : List JoinTree) (t : JoinTree)
+pub saturated-trees_more : (b : EntryBounds) (ts : List BergeTree) (t : BergeTree)
     → saturated (saturated (bound_of_trees b ts) * saturated (bound_of_tree b t)) ≡ saturated (bound_of_trees b (ts ++ t ∷ []))
 saturated-trees_more b ts t = saturated-mul (bound_of_trees b ts) (bound_of_tree b t) ∙ ap saturated (sym (trees_and_one b ts t))
 

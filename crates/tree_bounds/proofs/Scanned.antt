@@ -11,7 +11,7 @@ use Rattle.entry_sets.proofs.Listing.{in_rest, in_front, in_none, set_entries_on
 use Rattle.join_graph.specs.Kept.{equalities_within, joins_within}
 use Rattle.tree_bounds.specs.TreeBounds.{EntryBounds}
 use Rattle.tree_bounds.specs.SetBounds.{SetHasLists, bound_of_set}
-use Rattle.tree_bounds.specs.Tables.{key_of, Satisfies, AreDifferent, SetDominates}
+use Rattle.tree_bounds.specs.Tables.{key_of, Satisfies, ChoicesAreDifferent, SetDominates}
 use Rattle.tree_bounds.specs.Scans.{scanned, SatisfiesScanned}
 use Rattle.tree_bounds.proofs.Turns.{within_set}
 
@@ -111,7 +111,7 @@ module _ (scans : ℕ → List ℕ) (key : ℕ → ℕ → ℕ → ℕ) (set : L
   scanned_at es (c ∷ cs) h zero d l = h.0.rows
   scanned_at es (c ∷ cs) h (suc i) d l = scanned_at es cs h.1 i d (omega arith)
 
-  still_differ : (es : List Edge) (cs : List (ℕ → ℕ)) → AllByRecursion (SatisfiesScanned scans key set es) cs → AreDifferent set cs → AreDifferent set (map places cs)
+  still_differ : (es : List Edge) (cs : List (ℕ → ℕ)) → AllByRecursion (SatisfiesScanned scans key set es) cs → ChoicesAreDifferent set cs → ChoicesAreDifferent set (map places cs)
   still_differ es cs h differ i j d less within same =
       let j_in : j < length cs = omega (arith, within, length-map cs places) in
       let i_in : i < length cs = omega arith in
@@ -123,7 +123,7 @@ module _ (scans : ℕ → List ℕ) (key : ℕ → ℕ → ℕ → ℕ) (set : L
       (same_map x y set (same_rows x y (scanned_at es cs h i d i_in) (scanned_at es cs h j d j_in) (ap (λ f. map f set) (sym at_x) ∙ same ∙ ap (λ f. map f set) at_y)))
 
 pub scanned_within : (b : EntryBounds) (scans : ℕ → List ℕ) (key : ℕ → ℕ → ℕ → ℕ) (es : List Edge) (subset : ℕ) → SetHasLists b es subset → SetDominates b (scanned scans key) es subset
-    → (cs : List (ℕ → ℕ)) → AllByRecursion (SatisfiesScanned scans key (entries_of_set subset) (equalities_within subset es)) cs → AreDifferent (entries_of_set subset) cs
+    → (cs : List (ℕ → ℕ)) → AllByRecursion (SatisfiesScanned scans key (entries_of_set subset) (equalities_within subset es)) cs → ChoicesAreDifferent (entries_of_set subset) cs
     → length cs ≤ bound_of_set b es subset
 scanned_within b scans key es subset h d cs satisfy differ =
     let set : List ℕ = entries_of_set subset in

@@ -6,7 +6,7 @@ use Rattle.berge_tree.specs.declared.edges.Edge.{Edge}
 use Rattle.berge_tree.specs.Equalities.{ClosesNoCycle}
 use Rattle.berge_tree.specs.Rooted.{AreAllTreesOf}
 use Rattle.entry_sets.specs.Sets.{entries_of_set}
-use Rattle.berge_tree.specs.Trees.{JoinTree}
+use Rattle.berge_tree.specs.Trees.{BergeTree}
 use Rattle.berge_tree.specs.Walk.{columns_of}
 use Rattle.berge_tree.proofs.Forest.{all_trees}
 use Rattle.berge_tree.proofs.Listing.{columns_are}
@@ -17,7 +17,7 @@ use Rattle.join_graph.proofs.Connecting.{kept_joins}
 use Rattle.join_graph.proofs.Turning.{kept_within}
 use Rattle.tree_bounds.specs.TreeBounds.{EntryBounds, bound_of_trees}
 use Rattle.tree_bounds.specs.SetBounds.{SetHasLists, IsBoundOfTurn, IsBoundOfSet, trees_of, bound_of_turn, least_to, bound_of_set}
-use Rattle.tree_bounds.specs.Tables.{KeyedTables, Satisfies, AreDifferent, SetDominates}
+use Rattle.tree_bounds.specs.Tables.{KeyedTables, Satisfies, ChoicesAreDifferent, SetDominates}
 use Rattle.tree_bounds.proofs.Agreeing.{satisfying_within}
 use Rattle.tree_bounds.proofs.OneForest.{one_forest}
 
@@ -53,7 +53,7 @@ module _ (es : List Edge) (subset turn : ℕ) where
       all_trees (kept_of subset turn es) closes (columns_of (kept_of subset turn es)) (columns_are (kept_of subset turn es)) (entries_of_set subset) 16
       (kept_within subset turn es) (set_low subset) (set_increases subset)
 
-  pub trees_are : (ts : List JoinTree) → AreAllTreesOf (kept_of subset turn es) (entries_of_set subset) ts → ts ≡ trees_of (kept_of subset turn es) subset
+  pub trees_are : (ts : List BergeTree) → AreAllTreesOf (kept_of subset turn es) (entries_of_set subset) ts → ts ≡ trees_of (kept_of subset turn es) subset
   trees_are ts all = one_forest (kept_of subset turn es) closes (entries_of_set subset) ts (trees_of (kept_of subset turn es) subset) all trees_there
 
 -- ---- what the definitions say is what is computed
@@ -92,7 +92,7 @@ module _ (b : EntryBounds) (es : List Edge) (subset : ℕ) where
 -- ---- never under
 
 module _ (b : EntryBounds) (tables : KeyedTables) (es : List Edge) (subset : ℕ) (h : SetHasLists b es subset) (d : SetDominates b tables es subset)
-    (cs : List (ℕ → ℕ)) (satisfy : AllByRecursion (Satisfies tables (entries_of_set subset) (equalities_within subset es)) cs) (differ : AreDifferent (entries_of_set subset) cs) where
+    (cs : List (ℕ → ℕ)) (satisfy : AllByRecursion (Satisfies tables (entries_of_set subset) (equalities_within subset es)) cs) (differ : ChoicesAreDifferent (entries_of_set subset) cs) where
   pub within_turn : (turn : ℕ) → length cs ≤ bound_of_turn b es subset turn
   within_turn turn = satisfying_within b tables es subset turn (trees_of (kept_of subset turn es) subset) (trees_there es subset turn) h d cs satisfy differ
 

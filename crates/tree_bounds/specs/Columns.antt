@@ -3,7 +3,7 @@ use Rattle.std.specs.Prelude.{ℕ, ⊤, List}
 use Rattle.std.specs.List.{AllByRecursion}
 use Rattle.berge_tree.specs.declared.edges.Edge.{Edge}
 use Rattle.berge_tree.specs.Equalities.{places_of}
-use Rattle.berge_tree.specs.Trees.{Classes, no_class, and_class, Members, one_member, and_member, JoinTree}
+use Rattle.berge_tree.specs.Trees.{Classes, no_class, and_class, Members, one_member, and_member, BergeTree}
 
 -- at the columns of an entry in the classes below it, and so on downwards
 abbrev mutual
@@ -17,7 +17,7 @@ abbrev mutual
   EachColumnWithin Q (and_member entry column below rest) = Q entry column × EachColumnBelow Q entry below × EachColumnWithin Q rest
 
 -- at every column of a tree
-abbrev pub EachColumn : (ℕ → ℕ → Type 0) → JoinTree → Type 0
+abbrev pub EachColumn : (ℕ → ℕ → Type 0) → BergeTree → Type 0
 EachColumn Q t = EachColumnBelow Q t.root t.below
 
 -- at every column that an equality names

@@ -2,7 +2,7 @@
 use Rattle.std.specs.Prelude.{ℕ, ◌*◌, ◌==◌, if◌then◌else◌, List, [], ◌∷◌, ◌++◌, map, length, slice_index}
 use Rattle.std.specs.List.{flat_map, sum_by, range_with_len}
 use Rattle.degree_sequences.specs.KeyedRows.{ChildKeys, weight_of_row, weight_of_key}
-use Rattle.berge_tree.specs.Trees.{Classes, no_class, and_class, Members, one_member, and_member, JoinTree}
+use Rattle.berge_tree.specs.Trees.{Classes, no_class, and_class, Members, one_member, and_member, BergeTree}
 use Rattle.tree_bounds.specs.Tables.{KeyedTables}
 
 -- the classes below an entry, each with the keys of the entry's rows, and how many choices there are below it for each key
@@ -19,7 +19,7 @@ abbrev mutual
   choices_for tables (and_member entry column below rest) = λ key. weight_of_key (tables.keys entry column)
       (child_keys tables entry below) key * choices_for tables rest key
 
-abbrev pub number_of_choices : KeyedTables → JoinTree → ℕ
+abbrev pub number_of_choices : KeyedTables → BergeTree → ℕ
 number_of_choices tables t = sum_by (weight_of_row (child_keys tables t.root t.below)) (range_with_len 0 (tables.rows t.root))
 
 -- ---- the choices, each as the rows of the entries in the order of the walk
@@ -48,9 +48,9 @@ abbrev mutual
   chosen_within tables (and_member entry column below rest) = λ key. paired
       (rows_with_key (tables.keys entry column) (chosen_below tables entry below) key) (chosen_within tables rest key)
 
-abbrev pub chosen_rows : KeyedTables → JoinTree → List (List ℕ)
-chosen_rows tables t = flat_map (λ row. with_row row (chosen_below tables t.root t.below row)) (range_with_len 0 (tables.rows t.root))
+abbrev pub tree_choices : KeyedTables → BergeTree → List (List ℕ)
+tree_choices tables t = flat_map (λ row. with_row row (chosen_below tables t.root t.below row)) (range_with_len 0 (tables.rows t.root))
 
-abbrev pub chosen_rows_of_all : KeyedTables → List JoinTree → List (List ℕ)
+abbrev pub chosen_rows_of_all : KeyedTables → List BergeTree → List (List ℕ)
 chosen_rows_of_all tables [] = [] ∷ []
-chosen_rows_of_all tables (t ∷ ts) = paired (chosen_rows tables t) (chosen_rows_of_all tables ts)
+chosen_rows_of_all tables (t ∷ ts) = paired (tree_choices tables t) (chosen_rows_of_all tables ts)

@@ -1,12 +1,12 @@
 -- Small trees, bounds and tables, for worked examples. Entries are numbered in FROM order, columns in the order of their table.
 use Rattle.std.specs.Prelude.{ℕ, zero, suc, List, [], ◌∷◌}
-use Rattle.berge_tree.specs.Trees.{no_class, and_class, Members, one_member, and_member, JoinTree}
+use Rattle.berge_tree.specs.Trees.{no_class, and_class, Members, one_member, and_member, BergeTree}
 use Rattle.tree_bounds.specs.TreeBounds.{EntryBounds}
 use Rattle.tree_bounds.specs.Tables.{KeyedTables}
 
 -- ---- R(X), S(X, Y) and T(Y), where R.X = S.X and S.Y = T.Y
 
-abbrev pub path : JoinTree
+abbrev pub path : BergeTree
 path = record { root = 0; below = and_class 0 (one_member 1 0 (and_class 1 (one_member 2 0 no_class) no_class)) no_class }
 
 abbrev pub path_list : ℕ → ℕ → List ℕ
@@ -25,7 +25,7 @@ path_bounds = record { rows = path_rows; list = path_list }
 
 -- ---- R(X) and S(X), where R.X = S.X
 
-abbrev pub two : JoinTree
+abbrev pub two : BergeTree
 two = record { root = 0; below = and_class 0 (one_member 1 0 no_class) no_class }
 
 abbrev pub two_rows : ℕ → ℕ
@@ -81,7 +81,7 @@ members_from first zero = one_member first 0 no_class
 members_from first (suc n) = and_member first 0 no_class (members_from (suc first) n)
 
 -- n entries and two more in one class
-abbrev pub one_class : ℕ → JoinTree
+abbrev pub one_class : ℕ → BergeTree
 one_class n = record { root = 0; below = and_class 0 (members_from 1 n) no_class }
 
 abbrev pub many_bounds : EntryBounds

@@ -3,7 +3,7 @@ use Rattle.std.specs.Prelude.{◌≡◌, ℕ, zero, suc, ◌-◌, ◌<◌, ◌�
 use Rattle.berge_tree.specs.declared.edges.Edge.{Edge}
 use Rattle.berge_tree.specs.Rooted.{AreAllTreesOf}
 use Rattle.entry_sets.specs.Sets.{entries_of_set}
-use Rattle.berge_tree.specs.Trees.{JoinTree}
+use Rattle.berge_tree.specs.Trees.{BergeTree}
 use Rattle.berge_tree.specs.Walk.{columns_of, forest}
 use Rattle.join_graph.specs.Kept.{equalities_within, kept_of, turn_count}
 use Rattle.tree_bounds.specs.Columns.{EachNamedColumn}
@@ -15,7 +15,7 @@ SetHasLists b es subset = EachNamedColumn (HasList b) (equalities_within subset 
 
 -- the product over the trees of what the set keeps in a turn
 pub record IsBoundOfTurn (b : EntryBounds) (es : List Edge) (subset turn n : ℕ) : Type 0 where
-  pub trees : List JoinTree
+  pub trees : List BergeTree
   pub are_all : AreAllTreesOf (kept_of subset turn es) (entries_of_set subset) trees
   pub product : n ≡ bound_of_trees b trees
 
@@ -27,7 +27,7 @@ pub record IsBoundOfSet (b : EntryBounds) (es : List Edge) (subset n : ℕ) : Ty
 -- ---- the same, computed
 
 -- the trees of equalities over a set of entries
-abbrev pub trees_of : List Edge → ℕ → List JoinTree
+abbrev pub trees_of : List Edge → ℕ → List BergeTree
 trees_of es subset = forest 16 (columns_of es) [] (entries_of_set subset)
 
 abbrev pub bound_of_turn : EntryBounds → List Edge → ℕ → ℕ → ℕ

@@ -4,7 +4,7 @@ use Rattle.std.specs.List.{AllByRecursion, AllPairs}
 use Rattle.degree_sequences.specs.Domination.{DominatesKeys}
 use Rattle.berge_tree.specs.declared.edges.Edge.{Edge}
 use Rattle.entry_sets.specs.Sets.{entries_of_set}
-use Rattle.berge_tree.specs.Trees.{Classes, no_class, and_class, Members, one_member, and_member, JoinTree}
+use Rattle.berge_tree.specs.Trees.{Classes, no_class, and_class, Members, one_member, and_member, BergeTree}
 use Rattle.join_graph.specs.Kept.{equalities_within}
 use Rattle.tree_bounds.specs.Columns.{EachColumn, EachNamedColumn}
 use Rattle.tree_bounds.specs.TreeBounds.{EntryBounds}
@@ -36,7 +36,7 @@ abbrev mutual
       × AgreesWithin tables choice key rest
 
 -- the choice takes a row for each entry of a tree, and their keys agree in each class
-abbrev pub Agrees : KeyedTables → JoinTree → (ℕ → ℕ) → Type 0
+abbrev pub Agrees : KeyedTables → BergeTree → (ℕ → ℕ) → Type 0
 Agrees tables t choice = (choice t.root < tables.rows t.root) × AgreesBelow tables choice t.root t.below
 
 -- the choice takes a row for each entry of a list, and satisfies each equality
@@ -45,8 +45,8 @@ pub record Satisfies (tables : KeyedTables) (entries : List ℕ) (es : List Edge
   pub equal : AllByRecursion (λ e. key_of tables choice e.left.entry e.left.column ≡ key_of tables choice e.right.entry e.right.column) es
 
 -- no two of the choices take the same rows for these entries
-abbrev pub AreDifferent : List ℕ → List (ℕ → ℕ) → Type 0
-AreDifferent entries choices = AllPairs (λ x y. map x entries ≢ map y entries) choices
+abbrev pub ChoicesAreDifferent : List ℕ → List (ℕ → ℕ) → Type 0
+ChoicesAreDifferent entries choices = AllPairs (λ x y. map x entries ≢ map y entries) choices
 
 -- ---- when lists dominate tables
 
@@ -60,7 +60,7 @@ pub record Dominates (b : EntryBounds) (tables : KeyedTables) (entry column : �
   pub key_per_row : length (tables.keys entry column) ≡ tables.rows entry
 
 -- the lists dominate the tables at every column of a tree, and the rows of the root fit
-pub record TreeDominates (b : EntryBounds) (tables : KeyedTables) (t : JoinTree) : Type 0 where
+pub record TreeDominates (b : EntryBounds) (tables : KeyedTables) (t : BergeTree) : Type 0 where
   pub root : RowsFit b tables t.root
   pub columns : EachColumn (Dominates b tables) t
 

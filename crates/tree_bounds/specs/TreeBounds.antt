@@ -4,7 +4,7 @@ use Rattle.std.specs.List.{sum}
 use Rattle.degree_sequences.specs.ByRank.{rank_product}
 use Rattle.degree_sequences.specs.Composition.{ChildLists, composed, root_total}
 use Rattle.degree_sequences.specs.Falling.{IsFalling}
-use Rattle.berge_tree.specs.Trees.{Classes, no_class, and_class, Members, one_member, and_member, JoinTree}
+use Rattle.berge_tree.specs.Trees.{Classes, no_class, and_class, Members, one_member, and_member, BergeTree}
 use Rattle.tree_bounds.specs.Columns.{EachColumn}
 
 -- what is known of entries: at most how many rows each has, and for each of its joined columns a list
@@ -21,8 +21,8 @@ abbrev pub HasList : EntryBounds → ℕ → ℕ → Type 0
 HasList b entry column = IsListOf (b.rows entry) (b.list entry column)
 
 -- every column of a tree has its list
-abbrev pub HasLists : EntryBounds → JoinTree → Type 0
-HasLists b t = EachColumn (HasList b) t
+abbrev pub TreeHasLists : EntryBounds → BergeTree → Type 0
+TreeHasLists b t = EachColumn (HasList b) t
 
 -- the classes below an entry, each with the entry's list in it and the list of the class
 abbrev mutual
@@ -38,10 +38,10 @@ abbrev mutual
       (class_list b rest)
 
 -- the bound of a tree: what the rows of the root weigh together
-abbrev pub bound_of_tree : EntryBounds → JoinTree → ℕ
+abbrev pub bound_of_tree : EntryBounds → BergeTree → ℕ
 bound_of_tree b t = root_total (child_lists b t.root t.below) (b.rows t.root)
 
 -- of several trees: the product of their bounds
-abbrev pub bound_of_trees : EntryBounds → List JoinTree → ℕ
+abbrev pub bound_of_trees : EntryBounds → List BergeTree → ℕ
 bound_of_trees b [] = 1
 bound_of_trees b (t ∷ ts) = bound_of_tree b t * bound_of_trees b ts

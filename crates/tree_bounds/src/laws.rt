@@ -8,51 +8,51 @@ ghost use Rattle.berge_tree.specs.declared.edges.Edge.{Edge};
 ghost use Rattle.berge_tree.specs.Equalities.{ClosesNoCycle};
 ghost use Rattle.berge_tree.specs.Rooted.{AreAllTreesOf};
 ghost use Rattle.entry_sets.specs.Sets.{entries_of_set};
-ghost use Rattle.berge_tree.specs.Trees.{JoinTree, entries, entries_of_all};
+ghost use Rattle.berge_tree.specs.Trees.{BergeTree, entries, entries_of_all};
 ghost use Rattle.join_graph.specs.Kept.{equalities_within, kept_of};
-ghost use Rattle.tree_bounds.specs.Counting.{chosen_rows, number_of_choices};
+ghost use Rattle.tree_bounds.specs.Counting.{tree_choices, number_of_choices};
 ghost use Rattle.tree_bounds.specs.Nearness.{SetIsNear, TreeIsNear};
 ghost use Rattle.tree_bounds.specs.Saturating.{saturated_class};
 ghost use Rattle.tree_bounds.specs.Scans.{SatisfiesScanned, scanned};
 ghost use Rattle.tree_bounds.specs.SetBounds.{IsBoundOfSet, IsBoundOfTurn, SetHasLists, bound_of_set, bound_of_turn, trees_of};
-ghost use Rattle.tree_bounds.specs.Tables.{KeyedTables, Agrees, AreDifferent, Satisfies, SetDominates, TreeDominates};
-ghost use Rattle.tree_bounds.specs.TreeBounds.{EntryBounds, HasLists, bound_of_tree, bound_of_trees};
+ghost use Rattle.tree_bounds.specs.Tables.{KeyedTables, Agrees, ChoicesAreDifferent, Satisfies, SetDominates, TreeDominates};
+ghost use Rattle.tree_bounds.specs.TreeBounds.{EntryBounds, TreeHasLists, bound_of_tree, bound_of_trees};
 
 /// Never under, for trees: different choices of one row for each entry, whose keys agree in each class, are no more
 /// than the bound says, where the lists dominate the tables (Degree Sequence Bound, ICDT 2023; SafeBound, SIGMOD 2023).
 pub fn trees_are_never_under()
-    ensures one { (b : EntryBounds) (tables : KeyedTables) (t : JoinTree) → HasLists b t → TreeDominates b tables t
-        → (choices : List (ℕ → ℕ)) → AllByRecursion (Agrees tables t) choices → AreDifferent (entries t) choices
+    ensures one { (b : EntryBounds) (tables : KeyedTables) (t : BergeTree) → TreeHasLists b t → TreeDominates b tables t
+        → (choices : List (ℕ → ℕ)) → AllByRecursion (Agrees tables t) choices → ChoicesAreDifferent (entries t) choices
         → length choices ≤ bound_of_tree b t }
-    ensures several { (b : EntryBounds) (tables : KeyedTables) (trees : List JoinTree)
-        → AllByRecursion (HasLists b) trees → AllByRecursion (TreeDominates b tables) trees
+    ensures several { (b : EntryBounds) (tables : KeyedTables) (trees : List BergeTree)
+        → AllByRecursion (TreeHasLists b) trees → AllByRecursion (TreeDominates b tables) trees
         → (set : List ℕ) → AllByRecursion (Contains (entries_of_all trees)) set
         → (choices : List (ℕ → ℕ)) → AllByRecursion (λ choice. AllByRecursion (λ t. Agrees tables t choice) trees) choices
-        → AreDifferent set choices → length choices ≤ bound_of_trees b trees }
+        → ChoicesAreDifferent set choices → length choices ≤ bound_of_trees b trees }
 {}
 
 /// The choices that agree can be counted and listed, each by its rows, and the bound is at least their number.
 pub fn choices_are_counted()
-    ensures stand { (b : EntryBounds) (tables : KeyedTables) (t : JoinTree) → TreeDominates b tables t
-        → (choice : ℕ → ℕ) → Agrees tables t choice → Contains (chosen_rows tables t) (map choice (entries t)) }
-    ensures listed { (tables : KeyedTables) (t : JoinTree) → length (chosen_rows tables t) ≡ number_of_choices tables t }
-    ensures within { (b : EntryBounds) (tables : KeyedTables) (t : JoinTree) → HasLists b t → TreeDominates b tables t
+    ensures stand { (b : EntryBounds) (tables : KeyedTables) (t : BergeTree) → TreeDominates b tables t
+        → (choice : ℕ → ℕ) → Agrees tables t choice → Contains (tree_choices tables t) (map choice (entries t)) }
+    ensures listed { (tables : KeyedTables) (t : BergeTree) → length (tree_choices tables t) ≡ number_of_choices tables t }
+    ensures within { (b : EntryBounds) (tables : KeyedTables) (t : BergeTree) → TreeHasLists b t → TreeDominates b tables t
         → number_of_choices tables t ≤ bound_of_tree b t }
 {}
 
 /// Equalities that close no cycle have one list of trees over a set of entries. In each turn of a set it can be computed.
 pub fn trees_are_one()
-    ensures one { (es : List Edge) → ClosesNoCycle es → (set : List ℕ) (trees others : List JoinTree)
+    ensures one { (es : List Edge) → ClosesNoCycle es → (set : List ℕ) (trees others : List BergeTree)
         → AreAllTreesOf es set trees → AreAllTreesOf es set others → trees ≡ others }
-    ensures computed { (es : List Edge) (subset turn : ℕ) (trees : List JoinTree)
+    ensures computed { (es : List Edge) (subset turn : ℕ) (trees : List BergeTree)
         → AreAllTreesOf (kept_of subset turn es) (entries_of_set subset) trees ↔ (trees ≡ trees_of (kept_of subset turn es) subset) }
 {}
 
 /// Where each column that equalities of a set name has its list, each column of the trees has it, in each turn.
 pub fn trees_have_the_lists_of_their_set()
-    ensures { (b : EntryBounds) (es : List Edge) (subset turn : ℕ) (trees : List JoinTree)
+    ensures { (b : EntryBounds) (es : List Edge) (subset turn : ℕ) (trees : List BergeTree)
         → AreAllTreesOf (kept_of subset turn es) (entries_of_set subset) trees → SetHasLists b es subset
-        → AllByRecursion (HasLists b) trees }
+        → AllByRecursion (TreeHasLists b) trees }
 {}
 
 /// A set of entries has one bound, in each turn and over its turns, and it can be computed.
@@ -69,11 +69,11 @@ pub fn sets_are_never_under()
     ensures each_turn { (b : EntryBounds) (tables : KeyedTables) (es : List Edge) (subset : ℕ)
         → SetHasLists b es subset → SetDominates b tables es subset → (choices : List (ℕ → ℕ))
         → AllByRecursion (Satisfies tables (entries_of_set subset) (equalities_within subset es)) choices
-        → AreDifferent (entries_of_set subset) choices → (turn : ℕ) → length choices ≤ bound_of_turn b es subset turn }
+        → ChoicesAreDifferent (entries_of_set subset) choices → (turn : ℕ) → length choices ≤ bound_of_turn b es subset turn }
     ensures least { (b : EntryBounds) (tables : KeyedTables) (es : List Edge) (subset : ℕ)
         → SetHasLists b es subset → SetDominates b tables es subset → (choices : List (ℕ → ℕ))
         → AllByRecursion (Satisfies tables (entries_of_set subset) (equalities_within subset es)) choices
-        → AreDifferent (entries_of_set subset) choices → length choices ≤ bound_of_set b es subset }
+        → ChoicesAreDifferent (entries_of_set subset) choices → length choices ≤ bound_of_set b es subset }
 {}
 
 /// The same where of each table only scanned rows are chosen, and the lists dominate these.
@@ -81,7 +81,7 @@ pub fn scans_are_never_under()
     ensures { (b : EntryBounds) (scans : ℕ → List ℕ) (key : ℕ → ℕ → ℕ → ℕ) (es : List Edge) (subset : ℕ)
         → SetHasLists b es subset → SetDominates b (scanned scans key) es subset → (choices : List (ℕ → ℕ))
         → AllByRecursion (SatisfiesScanned scans key (entries_of_set subset) (equalities_within subset es)) choices
-        → AreDifferent (entries_of_set subset) choices → length choices ≤ bound_of_set b es subset }
+        → ChoicesAreDifferent (entries_of_set subset) choices → length choices ≤ bound_of_set b es subset }
 {}
 
 /// The empty set has the bound 1, and a set of one entry its row bound.
@@ -94,10 +94,10 @@ pub fn small_sets_have_plain_bounds()
 /// Near the exact bounds: where K times each row bound and each running sum of a list is at most K + 1 times the exact
 /// one, K^n times the bound is at most (K + 1)^n times the exact one, n being the number of entries.
 pub fn bounds_are_near()
-    ensures tree { (accuracy : ℕ) (b exact : EntryBounds) (t : JoinTree) → HasLists b t → HasLists exact t → TreeIsNear accuracy b exact t
+    ensures tree { (accuracy : ℕ) (b exact : EntryBounds) (t : BergeTree) → TreeHasLists b t → TreeHasLists exact t → TreeIsNear accuracy b exact t
         → accuracy ^ length (entries t) * bound_of_tree b t ≤ (accuracy + 1) ^ length (entries t) * bound_of_tree exact t }
-    ensures trees { (accuracy : ℕ) (b exact : EntryBounds) (trees : List JoinTree)
-        → AllByRecursion (HasLists b) trees → AllByRecursion (HasLists exact) trees → AllByRecursion (TreeIsNear accuracy b exact) trees
+    ensures trees { (accuracy : ℕ) (b exact : EntryBounds) (trees : List BergeTree)
+        → AllByRecursion (TreeHasLists b) trees → AllByRecursion (TreeHasLists exact) trees → AllByRecursion (TreeIsNear accuracy b exact) trees
         → accuracy ^ length (entries_of_all trees) * bound_of_trees b trees
         ≤ (accuracy + 1) ^ length (entries_of_all trees) * bound_of_trees exact trees }
     ensures turn { (accuracy : ℕ) (b exact : EntryBounds) (es : List Edge) (subset : ℕ)
@@ -119,7 +119,7 @@ pub fn bounds_saturate()
         ≡ map saturated (rank_product_of (lists ++ list ∷ [])) }
     ensures root { (children : List ChildLists) (rows : ℕ)
         → saturated (root_total (map saturated_class children) rows) ≡ saturated (root_total children rows) }
-    ensures trees { (b : EntryBounds) (trees : List JoinTree) (t : JoinTree)
+    ensures trees { (b : EntryBounds) (trees : List BergeTree) (t : BergeTree)
         → saturated (saturated (bound_of_trees b trees) * saturated (bound_of_tree b t)) ≡ saturated (bound_of_trees b (trees ++ t ∷ [])) }
     ensures turns { (m n : ℕ) → min (saturated m) (saturated n) ≡ saturated (min m n) }
     ensures never_under { (n bound : ℕ) → n ≤ bound → (n ≤ saturated bound) ⊎ (saturated bound ≡ 2 ^ 128 - 1) }

@@ -26,6 +26,6 @@ pub record IsTreePlan (n : ℕ) (plan : BushyPlan) : Type 0 where
   pub once : (node : ℕ) → node < 2 * n - 2 → count_by (λ other. other == node) (joined_nodes plan.joins) ≡ 1
 
 -- no bound of the plan is above so many rows
-pub record IsWithin (most : ℕ) (plan : BushyPlan) : Type 0 where
+pub record BoundsAreWithin (most : ℕ) (plan : BushyPlan) : Type 0 where
   pub scans : AllByRecursion (λ rows. rows ≤ most) plan.scans
   pub joins : AllByRecursion (λ join. join.bound ≤ most) plan.joins

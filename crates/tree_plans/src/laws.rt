@@ -1,6 +1,6 @@
 ghost use Rattle.std.specs.Prelude.{[], ◌∷◌};
 ghost use Rattle.tree_plans.specs.Examples.{join, plan_of};
-ghost use Rattle.tree_plans.specs.TreePlans.{IsTreePlan, IsWithin};
+ghost use Rattle.tree_plans.specs.TreePlans.{IsTreePlan, BoundsAreWithin};
 
 /// What the definitions say of one entry and of three. It does nothing.
 pub fn examples()
@@ -9,6 +9,6 @@ pub fn examples()
     ensures itself { ¬ IsTreePlan 3 (plan_of (join 1 2 5 ∷ join 0 4 9 ∷ []) (3 ∷ 3 ∷ 3 ∷ []) 9) }
     ensures twice { ¬ IsTreePlan 3 (plan_of (join 1 2 5 ∷ join 2 3 9 ∷ []) (3 ∷ 3 ∷ 3 ∷ []) 9) }
     ensures missing { ¬ IsTreePlan 3 (plan_of (join 1 2 5 ∷ []) (3 ∷ 3 ∷ 3 ∷ []) 5) }
-    ensures within { IsWithin 9 (plan_of (join 1 2 5 ∷ join 0 3 9 ∷ []) (3 ∷ 3 ∷ 3 ∷ []) 9) }
-    ensures large { ¬ IsWithin 8 (plan_of (join 1 2 5 ∷ join 0 3 9 ∷ []) (3 ∷ 3 ∷ 3 ∷ []) 9) }
+    ensures within { BoundsAreWithin 9 (plan_of (join 1 2 5 ∷ join 0 3 9 ∷ []) (3 ∷ 3 ∷ 3 ∷ []) 9) }
+    ensures large { ¬ BoundsAreWithin 8 (plan_of (join 1 2 5 ∷ join 0 3 9 ∷ []) (3 ∷ 3 ∷ 3 ∷ []) 9) }
 {}

@@ -4,7 +4,7 @@ ghost use Rattle.std.specs.List.{AllByRecursion};
 ghost use Rattle.limits.specs.Profile.{most_entries, most_rows};
 ghost use Rattle.reserve_plan.specs.Memory.{row_chain_bytes};
 ghost use Rattle.tree_plans.specs.declared.bushy.BushyPlan.{BushyPlan};
-ghost use Rattle.tree_plans.specs.TreePlans.{IsTreePlan, IsWithin};
+ghost use Rattle.tree_plans.specs.TreePlans.{IsTreePlan, BoundsAreWithin};
 ghost use Rattle.tree_rows.specs.Memory.{joins_bytes, tree_bytes};
 ghost use Rattle.tree_rows.specs.Rooms.{right_bounds_in};
 
@@ -70,5 +70,5 @@ pub fn tree_memory(plan: &BushyPlan) -> u128
 
 /// Within the limits of a program a plan takes less than 2^40 bytes. It does nothing.
 pub fn trees_take_few_bytes()
-    ensures { (n : ℕ) (plan : BushyPlan) → IsTreePlan n plan → IsWithin most_rows plan → tree_bytes plan < 2 ^ 40 }
+    ensures { (n : ℕ) (plan : BushyPlan) → IsTreePlan n plan → BoundsAreWithin most_rows plan → tree_bytes plan < 2 ^ 40 }
 {}

@@ -11,7 +11,7 @@ use Rattle.printed_texts.specs.Faults.{error_line}
 use Rattle.safebound_top.specs.Call.{Call}
 use Rattle.safebound_top.specs.Faults.{fault_text}
 use Rattle.safebound_top.specs.Headline.{GrewWhole, Headline, status_of}
-use Rattle.prepared_runs.specs.Outcome.{Outcome}
+use Rattle.prepared_runs.specs.RunOutcome.{RunOutcome}
 use Rattle.safebound_top.specs.OutcomeTexts.{notes_text, out_text}
 use Rattle.safebound_laws.specs.Printed.{printed}
 use Rattle.prepared_runs.specs.Verdict.{verdict}
@@ -20,7 +20,7 @@ use Rattle.worked_run.specs.TwoTables.{small_files}
 
 module _ (files : Files) (call : Call) (head : Headline call) (told : call.store.files ≡ Some files) (sound : IsFaultless call) where
   -- an accepted verdict ends in Done, with its texts
-  accepted : (outcome : Outcome) → verdict call.words files ≡ Ok outcome
+  accepted : (outcome : RunOutcome) → verdict call.words files ≡ Ok outcome
       → Ended call status.Done (notes_text outcome) (out_text outcome) ⊎ (call.status ≡ status.NoMemory)
   accepted outcome is = by (head.nothing_is_refused_without_cause.by_the_sinks sound.store sound.out sound.notes files told) where
     grown : call.status ≡ status.Done → GrewWhole call.notes (notes_text outcome) × GrewWhole call.out (out_text outcome)
@@ -53,15 +53,15 @@ module _ (files : Files) (call : Call) (head : Headline call) (told : call.store
     by (inr memory) = inr memory
 
 -- each call with these words ends so where their verdict is accepted with these texts
-pub answers_done : (files : Files) (words : List (List ℕ)) (outcome : Outcome) (notes out : Option (List ℕ)) → verdict words files ≡ Ok outcome
+pub answers_done : (files : Files) (words : List (List ℕ)) (outcome : RunOutcome) (notes out : Option (List ℕ)) → verdict words files ≡ Ok outcome
     → notes_text outcome ≡ notes → out_text outcome ≡ out → EachCallEnds files words status.Done notes out
 answers_done files words outcome notes out is left right call head same told sound =
     subst (λ n. Ended call status.Done n out ⊎ (call.status ≡ status.NoMemory)) left
     (subst (λ o. Ended call status.Done (notes_text outcome) o ⊎ (call.status ≡ status.NoMemory)) right
     (accepted files call head told sound outcome (ap (λ w. verdict w files) same ∙ is)))
 
-of_printed : (answer : Result Outcome Refusal) (texts : Option (List ℕ) × Option (List ℕ)) → seen printed answer ≡ Ok texts
-    → (outcome : Outcome) × (answer ≡ Ok outcome) × (printed outcome ≡ texts)
+of_printed : (answer : Result RunOutcome Refusal) (texts : Option (List ℕ) × Option (List ℕ)) → seen printed answer ≡ Ok texts
+    → (outcome : RunOutcome) × (answer ≡ Ok outcome) × (printed outcome ≡ texts)
 of_printed (Ok outcome) texts is = (outcome, refl, cc)
 of_printed (Err r) texts is = absurd (cc)
 

@@ -35,11 +35,11 @@ use Rattle.safebound_words.specs.Table.{over_files}
 use Rattle.safebound_words.specs.declared.command.ListSource.TheVariants as sources
 use Rattle.safebound_words.specs.declared.command.Shape.TheVariants as shapes
 use Rattle.safebound_words.specs.declared.command.Work.TheVariants as works
-use Rattle.prepared_runs.specs.Outcome.{Planned}
+use Rattle.prepared_runs.specs.RunOutcome.{Planned}
 use Rattle.prepared_runs.specs.Shapes.{answer_of, planned_by}
 use Rattle.prepared_runs.specs.Sources.{lists_by, scans_by, sets_by, sourced}
 use Rattle.prepared_runs.specs.Verdict.{command_stage, verdict}
-use Rattle.prepared_runs.specs.declared.shapes.Shaped.TheVariants as shaped
+use Rattle.prepared_runs.specs.declared.shapes.AnyPlan.TheVariants as shaped
 use Rattle.worked_run.specs.Meaning.{reduced_lists, two_tables_reduced}
 use Rattle.worked_run.specs.TwoTables.{counted_words, small_files}
 use Rattle.worked_run.proofs.Levels.{T}
@@ -144,7 +144,7 @@ lists_kept : lists_by sources.Counted pair T ≡ reduced_lists
 unfolding lists_by
 lists_kept = kept
 
-plan_found : planned_by shapes.Order (sourced sources.Counted two_tables pair T) 1 1000000 ≡ Ok (shaped.Along plan)
+plan_found : planned_by shapes.Order (sourced sources.Counted two_tables pair T) 1 1000000 ≡ Ok (shaped.OrderPlan plan)
 unfolding planned_by sets_by scans_by
 plan_found =
     ap (λ (lists : List (List ℕ)). answer_of shapes.Order (set_bounds_by_counts pair T lists) (list_sizes pair lists) 1000000) kept

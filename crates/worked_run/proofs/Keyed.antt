@@ -47,14 +47,14 @@ use Rattle.safebound_words.specs.declared.command.OutText.TheVariants as out_tex
 use Rattle.safebound_words.specs.declared.command.PlanWork.{PlanWork}
 use Rattle.safebound_words.specs.declared.command.Shape.TheVariants as shapes
 use Rattle.safebound_words.specs.declared.command.Work.TheVariants as works
-use Rattle.prepared_runs.specs.Accepted.{Accepted}
+use Rattle.prepared_runs.specs.AcceptedQuery.{AcceptedQuery}
 use Rattle.prepared_runs.specs.Limits.{within_limit}
-use Rattle.prepared_runs.specs.Outcome.{Planned}
+use Rattle.prepared_runs.specs.RunOutcome.{Planned}
 use Rattle.prepared_runs.specs.Shapes.{answer_of, planned_by, shape_bytes}
 use Rattle.prepared_runs.specs.Sources.{sets_by, scans_by, sourced}
 use Rattle.prepared_runs.specs.Verdict.{aim_run, command_run, command_stage, plan_stage, query_stage, run_asked, schema_stage, verdict, work_run}
-use Rattle.prepared_runs.specs.declared.shapes.Shaped.{Shaped}
-use Rattle.prepared_runs.specs.declared.shapes.Shaped.TheVariants as shaped
+use Rattle.prepared_runs.specs.declared.shapes.AnyPlan.{AnyPlan}
+use Rattle.prepared_runs.specs.declared.shapes.AnyPlan.TheVariants as shaped
 use Rattle.safebound_laws.specs.Printed.{printed}
 use Rattle.worked_run.specs.OneTable.{keyed_words, workers_files, workers_query, workers_schema, workers_text}
 use Rattle.worked_run.proofs.Queries.{workers_query_read}
@@ -123,11 +123,11 @@ chosen : plan_answer (1 ∷ 5 ∷ 1 ∷ 2 ∷ []) (5 ∷ 1 ∷ []) 1000000 ≡ O
 unfolding plan_answer best_order
 chosen = refl
 
-abbrev along : Result Plan PlanError → Result Shaped PlanError
-along answer = seen (λ plan. shaped.Along plan) answer
+abbrev along : Result Plan PlanError → Result AnyPlan PlanError
+along answer = seen (λ plan. shaped.OrderPlan plan) answer
 
-abbrev plan : Shaped
-plan = shaped.Along (plan_of (1 ∷ 0 ∷ []) (5 ∷ 1 ∷ []) (1 ∷ 2 ∷ []))
+abbrev plan : AnyPlan
+plan = shaped.OrderPlan (plan_of (1 ∷ 0 ∷ []) (5 ∷ 1 ∷ []) (1 ∷ 2 ∷ []))
 
 plan_found : planned_by shapes.Order (sourced sources.Keyed worker_schema by_manager (tables_in (rows ∷ rows ∷ []))) 1 1000000 ≡ Ok plan
 unfolding planned_by sets_by scans_by
@@ -138,13 +138,13 @@ plan_found =
     ∙ ap (λ (bounds : List ℕ). answer_of shapes.Order (1 ∷ 5 ∷ 1 ∷ 2 ∷ []) bounds 1000000) scans
     ∙ ap along chosen
 
-abbrev run : Accepted
+abbrev run : AcceptedQuery
 run = run_asked task by_manager (rows ∷ rows ∷ []) plan
 
 plan_made : plan_stage task worker_schema by_manager (rows ∷ rows ∷ []) ≡ Ok (Planned run)
 unfolding plan_stage
 plan_made =
-    ap (λ (answer : Result Shaped PlanError). told plan_refusal answer
+    ap (λ (answer : Result AnyPlan PlanError). told plan_refusal answer
     >>= λ plan. within_limit None (shape_bytes plan) (Planned (run_asked task by_manager (rows ∷ rows ∷ []) plan))) plan_found
 
 -- ---- the verdict

@@ -17,7 +17,7 @@ use Rattle.bushy_join.specs.Trees.{chosen_rows}
 use Rattle.query_bounds.specs.Examples.{pair}
 use Rattle.printed_texts.specs.Texts.{rows_lines}
 use Rattle.table_files.specs.EntryTables.{tables_in}
-use Rattle.prepared_runs.specs.Accepted.{part_counts}
+use Rattle.prepared_runs.specs.AcceptedQuery.{part_counts}
 use Rattle.prepared_runs.specs.Shapes.{shape_audits}
 use Rattle.prepared_runs.specs.Sources.{lists_by}
 use Rattle.safebound_top.specs.Texts.{out_text_of, plan_text}

@@ -21,8 +21,8 @@ use Rattle.table_files.specs.EntryTables.{tables_in}
 use Rattle.table_files.specs.Examples.{two_tables}
 use Rattle.prepared_runs.specs.Shapes.{answer_of, planned_by}
 use Rattle.prepared_runs.specs.Sources.{sets_by, scans_by, sourced}
-use Rattle.prepared_runs.specs.declared.shapes.Shaped.{Shaped}
-use Rattle.prepared_runs.specs.declared.shapes.Shaped.TheVariants as shaped
+use Rattle.prepared_runs.specs.declared.shapes.AnyPlan.{AnyPlan}
+use Rattle.prepared_runs.specs.declared.shapes.AnyPlan.TheVariants as shaped
 use Rattle.safebound_words.specs.declared.command.ListSource.TheVariants as sources
 use Rattle.safebound_words.specs.declared.command.Shape.{Shape}
 use Rattle.safebound_words.specs.declared.command.Shape.TheVariants as shapes
@@ -54,18 +54,18 @@ over_these shape budget =
     ap (λ (bounds : List ℕ). answer_of shape bounds (scan_bounds_of pair (tables_in small_rows) 1) budget) sets
     ∙ ap (λ (bounds : List ℕ). answer_of shape (1 ∷ 6 ∷ 5 ∷ 12 ∷ []) bounds budget) scans
 
-abbrev along : Result Plan PlanError → Result Shaped PlanError
-along answer = seen (λ plan. shaped.Along plan) answer
+abbrev along : Result Plan PlanError → Result AnyPlan PlanError
+along answer = seen (λ plan. shaped.OrderPlan plan) answer
 
-abbrev over : Result BushyPlan PlanError → Result Shaped PlanError
-over answer = seen (λ plan. shaped.Over plan) answer
+abbrev over : Result BushyPlan PlanError → Result AnyPlan PlanError
+over answer = seen (λ plan. shaped.TreePlan plan) answer
 
 pub plan_found : planned_by shapes.Order (sourced sources.Columns two_tables pair (tables_in small_rows)) 1 1000000
-    ≡ Ok (shaped.Along (plan_of (1 ∷ 0 ∷ []) (6 ∷ 5 ∷ []) (5 ∷ 12 ∷ [])))
+    ≡ Ok (shaped.OrderPlan (plan_of (1 ∷ 0 ∷ []) (6 ∷ 5 ∷ []) (5 ∷ 12 ∷ [])))
 plan_found = over_these shapes.Order 1000000 ∙ ap along chosen
 
 pub tree_found : planned_by shapes.Tree (sourced sources.Columns two_tables pair (tables_in small_rows)) 1 1000000
-    ≡ Ok (shaped.Over (tree_of (join 0 1 12 ∷ []) (6 ∷ 5 ∷ []) 12))
+    ≡ Ok (shaped.TreePlan (tree_of (join 0 1 12 ∷ []) (6 ∷ 5 ∷ []) 12))
 tree_found = over_these shapes.Tree 1000000 ∙ ap over tree_chosen
 
 pub plan_refused : planned_by shapes.Order (sourced sources.Columns two_tables pair (tables_in small_rows)) 1 11 ≡ Err (error.Budget 12)

@@ -37,12 +37,12 @@ use Rattle.safebound_words.specs.declared.command.PlanWork.{PlanWork}
 use Rattle.safebound_words.specs.declared.command.Shape.TheVariants as shapes
 use Rattle.safebound_words.specs.declared.command.Work.TheVariants as works
 use Rattle.prepared_runs.specs.Limits.{within_limit}
-use Rattle.prepared_runs.specs.Outcome.{Planned}
+use Rattle.prepared_runs.specs.RunOutcome.{Planned}
 use Rattle.prepared_runs.specs.Shapes.{answer_of, planned_by, shape_bytes}
 use Rattle.prepared_runs.specs.Sources.{sets_by, lists_by, scans_by, sourced}
 use Rattle.prepared_runs.specs.Verdict.{command_stage, plan_stage, run_asked, verdict}
-use Rattle.prepared_runs.specs.declared.shapes.Shaped.{Shaped}
-use Rattle.prepared_runs.specs.declared.shapes.Shaped.TheVariants as shaped
+use Rattle.prepared_runs.specs.declared.shapes.AnyPlan.{AnyPlan}
+use Rattle.prepared_runs.specs.declared.shapes.AnyPlan.TheVariants as shaped
 use Rattle.safebound_top.specs.Texts.{out_text_of, plan_text}
 use Rattle.worked_run.specs.Meaning.{reduced_lists, small_lists, small_rows, two_tables_reduced}
 use Rattle.worked_run.specs.TwoTables.{reduced_words, small_files}
@@ -80,25 +80,25 @@ chosen : plan_answer (1 ∷ 3 ∷ 2 ∷ 6 ∷ []) (3 ∷ 2 ∷ []) 1000000 ≡ O
 unfolding plan_answer best_order
 chosen = refl
 
-abbrev along : Result Plan PlanError → Result Shaped PlanError
-along answer = seen (λ plan. shaped.Along plan) answer
+abbrev along : Result Plan PlanError → Result AnyPlan PlanError
+along answer = seen (λ plan. shaped.OrderPlan plan) answer
 
 -- the plan from bounds of the sets, over the rows that are left
-pub plan_over : (found : List ℕ) → found ≡ 1 ∷ 3 ∷ 2 ∷ 6 ∷ [] → answer_of shapes.Order found (list_sizes pair reduced_lists) 1000000 ≡ Ok (shaped.Along plan)
+pub plan_over : (found : List ℕ) → found ≡ 1 ∷ 3 ∷ 2 ∷ 6 ∷ [] → answer_of shapes.Order found (list_sizes pair reduced_lists) 1000000 ≡ Ok (shaped.OrderPlan plan)
 plan_over found are = ap (λ (bounds : List ℕ). answer_of shapes.Order bounds (3 ∷ 2 ∷ []) 1000000) are ∙ ap along chosen
 
-plan_found : planned_by shapes.Order (sourced sources.Reduced two_tables pair T) 1 1000000 ≡ Ok (shaped.Along plan)
+plan_found : planned_by shapes.Order (sourced sources.Reduced two_tables pair T) 1 1000000 ≡ Ok (shaped.OrderPlan plan)
 unfolding planned_by sets_by scans_by
 plan_found =
     ap (λ (lists : List (List ℕ)). answer_of shapes.Order (bounds_in_sets (in_every_set (entry_bounds_over T lists 1)) (equalities_of pair) 2) (list_sizes pair lists) 1000000) kept
     ∙ plan_over (bounds_in_sets (in_every_set (entry_bounds_over T reduced_lists 1)) (equalities_of pair) 2) sets
 
 with_lists : (source : ListSource) → lists_by source pair T ≡ reduced_lists
-    → run_asked (task source) pair small_rows (shaped.Along plan) ≡ two_tables_reduced source
+    → run_asked (task source) pair small_rows (shaped.OrderPlan plan) ≡ two_tables_reduced source
 with_lists source is = ap (λ (lists : List (List ℕ)). record {
   query = pair;
   rows = small_rows;
-  plan = shaped.Along plan;
+  plan = shaped.OrderPlan plan;
   source = source;
   lists = lists;
   memory = None;
@@ -106,11 +106,11 @@ with_lists source is = ap (λ (lists : List (List ℕ)). record {
 }) is
 
 pub plan_made : (source : ListSource) → lists_by source pair T ≡ reduced_lists
-    → planned_by shapes.Order (sourced source two_tables pair T) 1 1000000 ≡ Ok (shaped.Along plan)
+    → planned_by shapes.Order (sourced source two_tables pair T) 1 1000000 ≡ Ok (shaped.OrderPlan plan)
     → plan_stage (task source) two_tables pair small_rows ≡ Ok (Planned (two_tables_reduced source))
 unfolding plan_stage
 plan_made source lists found =
-    ap (λ (answer : Result Shaped PlanError). told plan_refusal answer
+    ap (λ (answer : Result AnyPlan PlanError). told plan_refusal answer
     >>= λ plan. within_limit None (shape_bytes plan) (Planned (run_asked (task source) pair small_rows plan))) found
     ∙ ap (λ run. Ok (Planned run)) (with_lists source lists)
 

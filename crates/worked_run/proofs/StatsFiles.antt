@@ -9,8 +9,8 @@ use Rattle.cond_stats.specs.Leaves.{cuts}
 use Rattle.cond_stats.specs.Lists.{list_of_node, rest}
 use Rattle.csv_tables.specs.Files.{rows_in_records, rows_of_file, rows_under_header}
 use Rattle.csv_tables.specs.Rows.{Row}
-use Rattle.filed_stats.proofs.Rules.{file_keeps}
-use Rattle.filed_stats.specs.Files.{file_of_query}
+use Rattle.stats_file_of_query.proofs.Rules.{file_keeps}
+use Rattle.stats_file_of_query.specs.Files.{file_of_query}
 use Rattle.join_graph.specs.Conjuncts.{column_operand}
 use Rattle.join_graph.proofs.Comparing.{equality_two}
 use Rattle.limits.specs.Profile.{most_file}
@@ -46,8 +46,8 @@ use Rattle.safebound_words.specs.declared.command.NewRows.{NewRows}
 use Rattle.safebound_words.specs.declared.command.OutText.TheVariants as out_texts
 use Rattle.safebound_words.specs.declared.command.Work.TheVariants as works
 use Rattle.prepared_runs.specs.Appending.{append_run, grown_stage, rows_run, section_stage, stats_run}
-use Rattle.prepared_runs.specs.Filed.{stats_stage, tables_filed}
-use Rattle.prepared_runs.specs.Outcome.{Filed}
+use Rattle.prepared_runs.specs.StatsFiles.{stats_stage, stats_file_of_tables}
+use Rattle.prepared_runs.specs.RunOutcome.{StatsMade}
 use Rattle.prepared_runs.specs.Verdict.{aim_run, command_run, command_stage, verdict, work_run}
 use Rattle.safebound_laws.proofs.Alike.{files_alike}
 use Rattle.safebound_laws.proofs.Databases.{DatabaseFound, database_found}
@@ -55,7 +55,7 @@ use Rattle.safebound_laws.specs.Printed.{printed}
 use Rattle.safebound_top.proofs.Promises.{declares, query_of_schema}
 use Rattle.safebound_top.specs.OutcomeTexts.{out_text}
 use Rattle.safebound_top.specs.Promise.{DeclaresSchema}
-use Rattle.worked_run.specs.Meaning.{rows_of, section, small_appended, small_filed, small_rows, small_stats}
+use Rattle.worked_run.specs.Meaning.{rows_of, section, small_appended, small_stats_file, small_rows, small_stats}
 use Rattle.worked_run.specs.TwoTables.{append_words, from_file_words, grown_r_stats, grown_text, new_text, r_cuts, r_stats, s_stats, small_files, stats_text, stats_words}
 use Rattle.worked_run.proofs.Levels.{notes_text}
 use Rattle.worked_run.proofs.Verdicts.{asked_run, plan_alone, query_found, schema_found, tables_found}
@@ -65,11 +65,11 @@ new_rows = record { stats_file = codes "rs.stats"; table = codes "R"; rows_file 
 
 -- ---- the words
 
-stats_asked : command_stage stats_words ≡ Ok (over_query None (codes "schema.sql") (codes "query.sql") (works.File 1))
+stats_asked : command_stage stats_words ≡ Ok (over_query None (codes "schema.sql") (codes "query.sql") (works.WriteStats 1))
 unfolding command_of reading_of over_files parts_from kind_of number_of
 stats_asked = refl
 
-from_file_asked : command_stage from_file_words ≡ Ok (over_query None (codes "schema.sql") (codes "query.sql") (works.PlanFrom (codes "rs.stats") 1000000 None))
+from_file_asked : command_stage from_file_words ≡ Ok (over_query None (codes "schema.sql") (codes "query.sql") (works.PlanFromStats (codes "rs.stats") 1000000 None))
 unfolding command_of reading_of over_files parts_from kind_of number_of
 from_file_asked = refl
 
@@ -82,22 +82,22 @@ append_asked = refl
 file_found : file_of_query two_tables pair (tables_in small_rows) 1 ≡ small_stats
 file_found = rw (entries_compare op.Eq (column_operand 0 0) (column_operand 1 0), equality_two 0 0 1 0 (λ e. absurd (omega (arith, e)))) refl
 
-file_made : command_run (over_query None (codes "schema.sql") (codes "query.sql") (works.File 1)) small_files ≡ Ok small_filed
+file_made : command_run (over_query None (codes "schema.sql") (codes "query.sql") (works.WriteStats 1)) small_files ≡ Ok small_stats_file
 unfolding command_run
 file_made =
-    ap (λ (schema : Result Schema Refusal). schema >>= λ s. aim_run (aims.Query (codes "query.sql") (works.File 1)) s small_files) schema_found
-    ∙ ap (λ (query : Result Query Refusal). query >>= λ q. work_run (works.File 1) two_tables q small_files) query_found
-    ∙ ap (λ (rows : Result (List (List Row)) Refusal). rows >>= λ rows. Ok (tables_filed two_tables pair rows 1)) tables_found
-    ∙ ap (λ (f : StatsFile). Ok (Filed (record { schema = two_tables; query = pair; rows = small_rows; file = f }))) file_found
+    ap (λ (schema : Result Schema Refusal). schema >>= λ s. aim_run (aims.Query (codes "query.sql") (works.WriteStats 1)) s small_files) schema_found
+    ∙ ap (λ (query : Result Query Refusal). query >>= λ q. work_run (works.WriteStats 1) two_tables q small_files) query_found
+    ∙ ap (λ (rows : Result (List (List Row)) Refusal). rows >>= λ rows. Ok (stats_file_of_tables two_tables pair rows 1)) tables_found
+    ∙ ap (λ (f : StatsFile). Ok (StatsMade (record { schema = two_tables; query = pair; rows = small_rows; file = f }))) file_found
 
-pub stats_verdict : verdict stats_words small_files ≡ Ok small_filed
-stats_verdict = asked_run stats_words (over_query None (codes "schema.sql") (codes "query.sql") (works.File 1)) stats_asked ∙ file_made
+pub stats_verdict : verdict stats_words small_files ≡ Ok small_stats_file
+stats_verdict = asked_run stats_words (over_query None (codes "schema.sql") (codes "query.sql") (works.WriteStats 1)) stats_asked ∙ file_made
 
 text_is : file_text two_tables small_stats ≡ stats_text
 unfolding file_lines table_lines pair_lines runs_of digits cuts list_of_node rest r_cuts r_stats s_stats stats_text
 text_is = refl
 
-pub stats_printed : out_text small_filed ≡ Some stats_text
+pub stats_printed : out_text small_stats_file ≡ Some stats_text
 stats_printed = ap (λ (t : List ℕ). Some t) text_is
 
 -- ---- a plan from it
@@ -106,15 +106,15 @@ there : read file_id.Stats most_file (codes "rs.stats") small_files ≡ Ok stats
 unfolding stats_text r_stats r_cuts s_stats
 there = refl
 
-alike : seen printed (command_run (over_query None (codes "schema.sql") (codes "query.sql") (works.PlanFrom (codes "rs.stats") 1000000 None)) small_files)
+alike : seen printed (command_run (over_query None (codes "schema.sql") (codes "query.sql") (works.PlanFromStats (codes "rs.stats") 1000000 None)) small_files)
     ≡ Ok (Some (codes "scan R 6\nscan S 5\nlevel 1 S 5\nlevel 2 R 12\n"), None)
 alike =
-    files_alike (codes "schema.sql") (codes "query.sql") (codes "rs.stats") 1 1000000 None small_files small_filed stats_text (omega arith) (omega arith) file_made stats_printed there
+    files_alike (codes "schema.sql") (codes "query.sql") (codes "rs.stats") 1 1000000 None small_files small_stats_file stats_text (omega arith) (omega arith) file_made stats_printed there
     ∙ ap (seen printed) plan_alone ∙ ap (λ (t : List ℕ). Ok (Some t, None)) (notes_text out_texts.Nothing)
 
 pub plan_printed : seen printed (verdict from_file_words small_files) ≡ Ok (Some (codes "scan R 6\nscan S 5\nlevel 1 S 5\nlevel 2 R 12\n"), None)
 plan_printed =
-    ap (seen printed) (asked_run from_file_words (over_query None (codes "schema.sql") (codes "query.sql") (works.PlanFrom (codes "rs.stats") 1000000 None)) from_file_asked) ∙ alike
+    ap (seen printed) (asked_run from_file_words (over_query None (codes "schema.sql") (codes "query.sql") (works.PlanFromStats (codes "rs.stats") 1000000 None)) from_file_asked) ∙ alike
 
 -- ---- with new rows
 

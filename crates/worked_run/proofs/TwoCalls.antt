@@ -26,10 +26,10 @@ use Rattle.worked_run.specs.TwoTables.{from_file_words, schema_text, small_files
 use Rattle.worked_run.proofs.Verdicts.{schema_found}
 
 abbrev stats_command : Command
-stats_command = over_query None (codes "schema.sql") (codes "query.sql") (works.File 1)
+stats_command = over_query None (codes "schema.sql") (codes "query.sql") (works.WriteStats 1)
 
 abbrev plan_command : Command
-plan_command = over_query None (codes "schema.sql") (codes "query.sql") (works.PlanFrom (codes "rs.stats") 1000000 None)
+plan_command = over_query None (codes "schema.sql") (codes "query.sql") (works.PlanFromStats (codes "rs.stats") 1000000 None)
 
 stats_asked : command_of stats_words ≡ Some stats_command
 unfolding command_of reading_of over_files parts_from kind_of number_of

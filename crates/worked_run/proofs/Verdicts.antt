@@ -18,16 +18,16 @@ use Rattle.table_files.specs.Examples.{numbers_table, two_tables}
 use Rattle.table_files.specs.EntryTables.{tables_in}
 use Rattle.table_files.specs.Stage.{tables_stage}
 use Rattle.table_files.specs.TableFile.{file_rows}
-use Rattle.prepared_runs.specs.Accepted.{Accepted}
+use Rattle.prepared_runs.specs.AcceptedQuery.{AcceptedQuery}
 use Rattle.safebound_words.specs.Commands.{over_query}
 use Rattle.safebound_words.specs.declared.command.Command.{Command}
 use Rattle.safebound_words.specs.declared.command.Aim.TheVariants as aims
 use Rattle.safebound_words.specs.declared.command.Work.TheVariants as works
 use Rattle.prepared_runs.specs.Limits.{within_limit}
-use Rattle.prepared_runs.specs.Outcome.{Planned}
+use Rattle.prepared_runs.specs.RunOutcome.{Planned}
 use Rattle.prepared_runs.specs.Shapes.{shape_bytes}
 use Rattle.prepared_runs.specs.Verdict.{aim_run, command_run, command_stage, plan_asked, plan_stage, query_stage, run_asked, schema_stage, verdict, work_run}
-use Rattle.prepared_runs.specs.declared.shapes.Shaped.{Shaped}
+use Rattle.prepared_runs.specs.declared.shapes.AnyPlan.{AnyPlan}
 use Rattle.safebound_words.specs.declared.command.ListSource.TheVariants as sources
 use Rattle.safebound_words.specs.declared.command.OutText.{OutText}
 use Rattle.safebound_words.specs.declared.command.OutText.TheVariants as out_text
@@ -100,7 +100,7 @@ tables_found = rw (r_found, s_found) refl
 -- ---- the plan
 
 -- the run of a plan over the lists that were found
-found : (out : OutText) (shape : Shape) (memory : Option ℕ) (plan : Shaped) → run_asked (task out shape 1000000 memory) pair small_rows plan ≡ record {
+found : (out : OutText) (shape : Shape) (memory : Option ℕ) (plan : AnyPlan) → run_asked (task out shape 1000000 memory) pair small_rows plan ≡ record {
   query = pair;
   rows = small_rows;
   plan = plan;
@@ -119,32 +119,32 @@ found out shape memory plan = ap (λ (lists : List (List ℕ)). record {
   out = out;
 }) lists_found
 
-made : (out : OutText) (shape : Shape) (memory : Option ℕ) (plan : Shaped) → plan_asked (task out shape 1000000 memory) two_tables pair (tables_in small_rows) ≡ Ok plan
+made : (out : OutText) (shape : Shape) (memory : Option ℕ) (plan : AnyPlan) → plan_asked (task out shape 1000000 memory) two_tables pair (tables_in small_rows) ≡ Ok plan
     → plan_stage (task out shape 1000000 memory) two_tables pair small_rows
     ≡ within_limit memory (shape_bytes plan) (Planned (run_asked (task out shape 1000000 memory) pair small_rows plan))
 unfolding plan_stage
 made out shape memory plan is =
-    ap (λ (answer : Result Shaped PlanError). told plan_refusal answer
+    ap (λ (answer : Result AnyPlan PlanError). told plan_refusal answer
     >>= λ plan. within_limit memory (shape_bytes plan) (Planned (run_asked (task out shape 1000000 memory) pair small_rows plan))) is
 
 -- the order, behind a limit of memory
 plan_within : (out : OutText) (memory : Option ℕ)
     → plan_stage (task out shapes.Order 1000000 memory) two_tables pair small_rows ≡ within_limit memory 556 (Planned (two_tables_run out memory))
 plan_within out memory =
-    let plan : Shaped = (two_tables_run out memory).plan in
-    made out shapes.Order memory plan plan_found ∙ ap (λ (run : Accepted). within_limit memory 556 (Planned run)) (found out shapes.Order memory plan)
+    let plan : AnyPlan = (two_tables_run out memory).plan in
+    made out shapes.Order memory plan plan_found ∙ ap (λ (run : AcceptedQuery). within_limit memory 556 (Planned run)) (found out shapes.Order memory plan)
 
 plan_made : (out : OutText) → plan_stage (task out shapes.Order 1000000 None) two_tables pair small_rows ≡ Ok (Planned (two_tables_run out None))
 plan_made out = plan_within out None
 
 tree_made : (out : OutText) → plan_stage (task out shapes.Tree 1000000 None) two_tables pair small_rows ≡ Ok (Planned (two_tables_tree out None))
 tree_made out =
-    let plan : Shaped = (two_tables_tree out None).plan in
-    made out shapes.Tree None plan tree_found ∙ ap (λ (run : Accepted). Ok (Planned run)) (found out shapes.Tree None plan)
+    let plan : AnyPlan = (two_tables_tree out None).plan in
+    made out shapes.Tree None plan tree_found ∙ ap (λ (run : AcceptedQuery). Ok (Planned run)) (found out shapes.Tree None plan)
 
 plan_too_dear : plan_stage (task out_text.Rows shapes.Order 11 None) two_tables pair small_rows ≡ Err (refusal.Budget 12)
 unfolding plan_stage
-plan_too_dear = ap (λ (plan : Result Shaped PlanError). told plan_refusal plan
+plan_too_dear = ap (λ (plan : Result AnyPlan PlanError). told plan_refusal plan
     >>= λ plan. Ok (Planned (run_asked (task out_text.Rows shapes.Order 11 None) pair small_rows plan))) plan_refused
 
 -- ---- one stage after the other

@@ -3,7 +3,7 @@ use Rattle.std.specs.Prelude.{ℕ, List, [], ◌∷◌, map, pos, Option, None}
 use Rattle.appended_stats.specs.Appended.{file_after}
 use Rattle.csv_tables.specs.Rows.{Row}
 use Rattle.csv_tables.specs.Values.{Int}
-use Rattle.filed_stats.specs.Pairs.{pair_in_table}
+use Rattle.stats_file_of_query.specs.Pairs.{pair_in_table}
 use Rattle.plans.specs.Examples.{plan_of}
 use Rattle.tree_plans.specs.Examples.{join, plan_of as tree_of}
 use Rattle.query_bounds.specs.Examples.{pair}
@@ -12,9 +12,9 @@ use Rattle.stats_file.specs.declared.types.StatsFile.{StatsFile}
 use Rattle.stats_file.specs.declared.types.TableStats.{TableStats}
 use Rattle.table_files.specs.EntryTables.{tables_in}
 use Rattle.table_files.specs.Examples.{two_tables}
-use Rattle.prepared_runs.specs.Accepted.{Accepted}
-use Rattle.prepared_runs.specs.Outcome.{Appended, Filed, Outcome}
-use Rattle.prepared_runs.specs.declared.shapes.Shaped.TheVariants as shaped
+use Rattle.prepared_runs.specs.AcceptedQuery.{AcceptedQuery}
+use Rattle.prepared_runs.specs.RunOutcome.{Appended, StatsMade, RunOutcome}
+use Rattle.prepared_runs.specs.declared.shapes.AnyPlan.TheVariants as shaped
 use Rattle.safebound_words.specs.declared.command.ListSource.{ListSource}
 use Rattle.safebound_words.specs.declared.command.ListSource.TheVariants as sources
 use Rattle.safebound_words.specs.declared.command.OutText.{OutText}
@@ -33,11 +33,11 @@ abbrev pub small_lists : List (List ℕ)
 small_lists = (0 ∷ 1 ∷ 2 ∷ 3 ∷ 4 ∷ 5 ∷ []) ∷ (0 ∷ 1 ∷ 2 ∷ 3 ∷ 4 ∷ []) ∷ []
 
 -- the join of both, with a limit of memory, if there is one, in the order S, R, with bounds 6 and 5 of the scans and 5 and 12 of the levels
-abbrev pub two_tables_run : OutText → Option ℕ → Accepted
+abbrev pub two_tables_run : OutText → Option ℕ → AcceptedQuery
 two_tables_run out memory = record {
   query = pair;
   rows = small_rows;
-  plan = shaped.Along (plan_of (1 ∷ 0 ∷ []) (6 ∷ 5 ∷ []) (5 ∷ 12 ∷ []));
+  plan = shaped.OrderPlan (plan_of (1 ∷ 0 ∷ []) (6 ∷ 5 ∷ []) (5 ∷ 12 ∷ []));
   source = sources.Columns;
   lists = small_lists;
   memory = memory;
@@ -45,11 +45,11 @@ two_tables_run out memory = record {
 }
 
 -- the join of both as a tree: the node over R and S has bound 12
-abbrev pub two_tables_tree : OutText → Option ℕ → Accepted
+abbrev pub two_tables_tree : OutText → Option ℕ → AcceptedQuery
 two_tables_tree out memory = record {
   query = pair;
   rows = small_rows;
-  plan = shaped.Over (tree_of (join 0 1 12 ∷ []) (6 ∷ 5 ∷ []) 12);
+  plan = shaped.TreePlan (tree_of (join 0 1 12 ∷ []) (6 ∷ 5 ∷ []) 12);
   source = sources.Columns;
   lists = small_lists;
   memory = memory;
@@ -61,11 +61,11 @@ abbrev pub reduced_lists : List (List ℕ)
 reduced_lists = (0 ∷ 1 ∷ 2 ∷ []) ∷ (0 ∷ 1 ∷ []) ∷ []
 
 -- the join of these in the order S, R, with bounds 3 and 2 of the scans and 2 and 6 of the levels, from degree lists or by counting
-abbrev pub two_tables_reduced : ListSource → Accepted
+abbrev pub two_tables_reduced : ListSource → AcceptedQuery
 two_tables_reduced source = record {
   query = pair;
   rows = small_rows;
-  plan = shaped.Along (plan_of (1 ∷ 0 ∷ []) (3 ∷ 2 ∷ []) (2 ∷ 6 ∷ []));
+  plan = shaped.OrderPlan (plan_of (1 ∷ 0 ∷ []) (3 ∷ 2 ∷ []) (2 ∷ 6 ∷ []));
   source = source;
   lists = reduced_lists;
   memory = None;
@@ -82,8 +82,8 @@ abbrev pub small_stats : StatsFile
 small_stats = record { accuracy = 1; tables = section 0 6 ∷ section 1 5 ∷ [] }
 
 -- the file, and this file after 1 and 4 were appended to R
-abbrev pub small_filed : Outcome
-small_filed = Filed (record { schema = two_tables; query = pair; rows = small_rows; file = small_stats })
+abbrev pub small_stats_file : RunOutcome
+small_stats_file = StatsMade (record { schema = two_tables; query = pair; rows = small_rows; file = small_stats })
 
-abbrev pub small_appended : Outcome
+abbrev pub small_appended : RunOutcome
 small_appended = Appended (record { schema = two_tables; table = 0; rows = rows_of (1 ∷ 4 ∷ []); file = file_after small_stats 0 (rows_of (1 ∷ 4 ∷ [])) })

@@ -4,7 +4,7 @@ ghost use Rattle.outcomes.specs.declared.refusal.Refusal.TheVariants as refusal;
 ghost use Rattle.outcomes.specs.declared.status.Status.TheVariants as status;
 ghost use Rattle.safebound_words.specs.declared.command.ListSource.TheVariants as sources;
 ghost use Rattle.safebound_words.specs.declared.command.OutText.TheVariants as out_text;
-ghost use Rattle.prepared_runs.specs.Outcome.{Planned};
+ghost use Rattle.prepared_runs.specs.RunOutcome.{Planned};
 ghost use Rattle.safebound_top.specs.Texts.{out_text_of, plan_text};
 ghost use Rattle.prepared_runs.specs.Verdict.{verdict};
 ghost use Rattle.worked_run.specs.Calls.{EachCallEnds};

@@ -37,4 +37,6 @@ pub use examples::{
     joined_within_a_limit, refused,
 };
 pub use keys::planned_by_keys;
-pub use statistics::{appended, filed, planned_from_a_file, plans_from_these_bytes_hold};
+pub use statistics::{
+    appended, planned_from_a_file, plans_from_these_bytes_hold, statistics_written,
+};

@@ -12,14 +12,14 @@ ghost use Rattle.safebound_top.specs.Headline.{Headline};
 ghost use Rattle.safebound_top.specs.OutcomeTexts.{out_text};
 ghost use Rattle.table_files.specs.Examples.{two_tables};
 ghost use Rattle.worked_run.specs.Calls.{EachCallEnds};
-ghost use Rattle.worked_run.specs.Meaning.{small_appended, small_filed};
+ghost use Rattle.worked_run.specs.Meaning.{small_appended, small_stats_file};
 ghost use Rattle.worked_run.specs.TwoCalls.{plan_call, stats_call};
 ghost use Rattle.worked_run.specs.TwoTables.{append_words, from_file_words, grown_text, schema_text, small_files, stats_text, stats_words};
 
 /// `stats schema.sql query.sql`: the statistics file of both tables.
-pub fn filed()
-    ensures verdict { verdict stats_words small_files ≡ Ok small_filed }
-    ensures out { out_text small_filed ≡ Some stats_text }
+pub fn statistics_written()
+    ensures verdict { verdict stats_words small_files ≡ Ok small_stats_file }
+    ensures out { out_text small_stats_file ≡ Some stats_text }
     ensures call { EachCallEnds small_files stats_words status.Done None (Some stats_text) }
 {}
 

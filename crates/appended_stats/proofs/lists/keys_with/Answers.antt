@@ -1,6 +1,6 @@
 use Rattle.std.proofs.Common.{ℕ, Bool, get_or, refl, sym, ◌∙◌}
 use Rattle.csv_tables.specs.Cells.{value_of_cell}
-use Rattle.filed_stats.specs.Standing.{is_value}
+use Rattle.stats_file_of_query.specs.Standing.{is_value}
 use Rattle.appended_stats.proofs.Walks.{all_keys, no_key_more, one_key_more}
 use Rattle.appended_stats.proofs.lists.keys_with.Goals as goal
 use Rattle.appended_stats.proofs.lists.keys_with.Goals.{then-is_value+in_ok-push, else-is_value}

@@ -2,7 +2,7 @@ use Rattle.std.proofs.Common.{◌≡◌, take}
 use Rattle.std.specs.List.{zip}
 use Rattle.csv_tables.specs.Cells.{value_of_cell}
 use Rattle.cond_stats.specs.Rows.{keys_where}
-use Rattle.filed_stats.specs.Standing.{is_value}
+use Rattle.stats_file_of_query.specs.Standing.{is_value}
 use Rattle.appended_stats.proofs.lists.keys_with.Given as goal
 
 abbrev pub invariant-loop-i : goal.invariant-loop-i

@@ -1,7 +1,7 @@
 use Rattle.std.proofs.Common.{◌≡◌, ◌<◌, ◌^◌, List, ℕ, length, sum, ◌∙◌, arith}
 use Rattle.std.proofs.lemmas.Result.{IfOk-weaker}
 use Rattle.csv_tables.specs.Cells.{value_of_cell}
-use Rattle.filed_stats.specs.Standing.{is_value}
+use Rattle.stats_file_of_query.specs.Standing.{is_value}
 use Rattle.appended_stats.proofs.Walks.{keys_few}
 use Rattle.appended_stats.proofs.lists.list_with.Goals as goal
 

@@ -1,6 +1,6 @@
 use Rattle.std.proofs.Common.{◌≡◌, map, take}
 use Rattle.csv_tables.specs.Cells.{value_of_cell}
-use Rattle.filed_stats.specs.Standing.{leaf_of_value}
+use Rattle.stats_file_of_query.specs.Standing.{leaf_of_value}
 use Rattle.appended_stats.proofs.nodes.leaves.Given as goal
 
 abbrev pub invariant-loop-cell : goal.invariant-loop-cell

@@ -1,6 +1,6 @@
 use Rattle.std.proofs.Common.{◌∙◌}
 use Rattle.std.proofs.lemmas.Result.{err_from_is_err_and}
-use Rattle.filed_stats.proofs.Made.{columns_many}
+use Rattle.stats_file_of_query.proofs.Made.{columns_many}
 use Rattle.appended_stats.proofs.PairMade.{all_cells, are_read, as_high, as_many, few, few_keys, frequent_small, leaves_few, leaves_high, nodes_small, own_small, pair_made, rest_small}
 use Rattle.appended_stats.proofs.pair.grown_pair.Goals as goal
 

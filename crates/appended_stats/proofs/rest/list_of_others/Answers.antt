@@ -4,7 +4,7 @@ use Rattle.std.proofs.lemmas.Result.{IfOk-weaker}
 use Rattle.std.proofs.lemmas.Slice.Zip.{length-zip}
 use Rattle.csv_tables.specs.Cells.{value_of_cell}
 use Rattle.degree_sequences.specs.Degrees.{different}
-use Rattle.renamed_lists.proofs.Rows.{columns_are}
+use Rattle.relabelling_laws.proofs.Rows.{columns_are}
 use Rattle.appended_stats.specs.Grown.{is_frequent, list_of_any, other_values}
 use Rattle.appended_stats.proofs.Groups.{groups_are, groups_few, list_of_groups}
 use Rattle.appended_stats.proofs.rest.list_of_others.Goals as goal

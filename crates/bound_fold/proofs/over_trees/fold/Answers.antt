@@ -6,7 +6,7 @@ use Rattle.degree_sequences.specs.Saturation.{saturated}
 use Rattle.piece_math.specs.Children.{lists_of}
 use Rattle.berge_tree.specs.Boxed.{classes_of, tree_of}
 use Rattle.berge_tree.specs.Trees.{entries}
-use Rattle.tree_bounds.specs.Tables.{KeyedTables, Agrees, AreDifferent, TreeDominates}
+use Rattle.tree_bounds.specs.Tables.{KeyedTables, Agrees, ChoicesAreDifferent, TreeDominates}
 use Rattle.tree_bounds.specs.TreeBounds.{bound_of_tree}
 use Rattle.bound_fold.specs.Lists.{bounds_of}
 use Rattle.bound_fold.proofs.Below.{if_ok, columns_total, gathered, root_done}
@@ -34,6 +34,6 @@ pub returns-clause-never_under : goal.returns-clause-never_under
 returns-clause-never_under c =
     if_ok (λ n. n ≡ saturated (bound_of_tree (bounds_of c.args.lists.now) (tree_of c.args.tree.now)))
     (λ n. (tables : KeyedTables) → TreeDominates (bounds_of c.args.lists.now) tables (tree_of c.args.tree.now)
-    → (choices : List (ℕ → ℕ)) → AllByRecursion (Agrees tables (tree_of c.args.tree.now)) choices → AreDifferent (entries (tree_of c.args.tree.now)) choices → (length choices ≤ n) ⊎ (n ≡ 2 ^ 128 - 1))
+    → (choices : List (ℕ → ℕ)) → AllByRecursion (Agrees tables (tree_of c.args.tree.now)) choices → ChoicesAreDifferent (entries (tree_of c.args.tree.now)) choices → (length choices ≤ n) ⊎ (n ≡ 2 ^ 128 - 1))
     c.root_total.result
     (λ n is. choices_bounded c.args.lists.now (tree_of c.args.tree.now) n c.requires is) (returns-clause-exact c)

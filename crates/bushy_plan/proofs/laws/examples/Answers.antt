@@ -1,6 +1,6 @@
 use Rattle.std.proofs.Common.{refl, arith, inr}
 use Rattle.bushy_plan.specs.Examples.{one_pair, triangle}
-use Rattle.bushy_plan.specs.JoinTrees.{leaf, node}
+use Rattle.bushy_plan.specs.PlanTrees.{leaf, node}
 use Rattle.bushy_plan.proofs.OneBest.{least_of_best}
 use Rattle.bushy_plan.proofs.SomeBest.{at_root, with_over}
 use Rattle.bushy_plan.proofs.Tested.{best_by_test}

@@ -1,7 +1,7 @@
 use Rattle.std.proofs.Common.{◌≡◌, ℕ, ◌-◌, ◌^◌, List, length, subst, ap, arith}
 use Rattle.tree_plans.specs.declared.bushy.Join.{Join}
 use Rattle.bushy_plan.specs.declared.weight.Weight.TheVariants as weight
-use Rattle.bushy_plan.specs.JoinTrees.{IsTreeOver}
+use Rattle.bushy_plan.specs.PlanTrees.{IsTreeOver}
 use Rattle.bushy_plan.specs.Splits.{IsReadOff}
 use Rattle.bushy_plan.proofs.Found.{joins_of_best, some_of_all, sum_is_light}
 use Rattle.bushy_plan.proofs.Numbering.{count_of_all}

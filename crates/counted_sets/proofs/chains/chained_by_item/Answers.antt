@@ -1,5 +1,5 @@
 use Rattle.std.proofs.Common.{arith, ap, refl, sym, subst, ◌∙◌, ◌≡◌, ◌+◌, ℕ, length}
-use Rattle.counted_sets.specs.Chains.{AreChains}
+use Rattle.counted_sets.specs.Chains.{AreUseChains}
 use Rattle.counted_sets.specs.Counts.{item_at}
 use Rattle.counted_sets.proofs.chains.chained_by_item.Goals as goal
 
@@ -11,12 +11,12 @@ uses-preserved c =
     let are = c.uses.invariant.chains in
     let places : length c.uses.chains.befores.items ≡ c.uses.k = are.place_count in
     let here : item_at c.args.uses.now (length c.uses.chains.befores.items) ≡ item_at c.args.uses.now c.uses.k = ap (item_at c.args.uses.now) places in
-    let before : AreChains (item_at c.args.uses.now) (length c.uses.chains.lasts.items) (length c.uses.chains.befores.items) c.uses.chains.lasts.items c.uses.chains.befores.items =
-    subst (λ n. AreChains (item_at c.args.uses.now) n (length c.uses.chains.befores.items) c.uses.chains.lasts.items c.uses.chains.befores.items) (sym are.key_count)
-    (subst (λ n. AreChains (item_at c.args.uses.now) c.args.items n c.uses.chains.lasts.items c.uses.chains.befores.items) (sym places) are) in
+    let before : AreUseChains (item_at c.args.uses.now) (length c.uses.chains.lasts.items) (length c.uses.chains.befores.items) c.uses.chains.lasts.items c.uses.chains.befores.items =
+    subst (λ n. AreUseChains (item_at c.args.uses.now) n (length c.uses.chains.befores.items) c.uses.chains.lasts.items c.uses.chains.befores.items) (sym are.key_count)
+    (subst (λ n. AreUseChains (item_at c.args.uses.now) c.args.items n c.uses.chains.lasts.items c.uses.chains.befores.items) (sym places) are) in
     record {
-      chains = subst (λ n. AreChains (item_at c.args.uses.now) c.args.items (n + 1) c.add.new.self.lasts.items c.add.new.self.befores.items) places
-          (subst (λ n. AreChains (item_at c.args.uses.now) n (length c.uses.chains.befores.items + 1) c.add.new.self.lasts.items c.add.new.self.befores.items) are.key_count
+      chains = subst (λ n. AreUseChains (item_at c.args.uses.now) c.args.items (n + 1) c.add.new.self.lasts.items c.add.new.self.befores.items) places
+          (subst (λ n. AreUseChains (item_at c.args.uses.now) n (length c.uses.chains.befores.items + 1) c.add.new.self.lasts.items c.add.new.self.befores.items) are.key_count
           (c.add.ensures.chains (item_at c.args.uses.now) here before));
       spare = omega (arith, c.add.ensures.spare, c.uses.invariant.spare);
     }

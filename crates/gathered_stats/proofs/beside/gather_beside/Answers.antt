@@ -3,7 +3,7 @@ use Rattle.std.proofs.lemmas.Result.{IfOk-weaker}
 use Rattle.csv_tables.specs.declared.types.Cells.{Cells}
 use Rattle.gathered_stats.specs.declared.filters.Filter.{Filter}
 use Rattle.gathered_stats.specs.Beside.{IsGatheredBeside}
-use Rattle.gathered_stats.specs.Seen.{AreRowsOf}
+use Rattle.gathered_stats.specs.Seen.{AreRowNumbersOf}
 use Rattle.gathered_stats.proofs.Entries.{cells_sound, own_read, steps_sound}
 use Rattle.gathered_stats.proofs.Joined.{columns_exist}
 use Rattle.gathered_stats.proofs.Picking.{beside_gathered, serve_each}
@@ -29,13 +29,13 @@ picked_columns-requires-clause-exist c =
     c.cells_in_entry-cells.ensures c.in_ok-steps.ensures c.as_slice-steps.ensures
 
 pub picked_columns-requires-clause-rows : goal.picked_columns-requires-clause-rows
-picked_columns-requires-clause-rows c = subst (λ (cells : Cells). AreRowsOf cells c.args.beside.now.rows.now) (sym c.cells_in_entry-cells.ensures) c.requires.rows
+picked_columns-requires-clause-rows c = subst (λ (cells : Cells). AreRowNumbersOf cells c.args.beside.now.rows.now) (sym c.cells_in_entry-cells.ensures) c.requires.rows
 
 pub gather_others-requires-clause-ready : goal.gather_others-requires-clause-ready
 gather_others-requires-clause-ready c = record {
   cells = are_cells_at c.args.db.now.pool c.cells_in_entry-cells.result.now c.args.beside.now.rows.now
       (cells_sound c.args.query.now c.args.db.now c.requires.database c.args.beside.now.entry c.cells_in_entry-cells.result.now c.requires.entry c.cells_in_entry-cells.ensures)
-      (subst (λ (cells : Cells). AreRowsOf cells c.args.beside.now.rows.now) (sym c.cells_in_entry-cells.ensures) c.requires.rows);
+      (subst (λ (cells : Cells). AreRowNumbersOf cells c.args.beside.now.rows.now) (sym c.cells_in_entry-cells.ensures) c.requires.rows);
   rows = c.requires.few;
   filters = c.in_ok-filters.ensures.filters;
 }
@@ -44,7 +44,7 @@ pub gather_others-requires-clause-served : goal.gather_others-requires-clause-se
 gather_others-requires-clause-served c = serve_each c.in_ok-picked.picked c.as_slice.result.now c.as_slice.ensures c.in_ok-filters.filters c.as_slice-steps.result.now c.in_ok-picked.ensures.served c.in_ok-filters.ensures.served
 
 pub gather_others-requires-clause-rows : goal.gather_others-requires-clause-rows
-gather_others-requires-clause-rows c = subst (λ (cells : Cells). AreRowsOf cells c.args.beside.now.other_rows.now) (sym c.cells_in_entry.ensures) c.requires.other_rows
+gather_others-requires-clause-rows c = subst (λ (cells : Cells). AreRowNumbersOf cells c.args.beside.now.other_rows.now) (sym c.cells_in_entry.ensures) c.requires.other_rows
 
 pub gather_others-requires-clause-cells : goal.gather_others-requires-clause-cells
 gather_others-requires-clause-cells c =

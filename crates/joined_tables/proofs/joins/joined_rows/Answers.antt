@@ -1,42 +1,42 @@
 use Rattle.std.proofs.Common.{◌≡◌, ℕ, ◌+◌, ◌≤◌, ◌++◌, List, length, subst, sym, min, arith, length-append}
-use Rattle.safebound_bounds.specs.Meaning.{narrowed, no_bound}
+use Rattle.safebound_bounds.specs.Meaning.{in_64_bits, no_bound}
 use Rattle.joined_tables.specs.Bounds.{IsWithin}
-use Rattle.joined_tables.specs.Tables.{Row, inner_join, left_with_nulls, right_with_nulls}
+use Rattle.joined_tables.specs.Tables.{RowWithNulls, inner_join, left_with_nulls, right_with_nulls}
 use Rattle.joined_tables.proofs.Pairs.{alone_within, left_added, paired_few, paired_within, right_added}
 use Rattle.joined_tables.proofs.Within.{fewer_within, least_within, sum_within}
 use Rattle.joined_tables.proofs.joins.joined_rows.Goals as goal
 
 pub returns-in-Left-clause-never_under : goal.returns-in-Left-clause-never_under
 returns-in-Left-clause-never_under c = λ is_true left right of_inner of_left of_right.
-    let pairs : List Row = inner_join is_true left right in
-    let alone : List Row = left_with_nulls is_true left right in
-    let is : c.saturating_add.result ≡ narrowed (c.args.inner + c.args.left) = omega (arith, c.saturating_add.ensures) in
+    let pairs : List RowWithNulls = inner_join is_true left right in
+    let alone : List RowWithNulls = left_with_nulls is_true left right in
+    let is : c.saturating_add.result ≡ in_64_bits (c.args.inner + c.args.left) = omega (arith, c.saturating_add.ensures) in
     rw c.in-Left.is (subst (IsWithin (length (pairs ++ alone))) (sym is) (rw (length-append pairs alone)
     (sum_within (length pairs) (length alone) c.args.inner c.args.left of_inner (fewer_within (length alone) (length left.rows) c.args.left (left_added is_true left right) of_left))))
 
 pub returns-in-Right-clause-never_under : goal.returns-in-Right-clause-never_under
 returns-in-Right-clause-never_under c = λ is_true left right of_inner of_left of_right.
-    let pairs : List Row = inner_join is_true left right in
-    let alone : List Row = right_with_nulls is_true left right in
-    let is : c.saturating_add-in-Right.result ≡ narrowed (c.args.inner + c.args.right) = omega (arith, c.saturating_add-in-Right.ensures) in
+    let pairs : List RowWithNulls = inner_join is_true left right in
+    let alone : List RowWithNulls = right_with_nulls is_true left right in
+    let is : c.saturating_add-in-Right.result ≡ in_64_bits (c.args.inner + c.args.right) = omega (arith, c.saturating_add-in-Right.ensures) in
     rw c.in-Right.is (subst (IsWithin (length (pairs ++ alone))) (sym is) (rw (length-append pairs alone)
     (sum_within (length pairs) (length alone) c.args.inner c.args.right of_inner (fewer_within (length alone) (length right.rows) c.args.right (right_added is_true left right) of_right))))
 
 pub returns-in-Full-clause-never_under : goal.returns-in-Full-clause-never_under
 returns-in-Full-clause-never_under c = λ is_true left right of_inner of_left of_right.
-    let pairs : List Row = inner_join is_true left right in
-    let alone : List Row = left_with_nulls is_true left right in
-    let others : List Row = right_with_nulls is_true left right in
-    let both : ℕ = narrowed (c.args.inner + c.args.left) in
-    let is : c.saturating_add-in-Full-2.result ≡ narrowed (both + c.args.right) =
+    let pairs : List RowWithNulls = inner_join is_true left right in
+    let alone : List RowWithNulls = left_with_nulls is_true left right in
+    let others : List RowWithNulls = right_with_nulls is_true left right in
+    let both : ℕ = in_64_bits (c.args.inner + c.args.left) in
+    let is : c.saturating_add-in-Full-2.result ≡ in_64_bits (both + c.args.right) =
     omega (arith, c.saturating_add-in-Full.ensures, c.saturating_add-in-Full-2.ensures) in
-    let added : IsWithin (length pairs + length alone + length others) (narrowed (both + c.args.right)) =
+    let added : IsWithin (length pairs + length alone + length others) (in_64_bits (both + c.args.right)) =
     sum_within (length pairs + length alone) (length others) both c.args.right
     (sum_within (length pairs) (length alone) c.args.inner c.args.left of_inner (fewer_within (length alone) (length left.rows) c.args.left (left_added is_true left right) of_left))
     (fewer_within (length others) (length right.rows) c.args.right (right_added is_true left right) of_right) in
     let counted : length (pairs ++ (alone ++ others)) ≡ length pairs + length alone + length others =
     omega (arith, length-append pairs (alone ++ others), length-append alone others) in
-    rw c.in-Full.is (subst (IsWithin (length (pairs ++ (alone ++ others)))) (sym is) (subst (λ n. IsWithin n (narrowed (both + c.args.right))) (sym counted) added))
+    rw c.in-Full.is (subst (IsWithin (length (pairs ++ (alone ++ others)))) (sym is) (subst (λ n. IsWithin n (in_64_bits (both + c.args.right))) (sym counted) added))
 
 pub returns-in-Semi-clause-never_under : goal.returns-in-Semi-clause-never_under
 returns-in-Semi-clause-never_under c = λ is_true left right of_inner of_left of_right.

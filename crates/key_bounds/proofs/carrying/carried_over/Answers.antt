@@ -3,7 +3,7 @@ use Rattle.std.proofs.lemmas.Option.{get_or_from_slice_get}
 use Rattle.predicate_bounds.specs.Told.{no_columns}
 use Rattle.sql_meaning.specs.Tables.{cells_of, tables_of}
 use Rattle.gathered_stats.specs.Asked.{IsGathered}
-use Rattle.gathered_stats.specs.Seen.{AreRowsOf}
+use Rattle.gathered_stats.specs.Seen.{AreRowNumbersOf}
 use Rattle.key_carriers.proofs.Referring.{as_many, few_referring}
 use Rattle.key_bounds.proofs.CarriedOver.{as_widened, entries_add_up, entries_told, left_low, of_one_kind, right_low, rows_of_left, rows_of_right}
 use Rattle.key_bounds.proofs.carrying.carried_over.Goals as goal
@@ -28,12 +28,12 @@ gather_beside-requires-clause-other c = left_low c.args.query.now c.args.db.now 
 
 pub gather_beside-requires-clause-rows : goal.gather_beside-requires-clause-rows
 gather_beside-requires-clause-rows c =
-    subst (AreRowsOf (cells_of c.args.db.now c.args.edge.right.entry)) (sym (c.as_slice-others.ensures.value ∙ c.in_ok-widened.ensures.others))
+    subst (AreRowNumbersOf (cells_of c.args.db.now c.args.edge.right.entry)) (sym (c.as_slice-others.ensures.value ∙ c.in_ok-widened.ensures.others))
     (rows_of_right c.args.query.now c.args.db.now c.requires.database c.args.edge c.requires.joined)
 
 pub gather_beside-requires-clause-other_rows : goal.gather_beside-requires-clause-other_rows
 gather_beside-requires-clause-other_rows c =
-    subst (AreRowsOf (cells_of c.args.db.now c.args.edge.left.entry)) (sym (c.as_slice-rows.ensures.value ∙ c.in_ok-widened.ensures.rows))
+    subst (AreRowNumbersOf (cells_of c.args.db.now c.args.edge.left.entry)) (sym (c.as_slice-rows.ensures.value ∙ c.in_ok-widened.ensures.rows))
     (rows_of_left c.args.query.now c.args.db.now c.requires.database c.args.edge c.requires.joined)
 
 pub gather_beside-requires-clause-as_many : goal.gather_beside-requires-clause-as_many

@@ -4,7 +4,7 @@ use Rattle.berge_tree.specs.declared.edges.Edge.{Edge}
 use Rattle.schema_types.specs.declared.types.Schema.{Schema}
 use Rattle.sql_meaning.specs.Tables.{Tables, tables_of}
 use Rattle.planning.specs.Bounds.{scan_bounds_of}
-use Rattle.planning.specs.Gives.{Gives}
+use Rattle.planning.specs.HasBounds.{HasBounds}
 use Rattle.key_carriers.specs.Carriers.{carriers}
 use Rattle.key_stats.specs.Carrying.{TellAlong}
 use Rattle.key_bounds.specs.Bounds.{set_bounds_by_keys}
@@ -36,8 +36,8 @@ pub returns : goal.returns
 returns c =
     IfOk-weaker c.from_carried.result
     (λ known. (schema : Schema) (tables : Tables) (accuracy : ℕ) → TellByKeys schema c.args.query.now tables accuracy c.in_ok-stats.stats c.in_ok-carried.carried
-    → Gives (set_bounds_by_keys schema c.args.query.now tables accuracy) (scan_bounds_of c.args.query.now tables accuracy) known)
-    (Gives (set_bounds_by_keys c.args.schema.now c.args.query.now (tables_of c.args.db.now) c.args.accuracy) (scan_bounds_of c.args.query.now (tables_of c.args.db.now) c.args.accuracy))
+    → HasBounds (set_bounds_by_keys schema c.args.query.now tables accuracy) (scan_bounds_of c.args.query.now tables accuracy) known)
+    (HasBounds (set_bounds_by_keys c.args.schema.now c.args.query.now (tables_of c.args.db.now) c.args.accuracy) (scan_bounds_of c.args.query.now (tables_of c.args.db.now) c.args.accuracy))
     (λ known gives. gives c.args.schema.now (tables_of c.args.db.now) c.args.accuracy (record {
       own = c.in_ok-stats.ensures.tells;
       along = subst (λ (es : List Edge). TellAlong c.args.query.now (tables_of c.args.db.now) c.args.accuracy es c.in_ok-carried.carried) (c.as_slice.ensures ∙ c.in_ok-edges.ensures) c.in_ok-carried.ensures;

@@ -4,7 +4,7 @@ use Rattle.sql_meaning.specs.Tables.{row_counts, tables_of}
 use Rattle.link_index.specs.Places.{IsPlaceOf}
 use Rattle.join_steps.specs.Columns.{column_cells}
 use Rattle.key_carriers.specs.Cells.{column_of, widened_to}
-use Rattle.key_carriers.specs.Widened.{partner}
+use Rattle.key_carriers.specs.Widened.{referred_row}
 use Rattle.key_carriers.proofs.Finding.{first_is, left_count, other_added, right_count, row_added}
 use Rattle.key_carriers.proofs.rows.widened_rows.Goals as goal
 
@@ -54,7 +54,7 @@ pub rows-preserved : goal.rows-preserved
 rows-preserved c =
     let left : c.cells_of_column-left.result.now ≡ column_cells c.args.db.now (column_of c.args.edge.left) =
     c.cells_of_column-left.ensures.cells ∙ ap (column_cells c.args.db.now) c.column_of.ensures in
-    let is : c.row_of-other.result ≡ partner (tables_of c.args.db.now) c.args.edge c.rows.row =
+    let is : c.row_of-other.result ≡ referred_row (tables_of c.args.db.now) c.args.edge c.rows.row =
     first_is c.args.db.now c.args.edge c.requires.tables c.texts_are_different.ensures.different c.texts_are_different.ensures.utf8 c.requires.kinds c.rows.row
     (omega (
       arith,

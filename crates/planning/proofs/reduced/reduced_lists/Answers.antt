@@ -5,7 +5,7 @@ use Rattle.join_graph.specs.Conjuncts.{equalities_of}
 use Rattle.sql_meaning.specs.Tables.{tables_of}
 use Rattle.level_bounds.specs.Keys.{are_equal_at}
 use Rattle.join_steps.specs.Lists.{list_at, lists_of, scans_of}
-use Rattle.reduced_scans.specs.Lists.{AreListsOf}
+use Rattle.reduced_scans.specs.Lists.{AreRowLists}
 use Rattle.reduced_scans.specs.Rounds.{reduced_of}
 use Rattle.reduced_scans.specs.Scans.{AreReducedScans}
 use Rattle.reduced_scans.proofs.ByRounds.{reduced_scans_by_rounds}
@@ -31,6 +31,6 @@ pub returns-clause-lists : goal.returns-clause-lists
 returns-clause-lists c =
     let query = c.args.query.now in
     let db = c.args.db.now in
-    IfOk-weaker c.reduce_scans.result (λ lists. AreReducedScans query (tables_of db) (lists_of lists.items)) (λ lists. AreListsOf db lists.items)
+    IfOk-weaker c.reduce_scans.result (λ lists. AreReducedScans query (tables_of db) (lists_of lists.items)) (λ lists. AreRowLists db lists.items)
     (λ lists are. lists_of_db query db lists.items c.requires.database are.consistent.is_family)
     c.reduce_scans.ensures.reduced

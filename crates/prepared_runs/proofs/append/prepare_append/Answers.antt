@@ -1,7 +1,7 @@
 use Rattle.std.proofs.Common.{refl}
 use Rattle.std.proofs.lemmas.Result.{err_from_is_err_and}
 use Rattle.outcomes.specs.Reads.{seen}
-use Rattle.prepared_runs.specs.Ready.{appended_from}
+use Rattle.prepared_runs.specs.PreparedRun.{appended_from}
 use Rattle.prepared_runs.proofs.AppendStages.{append_ran, append_stops}
 use Rattle.prepared_runs.proofs.append.prepare_append.Goals as goal
 

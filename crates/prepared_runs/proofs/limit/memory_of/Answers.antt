@@ -3,8 +3,8 @@ use Rattle.tree_plans.specs.TreePlans.{IsTreePlan}
 use Rattle.prepared_runs.proofs.limit.memory_of.Goals as goal
 
 pub order_memory-requires : goal.order_memory-requires
-order_memory-requires c = rw c.in-Along.is at c.requires
+order_memory-requires c = rw c.in-OrderPlan.is at c.requires
 
 pub tree_memory-requires : goal.tree_memory-requires
 tree_memory-requires c =
-    let its = rw c.in-Over.is at c.requires in subst (λ (n : ℕ). IsTreePlan n c.in-Over.plan) (sym its.3.scans) its.3
+    let its = rw c.in-TreePlan.is at c.requires in subst (λ (n : ℕ). IsTreePlan n c.in-TreePlan.plan) (sym its.3.scans) its.3

@@ -2,13 +2,13 @@ use Rattle.std.proofs.Common.{List, ℕ, Ok, length, ◌∙◌, ap, sym, subst, 
 use Rattle.std.proofs.lemmas.Result.{err_from_is_err_and}
 use Rattle.sql_meaning.specs.Tables.{Tables, tables_of}
 use Rattle.table_files.specs.EntryTables.{entry_rows, tables_in}
-use Rattle.prepared_runs.specs.Limits.{AreWithin}
-use Rattle.prepared_runs.specs.Outcome.{Planned}
-use Rattle.prepared_runs.specs.Prepared.{AreListed, HoldsBytes, text_left}
+use Rattle.prepared_runs.specs.Limits.{IsWithinLimit}
+use Rattle.prepared_runs.specs.RunOutcome.{Planned}
+use Rattle.prepared_runs.specs.PreparedQuery.{AreOverLists, HoldsBytes, text_left}
 use Rattle.prepared_runs.specs.Shapes.{IsPlanOver, IsShapedPlan, shape_bytes}
 use Rattle.prepared_runs.specs.Sources.{lists_by, sourced}
 use Rattle.prepared_runs.specs.Standing.{LoseNoRow}
-use Rattle.prepared_runs.specs.declared.shapes.Shaped.{Shaped}
+use Rattle.prepared_runs.specs.declared.shapes.AnyPlan.{AnyPlan}
 use Rattle.safebound_words.specs.declared.command.OutText.{OutText}
 use Rattle.prepared_runs.proofs.Answered.{limit_told, plan_stage_ok, plan_told}
 use Rattle.prepared_runs.proofs.KeyFacts.{needs_met}
@@ -45,7 +45,7 @@ returns-in_err-keep_limit-clause-refused c =
 pub make_room-requires-clause-within : goal.make_room-requires-clause-within
 make_room-requires-clause-within c =
     let memory = c.args.task.now.memory in
-    subst (AreWithin memory) c.memory_of-bytes.ensures (within_ok memory c.memory_of-bytes.result tt tt (sym c.in_ok-keep_limit.ensures)).1
+    subst (IsWithinLimit memory) c.memory_of-bytes.ensures (within_ok memory c.memory_of-bytes.result tt tt (sym c.in_ok-keep_limit.ensures)).1
 
 pub make_room-requires-clause-plan : goal.make_room-requires-clause-plan
 make_room-requires-clause-plan c =
@@ -76,10 +76,10 @@ returns-clause-ready c =
           (plan_fits query tables (sourced task.source c.args.schema.now query tables)
           (stand query tables c.args.schema.now task.source (needs_met task.source c.args.schema.now query tables c.requires.keys)) task.accuracy task.budget (omega (arith, c.requires.database.some))
           c.requires.database.few task.shape planned.plan c.in_ok-planned.ensures.planned c.requires.ranges.budget).plan;
-      bytes = c.memory_of-bytes.ensures ∙ ap (λ (plan : Shaped). shape_bytes plan) (sym c.in_ok-rest.ensures.plan);
+      bytes = c.memory_of-bytes.ensures ∙ ap (λ (plan : AnyPlan). shape_bytes plan) (sym c.in_ok-rest.ensures.plan);
       tables = c.requires.tables;
       room = c.in_ok-rest.ensures.room;
-      lists = subst (λ (l : List (List ℕ)). AreListed l c.in_ok-rest.rest)
+      lists = subst (λ (l : List (List ℕ)). AreOverLists l c.in_ok-rest.rest)
           (c.in_ok-planned.ensures.lists ∙ ap (λ (t : Tables). lists_by task.source query t) (sym c.requires.tables)) c.in_ok-rest.ensures.lists;
       held = subst (λ (n : ℕ). HoldsBytes n c.in_ok-rest.rest) (sym c.memory_of-bytes.ensures) c.in_ok-rest.ensures.bytes;
     }
@@ -101,7 +101,7 @@ returns-clause-run c =
       memory = task.memory;
       out = out;
     }))) (sym c.in_ok-rest.ensures.out)
-    ∙ ap (λ (plan : Shaped). Ok (Planned (record {
+    ∙ ap (λ (plan : AnyPlan). Ok (Planned (record {
       query = query;
       rows = rows;
       plan = plan;

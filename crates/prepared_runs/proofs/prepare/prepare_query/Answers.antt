@@ -1,7 +1,7 @@
 use Rattle.std.proofs.Common.{Ok, Err, ap, sym, ◌∙◌}
 use Rattle.std.proofs.lemmas.Result.{err_from_is_err_and}
 use Rattle.safebound_words.specs.declared.command.Work.TheVariants as works
-use Rattle.prepared_runs.specs.Ready.{file_from, plan_from, planned_from}
+use Rattle.prepared_runs.specs.PreparedRun.{file_from, plan_from, planned_outcome}
 use Rattle.prepared_runs.proofs.Stages.{work_done}
 use Rattle.prepared_runs.proofs.prepare.prepare_query.Goals as goal
 
@@ -13,27 +13,27 @@ returns-in_err-prepared-in-Plan-clause-reads g c =
 
 pub returns-in_ok-prepared-in-Plan-clause-reads : goal.returns-in_ok-prepared-in-Plan-clause-reads
 returns-in_ok-prepared-in-Plan-clause-reads g c =
-    work_done c.args.work.now (works.Plan c.in-Plan.plan) c.args.schema.now c.args.query (Ok (planned_from c.in_ok-prepared-in-Plan.prepared)) c.in-Plan.is
+    work_done c.args.work.now (works.Plan c.in-Plan.plan) c.args.schema.now c.args.query (Ok (planned_outcome c.in_ok-prepared-in-Plan.prepared)) c.in-Plan.is
     c.in_ok-prepared-in-Plan.ensures.reads
 
-pub returns-in_err-filed-in-File-clause-reads : goal.returns-in_err-filed-in-File-clause-reads
-returns-in_err-filed-in-File-clause-reads g c =
-    let p = err_from_is_err_and c.from_residual-in_err-filed-in-File.result c.from_residual-in_err-filed-in-File.ensures.1 in
-    rw (p.1, p.2) (work_done c.args.work.now (works.File c.of.result) c.args.schema.now c.args.query (Err c.in_err-filed-in-File.field-0.0) (c.in-File.is ∙ ap works.File (sym c.of.ensures))
-    c.in_err-filed-in-File.ensures.reads)
+pub returns-in_err-made_stats-in-WriteStats-clause-reads : goal.returns-in_err-made_stats-in-WriteStats-clause-reads
+returns-in_err-made_stats-in-WriteStats-clause-reads g c =
+    let p = err_from_is_err_and c.from_residual-in_err-made_stats-in-WriteStats.result c.from_residual-in_err-made_stats-in-WriteStats.ensures.1 in
+    rw (p.1, p.2) (work_done c.args.work.now (works.WriteStats c.of.result) c.args.schema.now c.args.query (Err c.in_err-made_stats-in-WriteStats.field-0.0) (c.in-WriteStats.is ∙ ap works.WriteStats (sym c.of.ensures))
+    c.in_err-made_stats-in-WriteStats.ensures.reads)
 
-pub returns-in_ok-filed-in-File-clause-reads : goal.returns-in_ok-filed-in-File-clause-reads
-returns-in_ok-filed-in-File-clause-reads g c =
-    work_done c.args.work.now (works.File c.of.result) c.args.schema.now c.args.query (Ok (file_from c.args.schema.now c.in_ok-filed-in-File.filed)) (c.in-File.is ∙ ap works.File (sym c.of.ensures))
-    c.in_ok-filed-in-File.ensures.reads
+pub returns-in_ok-made_stats-in-WriteStats-clause-reads : goal.returns-in_ok-made_stats-in-WriteStats-clause-reads
+returns-in_ok-made_stats-in-WriteStats-clause-reads g c =
+    work_done c.args.work.now (works.WriteStats c.of.result) c.args.schema.now c.args.query (Ok (file_from c.args.schema.now c.in_ok-made_stats-in-WriteStats.made_stats)) (c.in-WriteStats.is ∙ ap works.WriteStats (sym c.of.ensures))
+    c.in_ok-made_stats-in-WriteStats.ensures.reads
 
-pub returns-in_err-made-in-PlanFrom-clause-reads : goal.returns-in_err-made-in-PlanFrom-clause-reads
-returns-in_err-made-in-PlanFrom-clause-reads g c =
-    let p = err_from_is_err_and c.from_residual-in_err-made-in-PlanFrom.result c.from_residual-in_err-made-in-PlanFrom.ensures.1 in
-    rw (p.1, p.2) (work_done c.args.work.now (works.PlanFrom c.in-PlanFrom.file c.in-PlanFrom.budget c.in-PlanFrom.memory) c.args.schema.now c.args.query (Err c.in_err-made-in-PlanFrom.field-0.0) c.in-PlanFrom.is
-    c.in_err-made-in-PlanFrom.ensures.reads)
+pub returns-in_err-made-in-PlanFromStats-clause-reads : goal.returns-in_err-made-in-PlanFromStats-clause-reads
+returns-in_err-made-in-PlanFromStats-clause-reads g c =
+    let p = err_from_is_err_and c.from_residual-in_err-made-in-PlanFromStats.result c.from_residual-in_err-made-in-PlanFromStats.ensures.1 in
+    rw (p.1, p.2) (work_done c.args.work.now (works.PlanFromStats c.in-PlanFromStats.file c.in-PlanFromStats.budget c.in-PlanFromStats.memory) c.args.schema.now c.args.query (Err c.in_err-made-in-PlanFromStats.field-0.0) c.in-PlanFromStats.is
+    c.in_err-made-in-PlanFromStats.ensures.reads)
 
-pub returns-in_ok-made-in-PlanFrom-clause-reads : goal.returns-in_ok-made-in-PlanFrom-clause-reads
-returns-in_ok-made-in-PlanFrom-clause-reads g c =
-    work_done c.args.work.now (works.PlanFrom c.in-PlanFrom.file c.in-PlanFrom.budget c.in-PlanFrom.memory) c.args.schema.now c.args.query (Ok (plan_from c.in_ok-made-in-PlanFrom.made)) c.in-PlanFrom.is
-    c.in_ok-made-in-PlanFrom.ensures.reads
+pub returns-in_ok-made-in-PlanFromStats-clause-reads : goal.returns-in_ok-made-in-PlanFromStats-clause-reads
+returns-in_ok-made-in-PlanFromStats-clause-reads g c =
+    work_done c.args.work.now (works.PlanFromStats c.in-PlanFromStats.file c.in-PlanFromStats.budget c.in-PlanFromStats.memory) c.args.schema.now c.args.query (Ok (plan_from c.in_ok-made-in-PlanFromStats.made)) c.in-PlanFromStats.is
+    c.in_ok-made-in-PlanFromStats.ensures.reads

@@ -1,7 +1,7 @@
 use Rattle.std.proofs.Common.{refl}
 use Rattle.std.proofs.lemmas.Result.{err_from_is_err_and}
 use Rattle.outcomes.specs.Reads.{seen}
-use Rattle.prepared_runs.specs.Ready.{outcome_of}
+use Rattle.prepared_runs.specs.PreparedRun.{outcome_of}
 use Rattle.prepared_runs.proofs.Stages.{query_not_run, query_ran}
 use Rattle.prepared_runs.proofs.prepare.prepare_work.Goals as goal
 

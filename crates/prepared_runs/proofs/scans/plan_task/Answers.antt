@@ -1,8 +1,8 @@
 use Rattle.std.proofs.Common.{◌≡◌, ℕ, ◌^◌, List, length, arith, ap, sym, subst, ◌∙◌}
 use Rattle.std.proofs.lemmas.Result.{err_from_is_err_and}
 use Rattle.sql_meaning.specs.Tables.{tables_of}
-use Rattle.planning.specs.Gives.{Gives}
-use Rattle.prepared_runs.specs.Prepared.{HoldExactly}
+use Rattle.planning.specs.HasBounds.{HasBounds}
+use Rattle.prepared_runs.specs.PreparedQuery.{HoldExactly}
 use Rattle.prepared_runs.specs.Shapes.{answer_of}
 use Rattle.prepared_runs.specs.Sources.{scans_by, sourced}
 use Rattle.prepared_runs.proofs.AllowedFacts.{plan_costs}
@@ -18,7 +18,7 @@ plan_by-requires c =
     let query = c.args.query.now in
     let tables = tables_of c.args.db.now in
     let known = c.in_ok-known.field-0.known in
-    let known_is = subst (λ (a : ℕ). Gives ((sourced task.source c.args.schema.now query tables).sets a) ((sourced task.source c.args.schema.now query tables).scans a) known) c.of.ensures c.in_ok-known.ensures.known in
+    let known_is = subst (λ (a : ℕ). HasBounds ((sourced task.source c.args.schema.now query tables).sets a) ((sourced task.source c.args.schema.now query tables).scans a) known) c.of.ensures c.in_ok-known.ensures.known in
     let one_each = (scans_bound query tables task.source task.accuracy).one_each in
     let long : length known.scans ≡ length query.from = ap (λ (s : List ℕ). length s) known_is.scans ∙ one_each in
     record {
@@ -35,7 +35,7 @@ returns-in_err-plan-clause-refused c =
     let query = c.args.query.now in
     let tables = tables_of c.args.db.now in
     let known = c.in_ok-known.field-0.known in
-    let known_is = subst (λ (a : ℕ). Gives ((sourced task.source c.args.schema.now query tables).sets a) ((sourced task.source c.args.schema.now query tables).scans a) known) c.of.ensures c.in_ok-known.ensures.known in
+    let known_is = subst (λ (a : ℕ). HasBounds ((sourced task.source c.args.schema.now query tables).sets a) ((sourced task.source c.args.schema.now query tables).scans a) known) c.of.ensures c.in_ok-known.ensures.known in
     let p = err_from_is_err_and c.from_residual-in_err-plan.result c.from_residual-in_err-plan.ensures.1 in
     rw (p.1, p.2, ← planned_known task.shape (sourced task.source c.args.schema.now query tables) task.accuracy task.budget known known_is)
     (was_refused (answer_of task.shape known.sets known.scans task.budget) c.in_err-plan.field-0.0 c.in_err-plan.ensures)
@@ -46,7 +46,7 @@ returns-clause-planned c =
     let query = c.args.query.now in
     let tables = tables_of c.args.db.now in
     let known = c.in_ok-known.field-0.known in
-    let known_is = subst (λ (a : ℕ). Gives ((sourced task.source c.args.schema.now query tables).sets a) ((sourced task.source c.args.schema.now query tables).scans a) known) c.of.ensures c.in_ok-known.ensures.known in
+    let known_is = subst (λ (a : ℕ). HasBounds ((sourced task.source c.args.schema.now query tables).sets a) ((sourced task.source c.args.schema.now query tables).scans a) known) c.of.ensures c.in_ok-known.ensures.known in
     sym (planned_known task.shape (sourced task.source c.args.schema.now query tables) task.accuracy task.budget known known_is)
     ∙ was_made (answer_of task.shape known.sets known.scans task.budget) c.in_ok-plan.plan c.in_ok-plan.ensures
 

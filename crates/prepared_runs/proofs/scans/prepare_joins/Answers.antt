@@ -2,7 +2,7 @@ use Rattle.std.proofs.Common.{ℕ, ◌+◌, List, ap, sym, ◌∙◌, subst}
 use Rattle.reserve_plan.specs.Memory.{lists_bytes}
 use Rattle.sql_meaning.specs.Tables.{tables_of}
 use Rattle.join_steps.specs.Lists.{lists_of}
-use Rattle.prepared_runs.specs.Prepared.{held_bytes, lists_in}
+use Rattle.prepared_runs.specs.PreparedQuery.{held_bytes, lists_in}
 use Rattle.prepared_runs.specs.Shapes.{IsPlanOver, scan_bounds}
 use Rattle.prepared_runs.specs.Standing.{LoseNoRow}
 use Rattle.prepared_runs.proofs.KeptFacts.{all_bytes}

@@ -3,7 +3,7 @@ use Rattle.std.proofs.lemmas.List.{take_all}
 use Rattle.berge_tree.specs.declared.edges.Edge.{Edge}
 use Rattle.berge_tree.specs.declared.edges.Place.{Place}
 use Rattle.berge_tree.specs.Equalities.{places_of}
-use Rattle.query_bounds.specs.Bounds.{Holds}
+use Rattle.query_bounds.specs.Bounds.{HoldsKnown}
 use Rattle.query_bounds.proofs.Holding.{added, bounds_told, may_add, no_edge, pair_told, places_more}
 use Rattle.query_bounds.proofs.lists.entry_lists.Goals as goal
 
@@ -39,7 +39,7 @@ loop-edge-preserved c = λ known tells.
     c.in_ok-add_list.ensures.set c.in_ok-add_list.ensures.others c.in_ok-add_list.ensures.rows in
     let two = added c.args.query.now c.args.stats.now known (length c.args.query.now.from) (before ++ left ∷ []) right c.add_list.new.lists c.add_list-in-loop-edge.new.lists told.1 one
     c.in_ok-add_list-2.ensures.set c.in_ok-add_list-2.ensures.others c.in_ok-add_list-2.ensures.rows in
-    subst (λ (places : List Place). Holds c.args.query.now known (length c.args.query.now.from) places c.add_list-in-loop-edge.new.lists)
+    subst (λ (places : List Place). HoldsKnown c.args.query.now known (length c.args.query.now.from) places c.add_list-in-loop-edge.new.lists)
     (sym (places_more c.args.parts.now.equalities c.as_slice-edge-items.result.now c.loop-edge.edge-index no_edge c.as_slice-edge-items.ensures c.loop-edge-test.true)) two
 
 pub returns-clause-holds : goal.returns-clause-holds
@@ -47,7 +47,7 @@ returns-clause-holds c = λ known tells.
     let same : length c.as_slice-edge-items.result.now ≡ length c.args.parts.now.equalities = ap (λ (s : List Edge). length s) c.as_slice-edge-items.ensures in
     let all : take c.loop-edge.edge-index c.args.parts.now.equalities ≡ c.args.parts.now.equalities =
     take_all c.loop-edge.edge-index c.args.parts.now.equalities (omega (arith, c.loop-edge-test.false, same)) in
-    subst (λ (es : List Edge). Holds c.args.query.now known (length c.args.query.now.from) (places_of es) c.loop-edge.lists) (all ∙ c.requires.equalities) (c.loop-edge.invariant known tells)
+    subst (λ (es : List Edge). HoldsKnown c.args.query.now known (length c.args.query.now.from) (places_of es) c.loop-edge.lists) (all ∙ c.requires.equalities) (c.loop-edge.invariant known tells)
 
 pub returns-clause-bounds : goal.returns-clause-bounds
 returns-clause-bounds c = λ known tells. bounds_told c.args.query.now known c.loop-edge.lists (returns-clause-holds c known tells)

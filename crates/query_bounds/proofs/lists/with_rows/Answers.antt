@@ -1,5 +1,5 @@
 use Rattle.std.proofs.Common.{◌≡◌, ◌<◌, ℕ, [], length, subst, arith}
-use Rattle.query_bounds.specs.Bounds.{Holds}
+use Rattle.query_bounds.specs.Bounds.{HoldsKnown}
 use Rattle.query_bounds.proofs.Holding.{has_first, no_list, none_hold, rows_more, rows_told}
 use Rattle.query_bounds.proofs.lists.with_rows.Goals as goal
 
@@ -25,4 +25,4 @@ loop-entry-preserved c = λ known tells.
 pub returns : goal.returns
 returns c = λ known tells.
     let all : c.loop-entry.entry ≡ length c.args.query.now.from = omega (arith, c.loop-entry-test.false, c.loop-entry.auto.entry-end, c.len-entry-end.ensures) in
-    subst (λ (n : ℕ). Holds c.args.query.now known n [] c.loop-entry.lists) all (c.loop-entry.invariant known tells)
+    subst (λ (n : ℕ). HoldsKnown c.args.query.now known n [] c.loop-entry.lists) all (c.loop-entry.invariant known tells)

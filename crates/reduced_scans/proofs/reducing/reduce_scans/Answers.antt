@@ -8,7 +8,7 @@ use Rattle.sql_meaning.specs.Tables.{tables_of}
 use Rattle.level_bounds.specs.Keys.{are_equal_at, cell_at}
 use Rattle.reduced_scans.specs.Families.{AreAscending, IsReduced}
 use Rattle.join_steps.specs.Lists.{lists_of, scans_of}
-use Rattle.reduced_scans.specs.Lists.{AreListsOf, JoinsColumns}
+use Rattle.reduced_scans.specs.Lists.{AreRowLists, JoinsColumns}
 use Rattle.reduced_scans.specs.SemiJoins.{IsSifted}
 use Rattle.reduced_scans.specs.Wiring.{TellsByKey, marked_family}
 use Rattle.reduced_scans.proofs.OfQuery.{are_lists, few_equalities, joins_columns, lists_are, tells}
@@ -25,7 +25,7 @@ sifted-requires-clause-columns c =
     subst (All (JoinsColumns c.args.db.now)) (sym c.requires.equalities) (joins_columns c.args.query.now c.args.db.now c.requires.database)
 
 pub marks_of-requires-clause-lists : goal.marks_of-requires-clause-lists
-marks_of-requires-clause-lists c = subst (AreListsOf c.args.db.now) (sym c.as_slice-left.ensures) c.in_ok-lists.ensures.lists
+marks_of-requires-clause-lists c = subst (AreRowLists c.args.db.now) (sym c.as_slice-left.ensures) c.in_ok-lists.ensures.lists
 
 pub marks_of-requires-clause-columns : goal.marks_of-requires-clause-columns
 marks_of-requires-clause-columns c =
@@ -37,12 +37,12 @@ marks_of-requires-clause-few c =
 
 pub marked_lists-requires-clause-sizes : goal.marked_lists-requires-clause-sizes
 marked_lists-requires-clause-sizes c =
-    let lists : AreListsOf c.args.db.now c.as_slice-left.result.now = subst (AreListsOf c.args.db.now) (sym c.as_slice-left.ensures) c.in_ok-lists.ensures.lists in
+    let lists : AreRowLists c.args.db.now c.as_slice-left.result.now = subst (AreRowLists c.args.db.now) (sym c.as_slice-left.ensures) c.in_ok-lists.ensures.lists in
     lists.sizes
 
 pub marked_lists-requires-clause-few_marks : goal.marked_lists-requires-clause-few_marks
 marked_lists-requires-clause-few_marks c =
-    let lists : AreListsOf c.args.db.now c.as_slice-left.result.now = subst (AreListsOf c.args.db.now) (sym c.as_slice-left.ensures) c.in_ok-lists.ensures.lists in
+    let lists : AreRowLists c.args.db.now c.as_slice-left.result.now = subst (AreRowLists c.args.db.now) (sym c.as_slice-left.ensures) c.in_ok-lists.ensures.lists in
     omega (arith, c.in_ok-marks.ensures.length, few_items c.as_slice-left.result.now lists.sizes (length c.as_slice-left.result.now), lists.few)
 
 pub returns-clause-reduced : goal.returns-clause-reduced

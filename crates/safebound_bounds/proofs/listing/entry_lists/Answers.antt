@@ -5,7 +5,7 @@ use Rattle.safebound_lists.specs.declared.runs.Run.{Run}
 use Rattle.safebound_lists.specs.Runs.{AreRight, list_of}
 use Rattle.safebound_bounds.specs.declared.arguments.ColumnList.{ColumnList}
 use Rattle.safebound_bounds.specs.Arguments.{IsRightListAt, list_at, no_list}
-use Rattle.safebound_bounds.specs.Listed.{Holds}
+use Rattle.safebound_bounds.specs.Listed.{HoldsListed}
 use Rattle.safebound_bounds.specs.Meaning.{fitted}
 use Rattle.safebound_bounds.proofs.Holding.{list_more, not_held, rows_there, without_lists}
 use Rattle.safebound_bounds.proofs.listing.entry_lists.Goals as goal
@@ -40,7 +40,7 @@ add-requires c =
 pub loop-list-preserved : goal.loop-list-preserved
 loop-list-preserved c =
     let right : IsRightListAt (length c.args.rows.now) (length c.args.runs.now) c.args.lists.now c.loop-list.list-index = c.requires.lists c.loop-list.list-index c.loop-list-test.true in
-    subst (λ (s : List ColumnList). Holds c.args.rows.now (length c.args.rows.now) s c.args.runs.now c.add.new.self)
+    subst (λ (s : List ColumnList). HoldsListed c.args.rows.now (length c.args.rows.now) s c.args.runs.now c.add.new.self)
     (sym (take_more c.args.lists.now c.loop-list.list-index no_list c.loop-list-test.true))
     (list_more c.args.rows.now (length c.args.rows.now) (take c.loop-list.list-index c.args.lists.now) c.args.runs.now (list_at c.args.lists.now c.loop-list.list-index)
     c.loop-list.known c.add.new.self c.in_ok-fitting.fitting c.loop-list.invariant right.once
@@ -49,5 +49,5 @@ loop-list-preserved c =
 
 pub returns : goal.returns
 returns c =
-    subst (λ (s : List ColumnList). Holds c.args.rows.now (length c.args.rows.now) s c.args.runs.now c.loop-list.known)
+    subst (λ (s : List ColumnList). HoldsListed c.args.rows.now (length c.args.rows.now) s c.args.runs.now c.loop-list.known)
     (take_all c.loop-list.list-index c.args.lists.now (omega arith)) c.loop-list.invariant

@@ -1,5 +1,5 @@
 use Rattle.std.proofs.Common.{◌≡◌, ℕ, [], length, refl, subst, arith}
-use Rattle.safebound_bounds.specs.Listed.{Holds}
+use Rattle.safebound_bounds.specs.Listed.{HoldsListed}
 use Rattle.safebound_bounds.proofs.Holding.{none_held, rows_more}
 use Rattle.safebound_bounds.proofs.listing.with_rows.Goals as goal
 
@@ -17,4 +17,4 @@ loop-entry-preserved c =
 pub returns : goal.returns
 returns c =
     let all : c.loop-entry.entry ≡ length c.args.rows.now = omega (arith, c.loop-entry-test.false, c.loop-entry.auto.entry-end) in
-    subst (λ (n : ℕ). Holds c.args.rows.now n [] [] c.loop-entry.known) all c.loop-entry.invariant
+    subst (λ (n : ℕ). HoldsListed c.args.rows.now n [] [] c.loop-entry.known) all c.loop-entry.invariant

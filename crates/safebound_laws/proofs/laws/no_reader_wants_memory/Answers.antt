@@ -1,4 +1,4 @@
-use Rattle.filed_bounds.proofs.Answering.{wants_no_memory}
+use Rattle.stats_file_bounds.proofs.Answering.{wants_no_memory}
 use Rattle.stats_answers.proofs.StatsAnswers as stats
 use Rattle.text_answers.proofs.QueryAnswers as queries
 use Rattle.text_answers.proofs.SchemaAnswers as schemas

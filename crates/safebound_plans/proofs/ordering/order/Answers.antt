@@ -3,7 +3,7 @@ use Rattle.std.proofs.lemmas.List.{length-map}
 use Rattle.plans.specs.LeftDeep.{IsPlan}
 use Rattle.order_search.specs.declared.refusal.PlanError.TheVariants as plan_error
 use Rattle.safebound_plans.specs.Orders.{IsBestOrder}
-use Rattle.safebound_plans.specs.Widened.{widened}
+use Rattle.safebound_plans.specs.Bits.{in_128_bits}
 use Rattle.safebound_plans.proofs.Best.{best_order, order_cause, order_fits}
 use Rattle.safebound_plans.proofs.ordering.order.Goals as goal
 
@@ -11,7 +11,7 @@ pub choose-requires : goal.choose-requires
 choose-requires c = record {
   some = omega (arith, c.in-Some.ensures.some, c.in_ok-scans.ensures);
   few = omega (arith, c.in-Some.ensures.few, c.in_ok-scans.ensures);
-  bounds = ap length c.in_ok-wide.ensures ∙ length-map c.args.bounds.now widened ∙ c.in-Some.ensures.sets ∙ ap (λ n. 2 ^ n) (sym c.in_ok-scans.ensures);
+  bounds = ap length c.in_ok-wide.ensures ∙ length-map c.args.bounds.now in_128_bits ∙ c.in-Some.ensures.sets ∙ ap (λ n. 2 ^ n) (sym c.in_ok-scans.ensures);
   budget = omega arith;
 }
 

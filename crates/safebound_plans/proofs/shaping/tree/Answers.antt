@@ -1,7 +1,7 @@
 use Rattle.std.proofs.Common.{◌<◌, ◌^◌, length, ap, sym, ◌∙◌, arith}
 use Rattle.std.proofs.lemmas.List.{length-map}
 use Rattle.order_search.specs.declared.refusal.PlanError.TheVariants as plan_error
-use Rattle.safebound_plans.specs.Widened.{widened}
+use Rattle.safebound_plans.specs.Bits.{in_128_bits}
 use Rattle.safebound_plans.proofs.Best.{best_tree, tree_cause, tree_fits}
 use Rattle.safebound_plans.proofs.shaping.tree.Goals as goal
 
@@ -9,7 +9,7 @@ pub choose_bushy-requires : goal.choose_bushy-requires
 choose_bushy-requires c = record {
   some = omega (arith, c.in-Some.ensures.some, c.in_ok-scans.ensures);
   few = omega (arith, c.in-Some.ensures.few, c.in_ok-scans.ensures);
-  bounds = ap length c.in_ok-wide.ensures ∙ length-map c.args.bounds.now widened ∙ c.in-Some.ensures.sets ∙ ap (λ n. 2 ^ n) (sym c.in_ok-scans.ensures);
+  bounds = ap length c.in_ok-wide.ensures ∙ length-map c.args.bounds.now in_128_bits ∙ c.in-Some.ensures.sets ∙ ap (λ n. 2 ^ n) (sym c.in_ok-scans.ensures);
   budget = omega arith;
 }
 

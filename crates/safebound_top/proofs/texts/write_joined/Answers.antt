@@ -4,7 +4,7 @@ use Rattle.csv_tables.specs.Rows.{Row}
 use Rattle.printed_texts.specs.Texts.{rows_lines}
 use Rattle.joined_texts.specs.Printed.{printed_rows}
 use Rattle.prepared_runs.specs.Shapes.{joined_entries}
-use Rattle.prepared_runs.specs.declared.shapes.Shaped.TheVariants as shaped
+use Rattle.prepared_runs.specs.declared.shapes.AnyPlan.TheVariants as shaped
 use Rattle.prepared_runs.proofs.RootFacts.{root_order, root_printed, root_whole}
 use Rattle.prepared_runs.proofs.ShapeFacts.{last_level, order_of}
 use Rattle.safebound_top.proofs.texts.write_joined.Goals as goal
@@ -17,7 +17,7 @@ write_rows-requires g c =
     let is = rw c.in-Levels.is at c.requires.joined.1 in
     rw c.as_slice.ensures (record {
       database = c.requires.database;
-      order = order_of query (shaped.Along plan) is.plan_of.for_each_entry;
+      order = order_of query (shaped.OrderPlan plan) is.plan_of.for_each_entry;
       last = λ k last. is.choices k (omega (arith, last)) ∙ last_level query c.args.db.now plan lists c.requires.database is.rows is.plan_of.for_each_entry k last;
       count = is.count;
     })

@@ -6,7 +6,7 @@ use Rattle.printed_texts.specs.Texts.{rows_lines}
 use Rattle.sql_meaning.specs.Tables.{tables_of}
 use Rattle.prepared_runs.specs.Kept.{plan_joined}
 use Rattle.prepared_runs.specs.Shapes.{joined_entries, part_sizes, shape_audits}
-use Rattle.prepared_runs.specs.declared.shapes.Shaped.{Shaped}
+use Rattle.prepared_runs.specs.declared.shapes.AnyPlan.{AnyPlan}
 use Rattle.prepared_runs.proofs.KeptFacts.{are_done, counts_are, has_parts}
 use Rattle.safebound_top.proofs.texts.write_rest.Goals as goal
 
@@ -19,7 +19,7 @@ write_joined-result-requires-clause-joined g c = (lists_of c.in-Rows.joins.lists
 pub returns-in-Rows-clause-text : goal.returns-in-Rows-clause-text
 returns-in-Rows-clause-text g c =
     let query = c.args.query.now in
-    rw c.in-Rows.is (wrote_as _ (ap (λ (plan : Shaped). rows_lines query.select (printed_rows query c.args.db.now (joined_entries plan))) c.join-joined.ensures.plan)
+    rw c.in-Rows.is (wrote_as _ (ap (λ (plan : AnyPlan). rows_lines query.select (printed_rows query c.args.db.now (joined_entries plan))) c.join-joined.ensures.plan)
     c.write_joined-result.ensures)
 
 pub returns-in-Rows-clause-kept : goal.returns-in-Rows-clause-kept
@@ -42,7 +42,7 @@ returns-in-Audit-clause-text g c =
     let lists = lists_of c.in-Audit.joins.lists.items in
     let done = c.join-joined-in-Audit in
     rw c.in-Audit.is (wrote_as _ (ap (λ (counts : List ℕ). shape_audits query.from (plan_joined done.result) counts) (counts_are query db lists done.result done.ensures.joined)
-    ∙ ap (λ (plan : Shaped). shape_audits query.from plan (part_sizes query (tables_of db) lists plan)) done.ensures.plan)
+    ∙ ap (λ (plan : AnyPlan). shape_audits query.from plan (part_sizes query (tables_of db) lists plan)) done.ensures.plan)
     (rw c.as_slice.ensures at c.write_sizes-result.ensures))
 
 pub returns-in-Audit-clause-kept : goal.returns-in-Audit-clause-kept

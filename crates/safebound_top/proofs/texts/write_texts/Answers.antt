@@ -2,17 +2,17 @@ use Rattle.std.proofs.Common.{◌≡◌, ℕ, List, ◌++◌, ap, ◌∙◌}
 use Rattle.printed_texts.specs.Memory.{memory_text}
 use Rattle.query_types.specs.declared.types.Source.{Source}
 use Rattle.sql_meaning.proofs.AnswerFacts.{own_entries}
-use Rattle.prepared_runs.specs.Prepared.{accepted_of, plan_left}
+use Rattle.prepared_runs.specs.PreparedQuery.{accepted_of, plan_left}
 use Rattle.prepared_runs.specs.Shapes.{shape_bytes, shape_lines}
 use Rattle.safebound_top.specs.Texts.{plan_text}
-use Rattle.prepared_runs.specs.declared.prepare.Prepared.{Prepared}
+use Rattle.prepared_runs.specs.declared.prepare.PreparedQuery.{PreparedQuery}
 use Rattle.prepared_runs.proofs.KeptFacts.{kept_is}
 use Rattle.safebound_top.proofs.RestTexts.{rest_is}
 use Rattle.safebound_top.proofs.TextSteps.{both_wrote, notes_cut, out_cut}
 use Rattle.safebound_top.proofs.texts.write_texts.Goals as goal
 
 -- the plan text, with its bytes
-text_is : (p : Prepared) {sources : List Source} → sources ≡ p.query.from → p.bytes ≡ shape_bytes (plan_left p.rest)
+text_is : (p : PreparedQuery) {sources : List Source} → sources ≡ p.query.from → p.bytes ≡ shape_bytes (plan_left p.rest)
     → shape_lines sources (plan_left p.rest) ++ memory_text p.memory p.bytes ≡ plan_text (accepted_of p)
 text_is p from bytes =
     ap (λ (s : List Source). shape_lines s (plan_left p.rest) ++ memory_text p.memory p.bytes) from

@@ -4,8 +4,8 @@ use Rattle.outcomes.specs.declared.refusal.Refusal.{Refusal}
 use Rattle.outcomes.proofs.StatusFacts.{ended_not_done}
 use Rattle.safebound_top.specs.Course.{Stopped, Went}
 use Rattle.prepared_runs.specs.Kept.{IsKept}
-use Rattle.prepared_runs.specs.Outcome.{Outcome}
-use Rattle.prepared_runs.specs.Ready.{outcome_of}
+use Rattle.prepared_runs.specs.RunOutcome.{RunOutcome}
+use Rattle.prepared_runs.specs.PreparedRun.{outcome_of}
 use Rattle.safebound_top.proofs.top_call.run_over.Goals as goal
 
 pub returns-in-Ok-clause-ran : goal.returns-in-Ok-clause-ran
@@ -13,7 +13,7 @@ returns-in-Ok-clause-ran g c = Went (outcome_of c.args.schema.now c.in-Ok.ready)
 
 pub returns-in-Ok-clause-kept : goal.returns-in-Ok-clause-kept
 returns-in-Ok-clause-kept g c done files told =
-    subst (λ (r : Result Outcome Refusal). IsOkAnd r (λ outcome. IsKept outcome c.written.new.kept)) (sym (c.in-Ok.ensures.reads.gives files told)) (c.written.ensures.kept done)
+    subst (λ (r : Result RunOutcome Refusal). IsOkAnd r (λ outcome. IsKept outcome c.written.new.kept)) (sym (c.in-Ok.ensures.reads.gives files told)) (c.written.ensures.kept done)
 
 pub returns-in-Err-clause-ran : goal.returns-in-Err-clause-ran
 returns-in-Err-clause-ran g c = Stopped c.in-Err.ending c.stopped.ensures.status c.in-Err.ensures.reads (refl, refl) c.stopped.ensures.told

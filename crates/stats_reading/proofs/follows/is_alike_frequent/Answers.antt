@@ -10,4 +10,4 @@ returns-in-Some c =
     let s = c.args.draft.now in
     let f : Datum × List ℕ = (c.args.value.now, c.args.list.now) in
     subst (λ (n : ℕ). IsTrue c.has_value.result ↔ ((q : Pair) → IsLike s q → IsSameValue n f q)) c.len.ensures
-    (only_here s.section.pairs s.like c.in-Some.like.now (IsSameValue c.len.result f) c.has_value.result c.in-Some.ensures c.has_value.ensures)
+    (only_here s.section.pairs s.same_filter_at c.in-Some.same_filter_at.now (IsSameValue c.len.result f) c.has_value.result c.in-Some.ensures c.has_value.ensures)

@@ -1,7 +1,7 @@
 use Rattle.std.proofs.Common.{ℕ, List, Some, ap}
 use Rattle.std.specs.Prelude.{codes}
 use Rattle.safebound_words.specs.declared.command.ListSource.TheVariants as sources
-use Rattle.prepared_runs.specs.Outcome.{Planned}
+use Rattle.prepared_runs.specs.RunOutcome.{Planned}
 use Rattle.worked_run.specs.Meaning.{two_tables_reduced}
 use Rattle.worked_run.specs.TwoTables.{counted_words, small_files}
 use Rattle.worked_run.proofs.Calls.{answers_done}

@@ -1,7 +1,7 @@
 use Rattle.std.proofs.Common.{◌<◌, ℕ, List, length, ap, refl, sym, subst, arith}
 use Rattle.std.specs.List.{All}
 use Rattle.cond_stats.specs.Columns.{cell_le}
-use Rattle.cond_stats.specs.Order.{AreInOrder}
+use Rattle.cond_stats.specs.Order.{AreInValueOrder}
 use Rattle.cond_stats.specs.Runs.{AreInRuns}
 use Rattle.cond_stats.specs.declared.groups.Group.{Group}
 use Rattle.cond_stats.proofs.InOrderFacts.{as_many, places_within}
@@ -21,7 +21,7 @@ invariant_of-result c =
       moved = in_runs.order.moved;
       groups_are = c.by_frequency-groups.ensures (cell_le c.args.pool.now c.args.kind) c.args.cells.now c.in_ok-places.field-0.places.items c.requires.rows in_runs;
       cuts_are = c.in_ok-cuts.ensures (cell_le c.args.pool.now c.args.kind) in_runs.numbers
-          (subst (λ (s : List ℕ). AreInOrder (cell_le c.args.pool.now c.args.kind) c.args.cells.now in_runs.numbers s) (sym c.as_slice.ensures.value) in_runs.order);
+          (subst (λ (s : List ℕ). AreInValueOrder (cell_le c.args.pool.now c.args.kind) c.args.cells.now in_runs.numbers s) (sym c.as_slice.ensures.value) in_runs.order);
       starts_are = c.in_ok-starts.ensures (cell_le c.args.pool.now c.args.kind) c.args.cells.now c.in_ok-places.field-0.places.items refl
           (subst (λ (s : List Group). AreInRuns (cell_le c.args.pool.now c.args.kind) c.args.cells.now c.in_ok-places.field-0.places.items s) (sym c.as_slice-2.ensures.value) in_runs);
     }

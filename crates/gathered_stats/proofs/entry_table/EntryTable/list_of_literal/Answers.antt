@@ -7,7 +7,7 @@ use Rattle.schema_types.specs.declared.types.Kind.TheVariants as kind
 use Rattle.cond_stats.specs.Lists.{list_of_value}
 use Rattle.filtered_lists.specs.Lists.{ColumnLists}
 use Rattle.predicate_bounds.specs.Steps.{value_of}
-use Rattle.table_stats.specs.Cells.{StandsFor}
+use Rattle.table_stats.specs.Cells.{IsCellFor}
 use Rattle.gathered_stats.specs.declared.filters.Filter.{Filter}
 use Rattle.gathered_stats.specs.Columns.{HaveLists}
 use Rattle.gathered_stats.specs.Seen.{seen}
@@ -33,8 +33,8 @@ returns-clause-list c =
     let is : IsColumnIn c.args.self.now.pool.now (seen c.args.self.now) c.args.column c.find-sorted.result.now =
     c.find-sorted.ensures c.args.self.now.pool.now (seen c.args.self.now)
     (subst (λ (s : List Filter). All (IsFilterOf c.args.self.now.pool.now (seen c.args.self.now)) s) (sym c.as_slice.ensures) c.requires.ready.filters) in
-    let stands : StandsFor c.args.self.now.pool.now _ (value_of c.args.literal.now) c.cell_of_literal-cell.result =
-    subst (λ (k : Kind). StandsFor c.args.self.now.pool.now k (value_of c.args.literal.now) c.cell_of_literal-cell.result)
+    let stands : IsCellFor c.args.self.now.pool.now _ (value_of c.args.literal.now) c.cell_of_literal-cell.result =
+    subst (λ (k : Kind). IsCellFor c.args.self.now.pool.now k (value_of c.args.literal.now) c.cell_of_literal-cell.result)
     (sym (ap (λ (kinds : List Kind). get_or kinds c.args.column kind.Int) (seen_kinds c.args.self.now)
     ∙ get_or_from_slice_get c.args.self.now.cells.now.kinds c.args.column c.get-kind.result.now kind.Int c.get-kind.ensures)) c.cell_of_literal-cell.ensures in
     IfOk-weaker c.list_of_cell.result

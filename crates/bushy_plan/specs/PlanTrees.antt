@@ -1,0 +1,54 @@
+-- Join trees. A set of entries is a number: entry x is in it where bit x is set.
+use Rattle.std.specs.Prelude.{◌≡◌, ℕ, ◌+◌, ◌^◌, ◌<◌, List, [], ◌∷◌, ◌++◌, slice_index}
+use Rattle.std.specs.Int.{bit_at}
+use Rattle.tree_plans.specs.declared.bushy.Join.{Join}
+
+-- a leaf is an entry; an inner node joins its left and its right subtree
+pub data PlanTree : Type 0 where
+  leaf : ℕ → PlanTree
+  node : PlanTree → PlanTree → PlanTree
+
+-- the set of the entries at its leaves
+abbrev pub leaf_set : PlanTree → ℕ
+leaf_set (leaf entry) = 2 ^ entry
+leaf_set (node left right) = leaf_set left + leaf_set right
+
+-- the entry is in the set, and none before it is
+pub record IsFirstEntry (set first : ℕ) : Type 0 where
+  pub is_in : bit_at set first ≡ 1
+  pub none_before : (entry : ℕ) → entry < first → bit_at set entry ≡ 0
+
+-- each entry of the set is in one of two sets, which are not empty, and the set's first entry is in the left one
+pub record IsSplit (set left right : ℕ) : Type 0 where
+  pub apart : (entry : ℕ) → bit_at left entry + bit_at right entry ≡ bit_at set entry
+  pub some_left : 0 < left
+  pub some_right : 0 < right
+  pub first_left : (first : ℕ) → IsFirstEntry set first → bit_at left first ≡ 1
+
+-- the trees over a set: of one entry its leaf, and of more a split and a tree over each side
+abbrev pub IsTreeOver : ℕ → PlanTree → Type 0
+IsTreeOver set (leaf entry) = set ≡ 2 ^ entry
+IsTreeOver set (node left right) = IsSplit set (leaf_set left) (leaf_set right) × IsTreeOver (leaf_set left) left
+    × IsTreeOver (leaf_set right) right
+
+-- how many inner nodes a tree has
+abbrev pub inner_count : PlanTree → ℕ
+inner_count (leaf entry) = 0
+inner_count (node left right) = inner_count left + inner_count right + 1
+
+-- The number of the root: of a leaf its entry. Inner nodes are numbered from `next` on, each behind its left and then its right subtree.
+abbrev pub root_number : ℕ → PlanTree → ℕ
+root_number next (leaf entry) = entry
+root_number next (node left right) = next + inner_count left + inner_count right
+
+-- the joins of the inner nodes in the order of their numbers, each with the bound of its entries' set
+abbrev pub joins_from : List ℕ → ℕ → PlanTree → List Join
+joins_from bounds next (leaf entry) = []
+joins_from bounds next (node left right) =
+    joins_from bounds next left
+    ++ joins_from bounds (next + inner_count left) right
+    ++ record {
+      left = root_number next left;
+      right = root_number (next + inner_count left) right;
+      bound = slice_index bounds (leaf_set left + leaf_set right);
+    } ∷ []

@@ -1,5 +1,0 @@
-use Rattle.filed_bounds.proofs.Answering.{never_under}
-use Rattle.filed_bounds.proofs.laws.plans_from_files_are_never_under.Goals as goal
-
-pub returns : goal.returns
-returns c = never_under

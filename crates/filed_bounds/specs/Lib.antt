@@ -1,7 +1,0 @@
-pub mod Found
-pub mod Filed
-pub mod Entries
-pub mod Compared
-pub mod Errors
-pub mod Plans
-pub mod Examples

@@ -1,6 +1,0 @@
-use Rattle.std.proofs.Common.{◌≡◌, ◌==◌, ℕ, ◌<◌, false}
-use Rattle.filed_stats.specs.Needs.{table_of}
-use Rattle.filed_stats.proofs.files.first_entry.Given as goal
-
-abbrev pub invariant-loop-entry : goal.invariant-loop-entry
-invariant-loop-entry l = (k : ℕ) → k < l.entry → (table_of l.query k == l.table) ≡ false

@@ -1,6 +1,0 @@
-use Rattle.std.proofs.Common.{◌≡◌}
-use Rattle.filed_stats.specs.Databases.{sections_of_cells}
-use Rattle.filed_stats.proofs.files.sections_of.Given as goal
-
-abbrev pub invariant-loop-table : goal.invariant-loop-table
-invariant-loop-table l = l.sections ≡ sections_of_cells l.query l.db l.accuracy l.table

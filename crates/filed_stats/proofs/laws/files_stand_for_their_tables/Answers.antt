@@ -1,5 +1,0 @@
-use Rattle.filed_stats.proofs.Standing.{file_stands}
-use Rattle.filed_stats.proofs.laws.files_stand_for_their_tables.Goals as goal
-
-pub returns : goal.returns
-returns c = λ schema query tables accuracy share. file_stands schema query tables share accuracy

@@ -1,6 +1,0 @@
-use Rattle.std.proofs.Common.{◌≡◌, ◌++◌, map, take}
-use Rattle.filed_stats.specs.ColumnPairs.{of_itself}
-use Rattle.filed_stats.proofs.needs.add_themselves.Given as goal
-
-abbrev pub invariant-loop-column : goal.invariant-loop-column
-invariant-loop-column l = l.pairs ≡ l.initial.pairs ++ map of_itself (take l.column-index l.columns)

@@ -1,6 +1,0 @@
-use Rattle.std.proofs.Common.{◌≡◌, ◌++◌, map, take}
-use Rattle.filed_stats.specs.Pairs.{pair_in_cells}
-use Rattle.filed_stats.proofs.pairs.add_each.Given as goal
-
-abbrev pub invariant-loop-column : goal.invariant-loop-column
-invariant-loop-column l = l.pairs ≡ l.initial.pairs ++ map (pair_in_cells l.pool l.cells l.accuracy l.filter) (take l.column-index l.joined)

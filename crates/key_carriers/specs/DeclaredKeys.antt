@@ -1,0 +1,23 @@
+-- Tables whose declared keys hold, as those of files that were read do.
+use Rattle.std.specs.Prelude.{◌≡◌, ℕ, ◌<◌, true}
+use Rattle.std.specs.List.{AllByRecursion}
+use Rattle.std.specs.Ordering.{is_eq}
+use Rattle.csv_tables.specs.Values.{value_cmp}
+use Rattle.schema_types.specs.declared.types.Schema.{Schema}
+use Rattle.query_types.specs.declared.types.Query.{Query}
+use Rattle.berge_tree.specs.Equalities.{places_of}
+use Rattle.join_graph.specs.Conjuncts.{equalities_of}
+use Rattle.tree_bounds.specs.Columns.{EachNamedColumn}
+use Rattle.sql_meaning.specs.Tables.{Tables, row_counts}
+use Rattle.level_bounds.specs.Keys.{value_at}
+use Rattle.key_carriers.specs.Carriers.{is_declared_key, table_of}
+
+-- no two rows of an entry's table have one value in a column
+abbrev pub HaveUniqueValues : Tables → ℕ → ℕ → Type 0
+HaveUniqueValues tables entry column = (row other : ℕ) → row < row_counts tables entry → other < row_counts tables entry
+    → is_eq (value_cmp (value_at tables entry column row) (value_at tables entry column other)) ≡ true → row ≡ other
+
+-- this holds of each column that the query's equalities name and that alone is a key of its table
+abbrev pub DeclaredKeysHold : Schema → Query → Tables → Type 0
+DeclaredKeysHold schema query tables =
+    EachNamedColumn (λ entry column. is_declared_key schema (table_of query entry) column ≡ true → HaveUniqueValues tables entry column) (equalities_of query)

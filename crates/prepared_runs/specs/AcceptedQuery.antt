@@ -1,0 +1,73 @@
+-- What a run is over, and what it means.
+use Rattle.std.specs.Prelude.{ℕ, ◌≡◌, ◌<◌, ◌≤◌, List, map, length, slice_index, IsPermutation, Option}
+use Rattle.csv_tables.specs.Rows.{Row}
+use Rattle.query_types.specs.declared.types.Query.{Query}
+use Rattle.sql_meaning.specs.Answers.{answer, conjuncts_of, selected}
+use Rattle.sql_meaning.specs.Levels.{row_in, scan}
+use Rattle.sql_meaning.specs.Tables.{Tables, row_counts}
+use Rattle.join_steps.specs.Lists.{list_at, list_levels}
+use Rattle.reduced_scans.specs.Rounds.{reduced_of}
+use Rattle.table_files.specs.EntryTables.{tables_in}
+use Rattle.prepared_runs.specs.Shapes.{IsShapedPlan, joined_entries, part_bound, part_count, part_rows, part_sizes, scan_bounds, whole_parts}
+use Rattle.prepared_runs.specs.declared.shapes.AnyPlan.{AnyPlan}
+use Rattle.safebound_words.specs.declared.command.ListSource.{ListSource}
+use Rattle.safebound_words.specs.declared.command.ListSource.TheVariants as sources
+use Rattle.safebound_words.specs.declared.command.OutText.{OutText}
+
+-- a query, for each of its FROM entries the rows of its table, its plan, what this is made from, for each entry the numbers of the rows that
+-- are joined, the limit of memory, if there is one, and which text goes to out
+pub record AcceptedQuery : Type 0 where
+  pub query : Query
+  pub rows : List (List Row)
+  pub plan : AnyPlan
+  pub source : ListSource
+  pub lists : List (List ℕ)
+  pub memory : Option ℕ
+  pub out : OutText
+
+abbrev pub tables : AcceptedQuery → Tables
+tables run = tables_in run.rows
+
+-- the rows of an entry's scan
+abbrev pub scan_rows : AcceptedQuery → ℕ → List ℕ
+scan_rows run entry = list_at run.lists entry
+
+-- how many rows each level of the plan's order has, from the first entry's on; or each inner node of its tree
+abbrev pub part_counts : AcceptedQuery → List ℕ
+part_counts run = part_sizes run.query (tables run) run.lists run.plan
+
+-- the choices of one row of each scan for which every conjunct holds, in lexicographic order
+abbrev pub joined_rows : AcceptedQuery → List (List ℕ)
+joined_rows run = list_levels run.query (tables run) run.lists (joined_entries run.plan) (length (joined_entries run.plan))
+
+-- the rows that are printed: the outputs of each of these choices, in their order
+abbrev pub printed : AcceptedQuery → List Row
+printed run = map (λ choice. selected run.query (tables run) (row_in (joined_entries run.plan) choice)) (joined_rows run)
+
+-- its scans have the rows for which every conjunct holds that names just this entry, and its levels or nodes are those over whole tables
+pub record IsOverWholeScans (run : AcceptedQuery) : Type 0 where
+  pub scans : (entry : ℕ) → entry < length run.query.from
+      → scan_rows run entry ≡ scan (conjuncts_of run.query (tables run)) (row_counts (tables run)) entry
+  pub parts : (k : ℕ) → k < part_count run.plan
+      → part_rows run.query (tables run) run.lists run.plan k ≡ whole_parts run.query (tables run) run.plan k
+
+-- its scans are the reduced ones, the greatest with a partner for each row (law `reduced_scans_are_by_rounds` of reduced_scans), and each has
+-- exactly as many rows as the plan says
+pub record IsOverReducedScans (run : AcceptedQuery) : Type 0 where
+  pub scans : run.lists ≡ reduced_of run.query (tables run)
+  pub exact : (entry : ℕ) → entry < length run.query.from → slice_index (scan_bounds run.plan) entry ≡ length (scan_rows run entry)
+
+-- the plan has each FROM entry once, and no scan and no level of its order, or inner node of its tree, has more rows than it says. Which scans
+-- these are, each source says
+pub record BoundsHold (run : AcceptedQuery) : Type 0 where
+  pub plan : IsShapedPlan (length run.query.from) run.plan
+  pub scans : (entry : ℕ) → entry < length run.query.from → length (scan_rows run entry) ≤ slice_index (scan_bounds run.plan) entry
+  pub parts : (k : ℕ) → k < part_count run.plan → length (part_rows run.query (tables run) run.lists run.plan k) ≤ part_bound run.plan k
+  pub of_columns : run.source ≡ sources.Columns → IsOverWholeScans run
+  pub of_keyed : run.source ≡ sources.Keyed → IsOverWholeScans run
+  pub of_reduced : run.source ≡ sources.Reduced → IsOverReducedScans run
+  pub of_counted : run.source ≡ sources.Counted → IsOverReducedScans run
+
+-- the rows printed are the answer of the query, each as often as there
+abbrev pub RowsAreTheAnswer : AcceptedQuery → Type 0
+RowsAreTheAnswer run = IsPermutation (printed run) (answer run.query (tables run))

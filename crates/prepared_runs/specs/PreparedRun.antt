@@ -1,0 +1,46 @@
+-- What was read and planned, as what the run comes to.
+use Rattle.std.specs.Prelude.{◌≡◌, length}
+use Rattle.plans.specs.LeftDeep.{IsPlan}
+use Rattle.reserve_plan.specs.Memory.{plan_bytes}
+use Rattle.schema_types.specs.declared.types.Schema.{Schema}
+use Rattle.stats_file.specs.Rules.{KeepsRules}
+use Rattle.table_files.specs.EntryTables.{entry_rows, rows_of_read}
+use Rattle.prepared_runs.specs.declared.append.PreparedAppend.{PreparedAppend}
+use Rattle.prepared_runs.specs.declared.stats_files.PreparedStatsFilePlan.{PreparedStatsFilePlan}
+use Rattle.prepared_runs.specs.declared.stats_files.PreparedStatsFile.{PreparedStatsFile}
+use Rattle.prepared_runs.specs.declared.prepare.PreparedQuery.{PreparedQuery}
+use Rattle.prepared_runs.specs.declared.prepare.PreparedRun.{PreparedRun}
+use Rattle.prepared_runs.specs.declared.prepare.PreparedRun.TheVariants as ready
+use Rattle.prepared_runs.specs.RunOutcome.{Appended, StatsMade, RunOutcome, Planned, PlannedFromStats}
+use Rattle.prepared_runs.specs.PreparedQuery.{IsPrepared, accepted_of}
+
+abbrev pub planned_outcome : PreparedQuery → RunOutcome
+planned_outcome prepared = Planned (accepted_of prepared)
+
+abbrev pub file_from : Schema → PreparedStatsFile → RunOutcome
+file_from schema made_stats = StatsMade (record { schema = schema; query = made_stats.query; rows = entry_rows made_stats.db; file = made_stats.file })
+
+abbrev pub plan_from : PreparedStatsFilePlan → RunOutcome
+plan_from made = PlannedFromStats (record { query = made.query; file = made.file; plan = made.plan; memory = made.memory })
+
+abbrev pub appended_from : Schema → PreparedAppend → RunOutcome
+appended_from schema made = Appended (record { schema = schema; table = made.table; rows = rows_of_read made.rows; file = made.file })
+
+abbrev pub outcome_of : Schema → PreparedRun → RunOutcome
+outcome_of schema (ready.Planned prepared) = planned_outcome prepared
+outcome_of schema (ready.StatsMade made_stats) = file_from schema made_stats
+outcome_of schema (ready.PlannedFromStats made) = plan_from made
+outcome_of schema (ready.Appended made) = appended_from schema made
+
+-- a plan for the query's entries, with its bytes
+pub record IsPlanned (made : PreparedStatsFilePlan) : Type 0 where
+  pub plan : IsPlan (length made.query.from) made.plan
+  pub bytes : made.bytes ≡ plan_bytes made.plan.order made.plan.scans made.plan.levels
+
+-- all that is left to write can be written without memory: a query, the database of its tables, a plan for its entries, and the room for
+-- what is left to do; a file that keeps the rules; or a plan for the query's entries
+abbrev pub CanBeWritten : Schema → PreparedRun → Type 0
+CanBeWritten schema (ready.Planned prepared) = IsPrepared prepared
+CanBeWritten schema (ready.StatsMade made_stats) = KeepsRules schema made_stats.file
+CanBeWritten schema (ready.PlannedFromStats made) = IsPlanned made
+CanBeWritten schema (ready.Appended made) = KeepsRules schema made.file

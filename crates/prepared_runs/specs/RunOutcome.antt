@@ -1,0 +1,83 @@
+-- The outcome of a run that isn't refused, as the words and the files determine it, and what holds of it.
+use Rattle.std.specs.Prelude.{ℕ, ◌≡◌, List, Option, ⊤}
+use Rattle.appended_stats.specs.Appended.{file_after}
+use Rattle.appended_stats.specs.Conditions.{HasNewRows}
+use Rattle.csv_tables.specs.Rows.{Row}
+use Rattle.stats_file_of_query.specs.Standing.{StandsFor}
+use Rattle.join_steps.specs.Lists.{scans_of}
+use Rattle.join_steps.specs.Plans.{IsPlanOf}
+use Rattle.plans.specs.declared.left_deep.Plan.{Plan}
+use Rattle.query_types.specs.declared.types.Query.{Query}
+use Rattle.reserve_plan.specs.Memory.{plan_bytes}
+use Rattle.schema_types.specs.declared.types.Schema.{Schema}
+use Rattle.sql_meaning.specs.Tables.{Tables}
+use Rattle.stats_file.specs.Rules.{KeepsRules}
+use Rattle.stats_file.specs.declared.types.StatsFile.{StatsFile}
+use Rattle.table_files.specs.EntryTables.{tables_in}
+use Rattle.prepared_runs.specs.AcceptedQuery.{AcceptedQuery, BoundsHold, RowsAreTheAnswer}
+use Rattle.prepared_runs.specs.Limits.{IsWithinLimit}
+use Rattle.prepared_runs.specs.Shapes.{shape_bytes}
+
+-- a statistics file of a query, and for each FROM entry the rows of its table, from which the file is made
+pub record StatsFileOfTables : Type 0 where
+  pub schema : Schema
+  pub query : Query
+  pub rows : List (List Row)
+  pub file : StatsFile
+
+-- a plan of a query, the statistics file from which it is made, and the limit of memory, if there is one
+pub record PlanFromStatsFile : Type 0 where
+  pub query : Query
+  pub file : StatsFile
+  pub plan : Plan
+  pub memory : Option ℕ
+
+-- a statistics file over a schema, the place of a table, and the new rows of this table that are in the file
+pub record AppendedRows : Type 0 where
+  pub schema : Schema
+  pub table : ℕ
+  pub rows : List Row
+  pub file : StatsFile
+
+-- a plan over tables, with what is joined; a statistics file of tables; a plan from a statistics file; or a statistics file with new rows
+pub data RunOutcome : Type 0 where
+  Planned : AcceptedQuery → RunOutcome
+  StatsMade : StatsFileOfTables → RunOutcome
+  PlannedFromStats : PlanFromStatsFile → RunOutcome
+  Appended : AppendedRows → RunOutcome
+
+-- for all tables for which the file stands, no scan and no level of the plan's order has more rows than the plan says
+abbrev pub HoldsWhereItStands : PlanFromStatsFile → Type 0
+HoldsWhereItStands made = (tables : Tables) → StandsFor made.query made.file tables
+    → IsPlanOf made.query tables (scans_of made.query tables) made.plan
+
+-- The file is an earlier file with these rows added. If the earlier file stood for some tables, this one stands for the same tables with
+-- these rows at the end of their table.
+pub record StandsForMore (made : AppendedRows) : Type 0 where
+  pub before : StatsFile
+  pub keeps : KeepsRules made.schema before
+  pub grown : made.file ≡ file_after before made.table made.rows
+  pub stands : (query : Query) (tables after : Tables) → StandsFor query before tables → HasNewRows query made.table made.rows tables after
+      → StandsFor query made.file after
+
+-- No bound is too low. A plan over tables has bounds for these tables. A plan from a file has bounds for all tables for which the file stands.
+-- A file that is written stands for its tables, and a file with new rows stands for what it stood for before, with these rows.
+abbrev pub NoBoundIsTooLow : RunOutcome → Type 0
+NoBoundIsTooLow (Planned run) = BoundsHold run
+NoBoundIsTooLow (StatsMade made_stats) = StandsFor made_stats.query made_stats.file (tables_in made_stats.rows)
+NoBoundIsTooLow (PlannedFromStats made) = HoldsWhereItStands made
+NoBoundIsTooLow (Appended made) = StandsForMore made
+
+-- the rows that are printed, if any, are the answer of the query
+abbrev pub PrintsTheAnswer : RunOutcome → Type 0
+PrintsTheAnswer (Planned run) = RowsAreTheAnswer run
+PrintsTheAnswer (StatsMade made_stats) = ⊤
+PrintsTheAnswer (PlannedFromStats made) = ⊤
+PrintsTheAnswer (Appended made) = ⊤
+
+-- a plan takes no more bytes than its limit of memory, if there is one
+abbrev pub KeepsItsLimit : RunOutcome → Type 0
+KeepsItsLimit (Planned run) = IsWithinLimit run.memory (shape_bytes run.plan)
+KeepsItsLimit (StatsMade made_stats) = ⊤
+KeepsItsLimit (PlannedFromStats made) = IsWithinLimit made.memory (plan_bytes made.plan.order made.plan.scans made.plan.levels)
+KeepsItsLimit (Appended made) = ⊤

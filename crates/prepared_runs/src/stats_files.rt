@@ -1,0 +1,188 @@
+//! Statistics files: one that is read, a plan from it, and one that is made of a query's tables.
+ghost use Rattle.std.specs.Prelude.{◌≡◌, ◌≤◌, IfErr, IfOk, Ok, length};
+ghost use Rattle.limits.specs.Profile.{most_budget, most_entries};
+ghost use Rattle.base_io.specs.Devices.{reading};
+ghost use Rattle.stats_file_of_query.specs.Databases.{IsReadOver};
+ghost use Rattle.outcomes.specs.Reads.{AtFile, Reads, StopsBy, seen};
+ghost use Rattle.plans.specs.LeftDeep.{IsPlan};
+ghost use Rattle.query_types.specs.Validity.{IsOf};
+ghost use Rattle.schema_types.specs.Validity.{IsValid};
+ghost use Rattle.stats_file.specs.Rules.{KeepsRules};
+ghost use Rattle.stats_reading.specs.Names.{HasByteColumns};
+ghost use Rattle.sql_meaning.specs.Tables.{tables_of};
+ghost use Rattle.table_files.specs.EntryTables.{entry_rows, tables_in};
+ghost use Rattle.table_files.specs.Stage.{IsReached, tables_of_query};
+ghost use Rattle.safebound_words.specs.declared.command.Work.TheVariants as works;
+ghost use Rattle.prepared_runs.specs.StatsFiles.{stats_file_ending, stats_file_plan_stage, stats_file_plan_within, stats_stage, stats_file_of_tables};
+ghost use Rattle.prepared_runs.specs.PreparedRun.{IsPlanned, file_from, plan_from};
+ghost use Rattle.prepared_runs.specs.Verdict.{work_run};
+
+use crate::limit::{keep_limit, order_memory};
+use base_io::{NoMemory, Store};
+use csv_tables::Database;
+use limits::{Accuracy, MOST_FILE};
+use outcomes::{Ending, FileId, Refusal, StatsCause};
+use plans::Plan;
+use query_types::Query;
+use safebound_words::Word;
+use schema_types::Schema;
+use stats_file::StatsFile;
+use stats_file_bounds::{StatsFilePlanError, plan_from_file};
+use stats_file_of_query::stats_of;
+use stats_reading::read_stats;
+use std::alloc::Global;
+use table_files::{load_file, read_tables};
+
+/// A statistics file of a query's tables, and the database from which it was made.
+#[derive(Drop)]
+pub struct PreparedStatsFile {
+    pub query: Query,
+    pub db: Database,
+    pub file: StatsFile,
+}
+
+/// A plan of a query, the statistics file from which it was made, the limit of memory, if there is one, and the bytes of the plan.
+#[derive(Drop)]
+pub struct PreparedStatsFilePlan {
+    pub query: Query,
+    pub file: StatsFile,
+    pub plan: Plan,
+    pub memory: Option<u64>,
+    pub bytes: u128,
+}
+
+/// Reads the statistics file of this name over a schema.
+pub(crate) fn load_stats<S: Store>(
+    alloc: Global,
+    store: &mut S,
+    name: &Word,
+    schema: &Schema,
+) -> Result<StatsFile, Ending>
+    requires valid { IsValid schema.now }
+    requires bytes { HasByteColumns schema.now }
+    ensures rules { IfOk result (KeepsRules schema.now) }
+    ensures reads { Reads (reading S.files S.faults S.misses store.old store.new) (stats_stage name.now schema.now)
+        (AtFile FileId.Stats) result }
+{
+    let text = load_file(alloc, store, FileId::Stats, name.get(), MOST_FILE)?;
+    let file = read_stats(alloc, schema, text.as_slice())?;
+    Ok(file)
+}
+
+// How planning from a file ended.
+fn ending_of(error: StatsFilePlanError) -> Ending
+    ensures { result ≡ stats_file_ending error }
+{
+    match error {
+        StatsFilePlanError::Missing { from } => Ending::Refused(Refusal::Stats {
+            cause: StatsCause::Missing,
+            at: u32::from(from),
+        }),
+        StatsFilePlanError::Plan(error) => Ending::from(error),
+    }
+}
+
+// Answers the plan, unless it takes more bytes than the limit of memory.
+fn limited(
+    query: Query,
+    file: StatsFile,
+    plan: Plan,
+    memory: Option<u64>,
+) -> Result<PreparedStatsFilePlan, Ending>
+    requires some { 1 ≤ length query.from }
+    requires few { length query.from ≤ most_entries }
+    requires plan { IsPlan (length query.from) plan }
+    ensures plan { IfOk result IsPlanned }
+    ensures within { IfOk result (λ made. stats_file_plan_within query file plan memory ≡ Ok (plan_from made)) }
+    ensures refused { IfErr result (StopsBy (stats_file_plan_within query file plan memory)) }
+{
+    let bytes = order_memory(&plan);
+    keep_limit(memory, bytes)?;
+    Ok(PreparedStatsFilePlan {
+        query,
+        file,
+        plan,
+        memory,
+        bytes,
+    })
+}
+
+// Plans a query from a statistics file, within a budget and a limit of memory. It reads no table.
+fn plan_from_stats_file(
+    alloc: Global,
+    schema: &Schema,
+    query: Query,
+    file: StatsFile,
+    budget: u64,
+    memory: Option<u64>,
+) -> Result<PreparedStatsFilePlan, Ending>
+    requires query { IsOf schema.now query }
+    requires file { KeepsRules schema.now file }
+    requires budget { budget ≤ most_budget }
+    ensures plan { IfOk result IsPlanned }
+    ensures planned { IfOk result (λ made. stats_file_plan_stage query file budget memory ≡ Ok (plan_from made)) }
+    ensures refused { IfErr result (StopsBy (stats_file_plan_stage query file budget memory)) }
+{
+    match plan_from_file(alloc, &query, &file, budget) {
+        Ok(plan) => limited(query, file, plan, memory),
+        Err(error) => Err(ending_of(error)),
+    }
+}
+
+// Makes the statistics file of a query's tables, compressed at an accuracy.
+fn file_tables(
+    alloc: Global,
+    schema: &Schema,
+    query: Query,
+    db: Database,
+    accuracy: Accuracy,
+) -> Result<PreparedStatsFile, NoMemory>
+    requires over { IsReadOver schema.now query db }
+    requires tables { tables_in (entry_rows db) ≡ tables_of db }
+    ensures rules { IfOk result (λ made_stats. KeepsRules schema.now made_stats.file) }
+    ensures made_stats { IfOk result (λ made_stats. file_from schema.now made_stats ≡ stats_file_of_tables schema.now query (entry_rows db) accuracy) }
+{
+    let file = stats_of(alloc, schema, &query, &db, accuracy)?;
+    Ok(PreparedStatsFile { query, db, file })
+}
+
+/// Reads the tables of a query, and makes their statistics file.
+pub fn prepare_stats_file<S: Store>(
+    alloc: Global,
+    store: &mut S,
+    schema: &Schema,
+    query: Query,
+    accuracy: Accuracy,
+) -> Result<PreparedStatsFile, Ending>
+    requires schema { IsValid schema.now }
+    requires query { IsOf schema.now query }
+    ensures rules { IfOk result (λ made_stats. KeepsRules schema.now made_stats.file) }
+    ensures reads { Reads (reading S.files S.faults S.misses store.old store.new) (work_run (works.WriteStats accuracy) schema.now query)
+        (IsReached schema.now (tables_of_query query.from)) (seen (file_from schema.now) result) }
+{
+    let db = read_tables(alloc, store, schema, &query)?;
+    let made_stats = file_tables(alloc, schema, query, db, accuracy)?;
+    Ok(made_stats)
+}
+
+/// Reads a statistics file, and plans a query from it, within a budget and a limit of memory.
+pub fn prepare_stats_file_plan<S: Store>(
+    alloc: Global,
+    store: &mut S,
+    schema: &Schema,
+    query: Query,
+    file: &Word,
+    budget: u64,
+    memory: Option<u64>,
+) -> Result<PreparedStatsFilePlan, Ending>
+    requires schema { IsValid schema.now }
+    requires bytes { HasByteColumns schema.now }
+    requires query { IsOf schema.now query }
+    requires budget { budget ≤ most_budget }
+    ensures plan { IfOk result IsPlanned }
+    ensures reads { Reads (reading S.files S.faults S.misses store.old store.new) (work_run (works.PlanFromStats file.now budget memory) schema.now query)
+        (AtFile FileId.Stats) (seen plan_from result) }
+{
+    let stats = load_stats(alloc, store, file, schema)?;
+    plan_from_stats_file(alloc, schema, query, stats, budget, memory)
+}

@@ -1,0 +1,124 @@
+-- The laws of lists over a filter column and a joined column.
+use Rattle.std.proofs.Common.{◌≡◌, ◌⊎◌, ℕ, suc, eqb, subst, Bool, Some, None, Option, List, [], ◌∷◌, map, length, refl, ap, sym, ◌∙◌, arith, inl, inr}
+use Rattle.std.specs.List.{AllByRecursion, Contains, filter, zip}
+use Rattle.std.specs.Prelude.{unwrap_or}
+use Rattle.std.proofs.lemmas.Bool.{cases_Bool, eqb-true, eqb-false}
+use Rattle.std.proofs.lemmas.Map.Made.{Contains-tail}
+use Rattle.std.proofs.lemmas.Option.{none-some}
+use Rattle.degree_sequences.specs.Compression.{compressed}
+use Rattle.cond_stats.specs.Leaves.{node_size}
+use Rattle.cond_stats.specs.Lists.{compressed_degrees, list_of_node, list_of_range, list_of_value, rest}
+use Rattle.cond_stats.specs.Rows.{filter_values, joined_keys, keys_where}
+use Rattle.cond_stats.proofs.ValueLists.{of_none, of_others}
+use Rattle.relabelling_laws.specs.Relabelling.{IsMissing, IsOneToOne, KeepsOrder, PassAlike, StandAlike}
+use Rattle.relabelling_laws.proofs.Columns.{degrees_are, from_map, its_own, keeps}
+use Rattle.relabelling_laws.proofs.RowsMapped.{All-zip, OfRow, missing_not_frequent, node-mapped, passing-mapped, rest-mapped, value-mapped, zip-renamed}
+
+their_own : (column joined : List ℕ) → AllByRecursion (OfRow (Contains column) (Contains joined)) (zip column joined)
+their_own column joined = All-zip (Contains column) (Contains joined) column joined (its_own column) (its_own joined)
+
+pub whole_is : (accuracy : ℕ) (g : ℕ → ℕ) (joined : List ℕ) → IsOneToOne g joined
+    → compressed_degrees accuracy (map g joined) ≡ compressed_degrees accuracy joined
+whole_is accuracy g joined one = ap (compressed accuracy) (degrees_are g joined one)
+
+pub value_is : (accuracy : ℕ) (f g : ℕ → ℕ) (column joined : List ℕ) (value : ℕ) → IsOneToOne f column → IsOneToOne g joined
+    → Contains column value
+    → list_of_value accuracy (zip (map f column) (map g joined)) (Some (f value)) ≡ list_of_value accuracy (zip column joined) (Some value)
+value_is accuracy f g column joined value one one_key has =
+    ap (λ (rows : List (ℕ × ℕ)). list_of_value accuracy rows (Some (f value))) (zip-renamed f g column joined)
+    ∙ value-mapped (Contains column) (Contains joined) f g (keeps g joined one_key) (zip column joined) (their_own column joined) (keeps f column one) accuracy value has
+
+pub rest_is : (accuracy : ℕ) (f g : ℕ → ℕ) (column joined : List ℕ) → IsOneToOne f column → IsOneToOne g joined
+    → rest accuracy (zip (map f column) (map g joined)) ≡ rest accuracy (zip column joined)
+rest_is accuracy f g column joined one one_key =
+    ap (rest accuracy) (zip-renamed f g column joined)
+    ∙ rest-mapped (Contains column) (Contains joined) f g (keeps g joined one_key) (zip column joined) (their_own column joined) (keeps f column one) accuracy
+
+pub missing_is : (accuracy : ℕ) (column joined : List ℕ) (value : Option ℕ) → IsMissing column value
+    → list_of_value accuracy (zip column joined) value ≡ rest accuracy (zip column joined)
+missing_is accuracy column joined None missing = of_none accuracy (zip column joined)
+missing_is accuracy column joined (Some value) missing = of_others accuracy (zip column joined) value
+    (missing_not_frequent (Contains column) (Contains joined) (zip column joined) (their_own column joined) value missing)
+
+pub absent_is : (accuracy : ℕ) (f g : ℕ → ℕ) (column joined : List ℕ) (other value : Option ℕ) → IsOneToOne f column → IsOneToOne g joined
+    → IsMissing (map f column) other → IsMissing column value
+    → list_of_value accuracy (zip (map f column) (map g joined)) other ≡ list_of_value accuracy (zip column joined) value
+absent_is accuracy f g column joined other value one one_key missing missing_value =
+    missing_is accuracy (map f column) (map g joined) other missing ∙ rest_is accuracy f g column joined one one_key
+    ∙ sym (missing_is accuracy column joined value missing_value)
+
+-- a value stands in a column, or it is missing
+pub stands_or_misses : (column : List ℕ) (value : ℕ) → Contains column value ⊎ (Contains column value → ⊥)
+stands_or_misses [] value = inr (λ has. omega (arith, has.1))
+stands_or_misses (first ∷ column) value = elim (cases_Bool (eqb first value)) [
+  | inl e ↦ inl (0, omega arith, eqb-true first value e)
+  | inr e ↦ (elim (stands_or_misses column value) [
+    | inl has ↦ inl (suc has.0, omega (arith, has.1), has.2)
+    | inr misses ↦ inr (λ has. misses (Contains-tail first column value (eqb-false first value e) has))
+  ])
+]
+
+-- a number that no number of the column gets is missing among those that they get
+other_misses : (f : ℕ → ℕ) (column : List ℕ) (other : Option ℕ) → ((a : ℕ) → Contains column a → Some (f a) ≡ other → ⊥)
+    → IsMissing (map f column) other
+other_misses f column None never = tt
+other_misses f column (Some number) never =
+    λ has. (let at = from_map f column number has in never at.0 at.1 (ap (λ (n : ℕ). Some n) (sym at.2)))
+
+pub any_value_is : (accuracy : ℕ) (f g : ℕ → ℕ) (column joined : List ℕ) (other value : Option ℕ) → IsOneToOne f column
+    → IsOneToOne g joined
+    → StandAlike f column other value
+    → list_of_value accuracy (zip (map f column) (map g joined)) other ≡ list_of_value accuracy (zip column joined) value
+any_value_is accuracy f g column joined other None one one_key alike =
+    absent_is accuracy f g column joined other None one one_key
+    (other_misses f column other (λ a has same. none-some a (sym ((alike a has).0 same)))) tt
+any_value_is accuracy f g column joined other (Some value) one one_key alike = elim (stands_or_misses column value) [
+  | inl has ↦ ap (list_of_value accuracy (zip (map f column) (map g joined))) (sym ((alike value has).1 refl))
+      ∙ value_is accuracy f g column joined value one one_key has
+  | inr misses ↦ absent_is accuracy f g column joined other (Some value) one one_key
+      (other_misses f column other (λ a has same. misses (subst (Contains column) (ap (λ (o : Option ℕ). unwrap_or o 0) ((alike a has).0 same)) has))) misses
+]
+
+pub node_is : (at_most other : ℕ → ℕ → Bool) (accuracy : ℕ) (f g : ℕ → ℕ) (column joined : List ℕ) (size leaf : ℕ)
+    → KeepsOrder at_most other f column → IsOneToOne g joined
+    → list_of_node other accuracy (zip (map f column) (map g joined)) size leaf
+    ≡ list_of_node at_most accuracy (zip column joined) size leaf
+node_is at_most other accuracy f g column joined size leaf compares one_key =
+    ap (λ (rows : List (ℕ × ℕ)). list_of_node other accuracy rows size leaf) (zip-renamed f g column joined)
+    ∙ node-mapped (Contains column) (Contains joined) f g (keeps g joined one_key) (zip column joined) (their_own column joined) at_most other compares accuracy size leaf
+
+pub range_is : (at_most other : ℕ → ℕ → Bool) (accuracy : ℕ) (f g : ℕ → ℕ) (column joined : List ℕ) (low high : Option ℕ)
+    → KeepsOrder at_most other f column → IsOneToOne g joined
+    → list_of_range other accuracy (zip (map f column) (map g joined)) low high
+    ≡ list_of_range at_most accuracy (zip column joined) low high
+range_is at_most other accuracy f g column joined low high compares one_key =
+    let first : ℕ = unwrap_or low 0 in
+    let last : ℕ = unwrap_or high 31 in
+    node_is at_most other accuracy f g column joined (node_size first last) first compares one_key
+
+pub passing_are : (f g : ℕ → ℕ) (column joined : List ℕ) (passes other : ℕ → Bool) → PassAlike passes other f column
+    → keys_where other (zip (map f column) (map g joined)) ≡ map g (keys_where passes (zip column joined))
+passing_are f g column joined passes other alike =
+    ap (keys_where other) (zip-renamed f g column joined)
+    ∙ passing-mapped (Contains column) (Contains joined) f g (zip column joined) (their_own column joined) passes other alike
+
+pub of_rows : (value key : ℕ → ℕ) (rows : List ℕ) (passes other : ℕ → Bool) → PassAlike passes other value rows
+    → keys_where other (zip (map value rows) (map key rows)) ≡ map key (filter passes rows)
+of_rows value key rows passes other alike = from rows (its_own rows)
+  where
+    from : (part : List ℕ) → AllByRecursion (Contains rows) part
+        → keys_where other (zip (map value part) (map key part)) ≡ map key (filter passes part)
+    from [] all = refl
+    from (row ∷ part) all = elim (cases_Bool (passes row)) [
+      | inl e ↦ rw (alike row all.0, e, from part all.1) refl
+      | inr e ↦ rw (alike row all.0, e, from part all.1) refl
+    ]
+
+pub columns_are : (column joined : List ℕ) → length column ≡ length joined
+    → (filter_values (zip column joined) ≡ column) × (joined_keys (zip column joined) ≡ joined)
+columns_are [] [] long = (refl, refl)
+columns_are [] (k ∷ joined) long = absurd (omega arith)
+columns_are (v ∷ column) [] long = absurd (omega arith)
+columns_are (v ∷ column) (k ∷ joined) long =
+    let rest = columns_are column joined (omega arith) in
+    (ap (λ (s : List ℕ). v ∷ s) rest.0, ap (λ (s : List ℕ). k ∷ s) rest.1)

@@ -1,0 +1,14 @@
+use Rattle.relabelling_laws.proofs.Columns.{degree_is, degrees_are, frequent_is, remaining_is}
+use Rattle.relabelling_laws.proofs.laws.columns_are_relabelled.Goals as goal
+
+pub returns-clause-degree : goal.returns-clause-degree
+returns-clause-degree c = degree_is
+
+pub returns-clause-degrees : goal.returns-clause-degrees
+returns-clause-degrees c = degrees_are
+
+pub returns-clause-frequent : goal.returns-clause-frequent
+returns-clause-frequent c = frequent_is
+
+pub returns-clause-remaining : goal.returns-clause-remaining
+returns-clause-remaining c = remaining_is

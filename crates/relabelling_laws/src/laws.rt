@@ -1,0 +1,88 @@
+//! What other numbers change of a column, and that they change no list: no law computes anything, and the contract is the law.
+ghost use Rattle.std.specs.Prelude.{◌≡◌, ◌↔◌, ℕ, Bool, List, Option, Some, Contains, length, map};
+ghost use Rattle.std.specs.List.{filter, zip};
+ghost use Rattle.degree_sequences.specs.Degrees.{degree, degree_list};
+ghost use Rattle.degree_sequences.specs.Domination.{DominatesKeys};
+ghost use Rattle.cond_stats.specs.Frequency.{frequent, remaining};
+ghost use Rattle.cond_stats.specs.Leaves.{cuts, leaf_above};
+ghost use Rattle.cond_stats.specs.Lists.{compressed_degrees, list_of_node, list_of_range, list_of_value, rest};
+ghost use Rattle.cond_stats.specs.Rows.{filter_values, joined_keys, keys_where};
+ghost use Rattle.relabelling_laws.specs.Relabelling.{AreEqualAlike, IsMissing, IsOneToOne, KeepsOrder, PassAlike, StandAlike};
+
+/// Other numbers stand in a column as often, and the frequent ones are those that the frequent numbers get.
+pub fn columns_are_relabelled()
+    ensures degree { (f : ℕ → ℕ) (column : List ℕ) (value : ℕ) → IsOneToOne f column → Contains column value
+        → degree (map f column) (f value) ≡ degree column value }
+    ensures degrees { (f : ℕ → ℕ) (column : List ℕ) → IsOneToOne f column → degree_list (map f column) ≡ degree_list column }
+    ensures frequent { (f : ℕ → ℕ) (column : List ℕ) → IsOneToOne f column → frequent (map f column) ≡ map f (frequent column) }
+    ensures remaining { (f : ℕ → ℕ) (column : List ℕ) → IsOneToOne f column → remaining (map f column) ≡ map f (remaining column) }
+{}
+
+/// Where other numbers compare alike, leaves begin at those that the cuts get, and what passes alike lies in the same leaf.
+pub fn leaves_are_relabelled()
+    ensures cuts { (at_most other : ℕ → ℕ → Bool) (f : ℕ → ℕ) (column : List ℕ) → KeepsOrder at_most other f column
+        → cuts other (map f column) ≡ map f (cuts at_most column) }
+    ensures leaf { (at_most other : ℕ → ℕ → Bool) (f : ℕ → ℕ) (column : List ℕ) (passes other_passes : ℕ → Bool)
+        → KeepsOrder at_most other f column → PassAlike passes other_passes f column
+        → leaf_above other (map f column) other_passes ≡ leaf_above at_most column passes }
+{}
+
+/// No list of a filter column and a joined column changes where both get other numbers.
+pub fn lists_stay()
+    ensures whole { (accuracy : ℕ) (g : ℕ → ℕ) (joined : List ℕ) → IsOneToOne g joined
+        → compressed_degrees accuracy (map g joined) ≡ compressed_degrees accuracy joined }
+    // of a value that a row has
+    ensures value { (accuracy : ℕ) (f g : ℕ → ℕ) (column joined : List ℕ) (value : ℕ)
+        → IsOneToOne f column → IsOneToOne g joined → Contains column value
+        → list_of_value accuracy (zip (map f column) (map g joined)) (Some (f value))
+        ≡ list_of_value accuracy (zip column joined) (Some value) }
+    // of a value that no row has, whatever stands for it on either side
+    ensures absent { (accuracy : ℕ) (f g : ℕ → ℕ) (column joined : List ℕ) (other value : Option ℕ)
+        → IsOneToOne f column → IsOneToOne g joined → IsMissing (map f column) other → IsMissing column value
+        → list_of_value accuracy (zip (map f column) (map g joined)) other ≡ list_of_value accuracy (zip column joined) value }
+    // of any value, where the numbers that stand for it, if there are such, are told alike
+    ensures any_value { (accuracy : ℕ) (f g : ℕ → ℕ) (column joined : List ℕ) (other value : Option ℕ)
+        → IsOneToOne f column → IsOneToOne g joined → StandAlike f column other value
+        → list_of_value accuracy (zip (map f column) (map g joined)) other ≡ list_of_value accuracy (zip column joined) value }
+    ensures rest { (accuracy : ℕ) (f g : ℕ → ℕ) (column joined : List ℕ) → IsOneToOne f column → IsOneToOne g joined
+        → rest accuracy (zip (map f column) (map g joined)) ≡ rest accuracy (zip column joined) }
+    // of nodes and ranges, where the filter values compare alike
+    ensures node { (at_most other : ℕ → ℕ → Bool) (accuracy : ℕ) (f g : ℕ → ℕ) (column joined : List ℕ) (size leaf : ℕ)
+        → KeepsOrder at_most other f column → IsOneToOne g joined
+        → list_of_node other accuracy (zip (map f column) (map g joined)) size leaf
+        ≡ list_of_node at_most accuracy (zip column joined) size leaf }
+    ensures range { (at_most other : ℕ → ℕ → Bool) (accuracy : ℕ) (f g : ℕ → ℕ) (column joined : List ℕ) (low high : Option ℕ)
+        → KeepsOrder at_most other f column → IsOneToOne g joined
+        → list_of_range other accuracy (zip (map f column) (map g joined)) low high
+        ≡ list_of_range at_most accuracy (zip column joined) low high }
+{}
+
+/// A value that no row has, or that nothing stands for, has the rest list.
+pub fn missing_values_have_the_rest_list()
+    ensures { (accuracy : ℕ) (column joined : List ℕ) (value : Option ℕ) → IsMissing column value
+        → list_of_value accuracy (zip column joined) value ≡ rest accuracy (zip column joined) }
+{}
+
+/// What dominates keys dominates all keys that are equal alike, and these have the same degrees.
+pub fn keys_are_relabelled()
+    ensures column { (list : List ℕ) (f : ℕ → ℕ) (keys : List ℕ) → IsOneToOne f keys
+        → DominatesKeys list (map f keys) ↔ DominatesKeys list keys }
+    ensures rows { (list : List ℕ) (key other : ℕ → ℕ) (rows : List ℕ) → AreEqualAlike key other rows
+        → DominatesKeys list (map key rows) ↔ DominatesKeys list (map other rows) }
+    // of those rows that pass a test
+    ensures passing { (list : List ℕ) (key other : ℕ → ℕ) (rows : List ℕ) (passes : ℕ → Bool) → AreEqualAlike key other rows
+        → DominatesKeys list (map key (filter passes rows)) ↔ DominatesKeys list (map other (filter passes rows)) }
+    ensures degrees { (key other : ℕ → ℕ) (rows : List ℕ) → AreEqualAlike key other rows
+        → degree_list (map key rows) ≡ degree_list (map other rows) }
+{}
+
+/// The joined keys of the rows that pass a test of the filter value are those that pass the same test of its other number.
+pub fn passing_rows_are_relabelled()
+    ensures passing { (f g : ℕ → ℕ) (column joined : List ℕ) (passes other : ℕ → Bool) → PassAlike passes other f column
+        → keys_where other (zip (map f column) (map g joined)) ≡ map g (keys_where passes (zip column joined)) }
+    // both columns given row by row, and the test too
+    ensures rows { (value key : ℕ → ℕ) (rows : List ℕ) (passes other : ℕ → Bool) → PassAlike passes other value rows
+        → keys_where other (zip (map value rows) (map key rows)) ≡ map key (filter passes rows) }
+    ensures values { (column joined : List ℕ) → length column ≡ length joined → filter_values (zip column joined) ≡ column }
+    ensures keys { (column joined : List ℕ) → length column ≡ length joined → joined_keys (zip column joined) ≡ joined }
+{}

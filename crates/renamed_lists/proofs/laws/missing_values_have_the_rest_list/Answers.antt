@@ -1,5 +1,0 @@
-use Rattle.renamed_lists.proofs.Rows.{missing_is}
-use Rattle.renamed_lists.proofs.laws.missing_values_have_the_rest_list.Goals as goal
-
-pub returns : goal.returns
-returns c = missing_is

@@ -1,0 +1,14 @@
+-- Bounds of 64 bits, as bounds of 128 bits.
+use Rattle.std.specs.Prelude.{ℕ, ◌-◌, ◌^◌, ◌==◌, if◌then◌else◌, List, map}
+use Rattle.limits.specs.Profile.{top_bound}
+
+-- the bound that stands for all from there on, in 64 bits
+abbrev pub no_bound : ℕ
+no_bound = 2 ^ 64 - 1
+
+-- where 64 bits tell no bound, 128 bits don't
+abbrev pub in_128_bits : ℕ → ℕ
+in_128_bits bound = if bound == no_bound then top_bound else bound
+
+abbrev pub all_widened : List ℕ → List ℕ
+all_widened bounds = map in_128_bits bounds

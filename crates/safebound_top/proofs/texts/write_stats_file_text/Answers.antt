@@ -1,0 +1,13 @@
+use Rattle.std.proofs.lemmas.Result.{err_from_is_err_and}
+use Rattle.base_io.proofs.WriteFacts.{wrote_failed, wrote_then}
+use Rattle.printed_texts.specs.Memory.{memory_text}
+use Rattle.safebound_top.proofs.TextSteps.{cut_first}
+use Rattle.safebound_top.proofs.texts.write_stats_file_text.Goals as goal
+
+pub returns-in_err-write_plan : goal.returns-in_err-write_plan
+returns-in_err-write_plan g c =
+    let p = err_from_is_err_and c.from_residual.result c.from_residual.ensures.1 in
+    wrote_failed p.1 (cut_first (memory_text c.args.made.now.memory c.args.made.now.bytes) (rw c.as_slice.ensures at c.in_err-write_plan.ensures))
+
+pub returns : goal.returns
+returns g c = wrote_then (rw c.as_slice.ensures at c.in_ok-write_plan.ensures) c.write_memory.ensures

@@ -1,0 +1,71 @@
+-- What a syntax tree gives: a query, or the first thing that is wrong with its names, its kinds or its limits.
+use Rattle.std.specs.Prelude.{ℕ, ◌-◌, ◌^◌, nat_lt, min, if◌then◌else◌, List, [], ◌∷◌, ◌++◌, length, Result, Ok, Err}
+use Rattle.std.specs.List.{flat_map}
+use Rattle.limits.specs.Profile.{most_conjuncts, most_entries, most_outputs}
+use Rattle.query_grammar.specs.declared.tree.QueryText.{QueryText}
+use Rattle.schema_types.specs.declared.types.Schema.{Schema}
+use Rattle.schema_types.specs.declared.errors.LimitKind.{LimitKind}
+use Rattle.schema_types.specs.declared.errors.LimitKind.TheVariants as limit
+use Rattle.query_names.specs.declared.errors.QueryError.{QueryError}
+use Rattle.query_names.specs.declared.errors.QueryError.TheVariants as error
+use Rattle.query_types.specs.declared.types.Query.{Query}
+use Rattle.query_types.specs.declared.types.Source.{Source}
+use Rattle.query_names.specs.Names.{entries}
+use Rattle.query_names.specs.Scopes.{Scoped, conditions, tests}
+use Rattle.query_names.specs.Offences.{name_offences, all_kind_offences, too_long}
+use Rattle.query_names.specs.Values.{query_of}
+
+-- ---- limits
+
+abbrev pub refusal : LimitKind → ℕ → QueryError
+refusal which n = error.Limit which (min n (2 ^ 64 - 1))
+
+abbrev pub too_long_in : Scoped → List ℕ
+too_long_in c = flat_map too_long (tests c.condition)
+
+-- the lengths of the lists of IN that are too long, in text order
+unfoldable pub long_lists : List Source → QueryText → List ℕ
+long_lists from query = flat_map too_long_in (conditions from query)
+
+-- the refusals that apply, in the order in which they count
+abbrev pub over : LimitKind → ℕ → ℕ → List QueryError
+over which most n = if nat_lt most n then refusal which n ∷ [] else []
+
+abbrev pub first_list : List ℕ → List QueryError
+first_list [] = []
+first_list (n ∷ rest) = refusal limit.InValues n ∷ []
+
+abbrev pub limit_refusals : Query → List ℕ → List QueryError
+limit_refusals query lists =
+    over limit.FromEntries most_entries (length query.from)
+    ++ first_list lists
+    ++ over limit.Conjuncts most_conjuncts (length query.conjuncts)
+    ++ over limit.Outputs most_outputs (length query.select)
+
+-- ---- names, then kinds, then limits
+
+abbrev pub first_place : (ℕ → QueryError) → List ℕ → List QueryError
+first_place wrong [] = []
+first_place wrong (place ∷ rest) = wrong place ∷ []
+
+abbrev pub name_error : ℕ → QueryError
+name_error place = error.Name place
+
+abbrev pub kind_error : ℕ → QueryError
+kind_error place = error.Kind place
+
+module _ (schema : Schema) (text : List ℕ) (query : QueryText) where
+  unfoldable pub refusals : List QueryError
+  refusals =
+      let from = entries schema text query in
+      first_place name_error (name_offences schema text from query)
+      ++ first_place kind_error (all_kind_offences schema text from query)
+      ++ limit_refusals (query_of schema text query) (long_lists from query)
+
+abbrev pub unless : {A : Type 0} → List QueryError → A → Result A QueryError
+unless [] value = Ok value
+unless (wrong ∷ rest) value = Err wrong
+
+-- the query, or the first refusal
+unfoldable pub query_or_refusal : Schema → List ℕ → QueryText → Result Query QueryError
+query_or_refusal schema text query = unless (refusals schema text query) (query_of schema text query)

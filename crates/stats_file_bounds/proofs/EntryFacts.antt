@@ -1,0 +1,72 @@
+-- What is made of an entry is what the file tells of it, and what is missing of it first is missing of the query.
+use Rattle.std.proofs.Common.{◌≡◌, ℕ, ◌<◌, true, false, List, map, length, get_or, Option, None, Some, refl, ap, sym, ◌∙◌, subst, arith}
+use Rattle.std.specs.Prelude.{unwrap_or, IfSome}
+use Rattle.std.specs.Bool.{IsTrue}
+use Rattle.std.specs.List.{All, filter_map}
+use Rattle.std.proofs.lemmas.List.{get_or_default}
+use Rattle.berge_tree.specs.declared.edges.Edge.{Edge}
+use Rattle.degree_sequences.specs.Degrees.{different}
+use Rattle.degree_sequences.proofs.Counting.{is_in, is_in-different}
+use Rattle.gathered_stats.specs.Asked.{asked_columns, column_asked, joined_columns}
+use Rattle.join_graph.specs.Conjuncts.{equalities_of}
+use Rattle.level_bounds.proofs.Lists.{each_of, in_filter_map}
+use Rattle.predicate_bounds.specs.declared.columns.EntryStats.{EntryStats}
+use Rattle.predicate_bounds.specs.declared.columns.ColumnSteps.{ColumnSteps}
+use Rattle.predicate_bounds.specs.declared.steps.Step.{Step}
+use Rattle.predicate_bounds.specs.Steps.{steps_of}
+use Rattle.query_types.specs.declared.types.Query.{Query}
+use Rattle.stats_file.specs.declared.types.StatsFile.{StatsFile}
+use Rattle.stats_file.specs.declared.types.TableStats.{TableStats}
+use Rattle.stats_file_of_query.specs.declared.needs.Needs.{Needs}
+use Rattle.stats_file_of_query.specs.Needs.{needs_of, table_of}
+use Rattle.stats_file_of_query.specs.Standing.{section_of}
+use Rattle.stats_file_of_query.proofs.Finding.{first_found}
+use Rattle.stats_file_bounds.specs.declared.errors.NeedError.{NeedError}
+use Rattle.stats_file_bounds.specs.declared.errors.NeedError.TheVariants as error
+use Rattle.stats_file_bounds.specs.Entries.{AreStepsFromStatsFile, AsksAmong, IsEntryCause, IsNeedCause, EntryIsTold}
+use Rattle.stats_file_bounds.specs.FileStatistics.{is_filter}
+use Rattle.stats_file_bounds.specs.Found.{is_missing, no_section, section_for}
+
+-- ---- filter columns
+
+pub asks_among : (needs : Needs) (steps : List Step) → needs.filters ≡ different (filter_map column_asked steps) → All (AsksAmong needs) steps
+asks_among needs steps is k d low = by (column_asked (get_or steps k d)) refl
+  where
+    by : (o : Option ℕ) → column_asked (get_or steps k d) ≡ o → IfSome o (λ column. IsTrue (is_filter needs column))
+    by None e = tt
+    by (Some column) e =
+        let asked : List ℕ = filter_map column_asked steps in
+        subst (λ (s : List ℕ). is_in s column ≡ true) (sym is)
+        (each_of (λ x. is_in (different asked) x ≡ true) asked (is_in-different asked) column
+        (in_filter_map column_asked steps (get_or steps k d) column (k, low, get_or_default steps k (get_or steps k d) d low) e))
+
+-- ---- what is told of an entry
+
+same_needs : (a b : Needs) → a.filters ≡ b.filters → a.joined ≡ b.joined → a ≡ b
+same_needs a b e f = ap (λ (x : List ℕ). record a { filters = x }) e ∙ ap (λ (x : List ℕ). record b { joined = x }) f
+
+module _ (query : Query) (file : StatsFile) (entry : ℕ) where
+  pub its_needs : (needs : Needs) (steps : List Step) (equalities : List Edge) → needs.filters ≡ different (filter_map column_asked steps) → needs.joined ≡ joined_columns entry equalities
+      → steps ≡ steps_of entry query.conjuncts → equalities ≡ equalities_of query → needs ≡ needs_of query entry
+  its_needs needs steps equalities filters joined its_steps own =
+      same_needs needs (needs_of query entry) (filters ∙ ap (λ (s : List Step). different (filter_map column_asked s)) its_steps) (joined ∙ ap (joined_columns entry) own)
+
+  pub its_section : (section : TableStats) → Some section ≡ section_of file (table_of query entry) → section ≡ section_for query file entry
+  its_section section is = ap (λ (o : Option TableStats). unwrap_or o no_section) is
+
+  pub entry_told : (section : TableStats) (needs : Needs) (steps : List Step) (stats : EntryStats) → section ≡ section_for query file entry → needs ≡ needs_of query entry
+      → steps ≡ steps_of entry query.conjuncts → map (λ (g : ColumnSteps). g.column) stats.columns ≡ asked_columns entry (equalities_of query)
+      → All (AreStepsFromStatsFile section needs steps) stats.columns → EntryIsTold query file entry stats
+  entry_told section needs steps stats of_section of_needs of_steps columns are = record {
+    columns = columns;
+    steps = subst (λ (s : TableStats). All (AreStepsFromStatsFile s (needs_of query entry) (steps_of entry query.conjuncts)) stats.columns) of_section
+        (subst (λ (n : Needs). All (AreStepsFromStatsFile section n (steps_of entry query.conjuncts)) stats.columns) of_needs
+        (subst (λ (s : List Step). All (AreStepsFromStatsFile section needs s) stats.columns) of_steps are));
+  }
+
+  -- ---- what is missing first
+
+  pub need_cause : (e : NeedError) → entry < length query.from → ((k : ℕ) → k < entry → is_missing query file k ≡ false) → IsEntryCause query file entry e → IsNeedCause query file e
+  need_cause (error.Missing from) low before cause =
+      first_found (is_missing query file) 0 (length query.from) entry (omega arith) (omega (arith, low)) (λ k from below. before k below) cause.1 ∙ ap Some (sym cause.0)
+  need_cause error.NoMemory low before cause = tt

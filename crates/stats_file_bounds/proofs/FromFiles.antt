@@ -1,0 +1,101 @@
+-- No bound of a plan from a file is too low for tables for which the file stands.
+use Rattle.std.proofs.Common.{◌≡◌, ℕ, ◌<◌, ◌≤◌, List, length, get_or, None, Ok, ap, arith}
+use Rattle.std.specs.List.{Contains}
+use Rattle.limits.specs.Profile.{most_budget, most_entries}
+use Rattle.berge_tree.specs.declared.edges.Place.{Place}
+use Rattle.berge_tree.specs.Equalities.{places_of}
+use Rattle.stats_file_bounds.specs.Entries.{IsFile, IsFromStatsFile}
+use Rattle.stats_file_bounds.specs.FileStatistics.{stats_file_counts, stats_file_lists, stats_file_statistics}
+use Rattle.stats_file_bounds.specs.Found.{first_missing, is_missing, section_for}
+use Rattle.stats_file_bounds.proofs.Finding.{none_passes}
+use Rattle.stats_file_bounds.proofs.Small.{whole_within}
+use Rattle.stats_file_bounds.proofs.Sums.{contained, sums_are}
+use Rattle.stats_file_bounds.proofs.Telling.{IsThere, is_there, its_filed, its_pairs, place_low, section_is}
+use Rattle.stats_file_bounds.proofs.Under.{joined_has, known_stands}
+use Rattle.stats_file_bounds.specs.Plans.{planned_by_file}
+use Rattle.stats_file_bounds.proofs.Falling.{filed_fall}
+use Rattle.stats_file_of_query.specs.Standing.{StandsFor}
+use Rattle.filtered_lists.specs.Standing.{ListsFall, SumTo}
+use Rattle.join_graph.specs.Conjuncts.{equalities_of}
+use Rattle.join_steps.specs.Lists.{scans_of}
+use Rattle.join_steps.specs.Plans.{IsPlanOf}
+use Rattle.join_steps.proofs.WholeScans.{whole_of_scans}
+use Rattle.level_bounds.specs.Keys.{Keys}
+use Rattle.level_bounds.proofs.Lists.{all_from}
+use Rattle.stats_file_of_query.specs.Needs.{needs_of}
+use Rattle.planning.specs.Standing.{BoundLevels, BoundLists, EntriesStand, JoinedHaveLists}
+use Rattle.planning.proofs.FromLists.{levels_bound, plan_over_lists, stand_in_every_set}
+use Rattle.planning.proofs.NeverUnder.{scans_bound}
+use Rattle.planning.proofs.ScanBounds.{have_lists, stand_for_scans}
+use Rattle.plans.specs.declared.left_deep.Plan.{Plan}
+use Rattle.query_bounds.specs.Bounds.{entry_bounds, scan_bounds, set_bounds}
+use Rattle.query_bounds.specs.Statistics.{StandFor, Statistics}
+use Rattle.query_types.specs.Named.{NamesItsEntries}
+use Rattle.query_types.specs.declared.types.Query.{Query}
+use Rattle.set_bounds.specs.AllSets.{in_every_set}
+use Rattle.sql_meaning.specs.Tables.{Tables, row_counts}
+use Rattle.stats_file.specs.declared.types.StatsFile.{StatsFile}
+use Rattle.stats_file.specs.declared.types.TableStats.{TableStats}
+use Rattle.table_stats.proofs.ValueNumbers.{have_keys}
+
+module _ (query : Query) (file : StatsFile) (own : NamesItsEntries query) (is : IsFile file) (none : first_missing query file ≡ None) where
+  abbrev known : Statistics
+  known = stats_file_statistics query file
+
+  there : (entry : ℕ) → entry < length query.from → IsThere query file entry
+  there entry low = is_there query file entry (none_passes (is_missing query file) 0 (length query.from) none entry (omega arith) (omega (arith, low)))
+
+  from_stats_file : (entry : ℕ) → entry < length query.from → IsFromStatsFile (section_for query file entry)
+  from_stats_file entry low = its_filed query file is entry (there entry low)
+
+  -- the lists of a joined column fall, and sum to the numbers of rows
+  fall_and_sum : (p : Place) → Contains (places_of (equalities_of query)) p
+      → ListsFall (stats_file_lists (section_for query file p.entry) (needs_of query p.entry) p.column)
+      × SumTo (stats_file_lists (section_for query file p.entry) (needs_of query p.entry) p.column) (stats_file_counts (section_for query file p.entry) (needs_of query p.entry))
+  fall_and_sum p has =
+      let low : p.entry < length query.from = place_low query own p has in (
+        filed_fall (section_for query file p.entry) (from_stats_file p.entry low) (needs_of query p.entry) p.column,
+        sums_are (section_for query file p.entry) (from_stats_file p.entry low) (needs_of query p.entry) (its_pairs query file is p.entry (there p.entry low)) p.column
+            (contained (needs_of query p.entry) p.column (joined_has (equalities_of query) p has)),
+      )
+
+  joined_lists : JoinedHaveLists query (entry_bounds query (stats_file_statistics query file))
+  joined_lists =
+      have_lists query (stats_file_statistics query file)
+      (all_from (λ (p : Place). ListsFall (stats_file_lists (section_for query file p.entry) (needs_of query p.entry) p.column)
+      × SumTo (stats_file_lists (section_for query file p.entry) (needs_of query p.entry) p.column) (stats_file_counts (section_for query file p.entry) (needs_of query p.entry)))
+      (places_of (equalities_of query)) fall_and_sum)
+
+  module _ (tables : Tables) (stands : StandsFor query file tables) where
+    abbrev key : Keys
+    key = (have_keys tables).0
+
+    its_stands : StandFor query (stats_file_statistics query file) tables (have_keys tables).0
+    its_stands = known_stands query file is tables (have_keys tables).0 stands none own (have_keys tables).1
+
+    -- no more rows are told of an entry than its table has
+    few_rows : (entry : ℕ) → entry < length query.from → (stats_file_counts (section_for query file entry) (needs_of query entry)).whole ≤ row_counts tables entry
+    few_rows entry low =
+        let t : IsThere query file entry = there entry low in
+        omega (
+          arith,
+          whole_within (section_for query file entry) (from_stats_file entry low) (needs_of query entry) (get_or (needs_of query entry).joined 0 0),
+          ap (λ (section : TableStats). section.rows) (section_is query file entry t),
+          (stands entry t.section low t.is).rows,
+        )
+
+    abbrev lists : List (List ℕ)
+    lists = scans_of query tables
+
+    levels_fit : BoundLevels query tables (scans_of query tables) (set_bounds query (stats_file_statistics query file))
+    levels_fit =
+        let entries : EntriesStand query tables lists key (entry_bounds query known) =
+        stand_for_scans query known tables key its_stands joined_lists ((have_keys tables).2 (equalities_of query)) in
+        levels_bound query tables lists key (in_every_set (entry_bounds query known))
+        (stand_in_every_set query tables lists key (entry_bounds query known) (whole_of_scans query tables) entries)
+
+    pub plan_over_scans : (budget : ℕ) (plan : Plan) → length query.from ≤ most_entries → budget ≤ most_budget → planned_by_file query file budget ≡ Ok plan
+        → IsPlanOf query tables (scans_of query tables) plan
+    unfolding planned_by_file
+    plan_over_scans budget plan few small made =
+        plan_over_lists query tables lists (set_bounds query known) (scan_bounds query known) levels_fit (scans_bound query known tables key its_stands few_rows) budget plan few small made

@@ -1,0 +1,162 @@
+-- What a file tells of each entry tells the statistics that the file knows.
+use Rattle.std.proofs.Common.{◌≡◌, ◌⊎◌, ℕ, ◌+◌, ◌<◌, ◌==◌, Bool, true, false, not, List, [], ◌∷◌, ◌++◌, length, get_or, Option, None, Some, option_map, refl, ap, sym, ◌∙◌, subst, inl, inr, arith}
+use Rattle.std.specs.Prelude.{unwrap_or}
+use Rattle.std.specs.List.{All, AllByRecursion, Contains, list_all}
+use Rattle.std.proofs.lemmas.Bool.{cases_eq}
+use Rattle.std.proofs.lemmas.List.{get_or_append_left, get_or_push, length_push, length-map}
+use Rattle.std.proofs.lemmas.List.Elements.{All-contains, recursion_from_All}
+use Rattle.berge_tree.specs.declared.edges.Edge.{Edge}
+use Rattle.berge_tree.specs.declared.edges.Place.{Place}
+use Rattle.berge_tree.specs.Equalities.{places_of}
+use Rattle.entry_sets.proofs.Listing.{in_front, in_rest}
+use Rattle.gathered_stats.specs.Asked.{asked_columns, joined_columns, or_no_column}
+use Rattle.gathered_stats.proofs.Joined.{place_asked, some_asked}
+use Rattle.gathered_stats.proofs.Telling.{first_one, found_one}
+use Rattle.join_graph.specs.Conjuncts.{equalities_of, equality_of}
+use Rattle.level_bounds.proofs.EqualityFacts.{equality_names}
+use Rattle.level_bounds.proofs.Lists.{all_from, each_of, from_filter_map}
+use Rattle.predicate_bounds.specs.declared.columns.ColumnSteps.{ColumnSteps}
+use Rattle.predicate_bounds.specs.declared.columns.EntryStats.{EntryStats}
+use Rattle.predicate_bounds.specs.declared.columns.QueryStats.{QueryStats}
+use Rattle.predicate_bounds.specs.Steps.{steps_of}
+use Rattle.predicate_bounds.specs.Told.{asked_lists, columns_of, no_columns}
+use Rattle.query_bounds.specs.Statistics.{Tells, TellsColumn, TellsEntry}
+use Rattle.query_types.specs.declared.types.Cond.{Cond}
+use Rattle.query_types.specs.declared.types.Query.{Query}
+use Rattle.query_types.specs.Named.{NamesItsEntries, entries_named}
+use Rattle.stats_file.specs.declared.types.StatsFile.{StatsFile}
+use Rattle.stats_file.specs.declared.types.TableStats.{TableStats}
+use Rattle.stats_file_of_query.specs.Needs.{needed, needs_of, pairs_of, table_of}
+use Rattle.stats_file_of_query.specs.Standing.{section_of}
+use Rattle.stats_file_bounds.specs.Entries.{AreStepsFromStatsFile, IsFile, IsFromStatsFile, EntryIsTold}
+use Rattle.stats_file_bounds.specs.FileStatistics.{stats_file_lists, stats_file_statistics}
+use Rattle.stats_file_bounds.specs.Found.{has_all, has_pair, is_missing, no_section, section_for}
+use Rattle.stats_file_bounds.proofs.Finding.{found_one as found_holds}
+use Rattle.stats_file_bounds.proofs.Small.{section_filed, whole_within}
+use Rattle.stats_file_bounds.proofs.Sums.{IsJoined, sums_are}
+
+-- ---- entries, one after another
+
+module _ (P : ℕ → EntryStats → Type 0) where
+  pub record AreEach (n : ℕ) (entries : List EntryStats) : Type 0 where
+    pub as_many : length entries ≡ n
+    pub each : (entry : ℕ) → entry < n → P entry (get_or entries entry no_columns)
+
+  pub none_each : (entries : List EntryStats) → entries ≡ [] → AreEach 0 entries
+  none_each entries none = record { as_many = ap (λ (s : List EntryStats). length s) none; each = λ entry low. absurd (omega (arith, low)) }
+
+  pub one_each : (n : ℕ) (old new : List EntryStats) (one : EntryStats) → AreEach n old → P n one → new ≡ old ++ one ∷ [] → AreEach (n + 1) new
+  one_each n old new one before here pushed = record {
+    as_many = ap (λ (s : List EntryStats). length s) pushed ∙ length_push old one ∙ omega (arith, before.as_many);
+    each = λ entry low. subst (λ (s : List EntryStats). P entry (get_or s entry no_columns)) (sym pushed) (elim (cases_eq entry n) [
+      | inl same ↦ subst (P entry) (sym (get_or_push old one no_columns entry (before.as_many ∙ sym same))) (subst (λ (m : ℕ). P m one) (sym same) here)
+      | inr apart ↦ (let earlier : entry < n = omega (arith, low, apart) in
+          subst (P entry) (sym (get_or_append_left old (one ∷ []) no_columns entry (omega (arith, earlier, before.as_many)))) (before.each entry earlier))
+    ]);
+  }
+
+-- ---- the entries of joined columns are entries of the query
+
+module _ (query : Query) (own : NamesItsEntries query) where
+  pub place_low : (p : Place) → Contains (places_of (equalities_of query)) p → p.entry < length query.from
+  place_low p has = each_of (λ (q : Place). q.entry < length query.from) (places_of (equalities_of query)) (all_low (equalities_of query) (λ e h. h)) p has
+    where
+      edge_low : (e : Edge) → Contains (equalities_of query) e → (e.left.entry < length query.from) × (e.right.entry < length query.from)
+      edge_low e has =
+          let found : (cond : Cond) × Contains query.conjuncts cond × (equality_of cond ≡ Some e) = from_filter_map equality_of query.conjuncts e has in
+          let named : All (λ entry. entry < length query.from) (e.left.entry ∷ e.right.entry ∷ []) =
+          subst (λ (s : List ℕ). All (λ entry. entry < length query.from) s) (equality_names found.0 e found.2)
+          (All-contains (λ cond. All (λ entry. entry < length query.from) (entries_named cond)) query.conjuncts found.0 own found.1) in
+          (named 0 0 (omega arith), named 1 0 (omega arith))
+
+      all_low : (es : List Edge) → ((e : Edge) → Contains es e → Contains (equalities_of query) e) → AllByRecursion (λ (q : Place). q.entry < length query.from) (places_of es)
+      all_low [] within = tt
+      all_low (e ∷ es) within =
+          let low = edge_low e (within e (in_front e es e refl)) in
+          (low.0, (low.1, all_low es (λ f h. within f (in_rest e es f h))))
+
+-- ---- what is there
+
+module _ (query : Query) (file : StatsFile) where
+  -- a section that has all pairs is there
+  pub record IsThere (entry : ℕ) : Type 0 where
+    pub section : TableStats
+    pub is : section_of file (table_of query entry) ≡ Some section
+    pub all : list_all (has_pair section) (needed query entry) ≡ true
+
+  there_by : (entry : ℕ) (o : Option TableStats) → section_of file (table_of query entry) ≡ o → has_all (needed query entry) o ≡ true → IsThere entry
+  there_by entry None is all = absurd (cc)
+  there_by entry (Some section) is all = record { section = section; is = is; all = all }
+
+  not_false : (b : Bool) → not b ≡ false → b ≡ true
+  not_false true h = refl
+  not_false false h = absurd (cc)
+
+  pub is_there : (entry : ℕ) → is_missing query file entry ≡ false → IsThere entry
+  is_there entry none =
+      there_by entry (section_of file (table_of query entry)) refl
+      (not_false (has_all (needed query entry) (section_of file (table_of query entry))) none)
+
+  pub section_is : (entry : ℕ) (t : IsThere entry) → section_for query file entry ≡ t.section
+  section_is entry t = ap (λ (o : Option TableStats). unwrap_or o no_section) t.is
+
+  module _ (is : IsFile file) where
+    pub its_filed : (entry : ℕ) → IsThere entry → IsFromStatsFile (section_for query file entry)
+    its_filed entry t =
+        subst IsFromStatsFile (sym (section_is entry t))
+        (found_holds IsFromStatsFile (λ (s : TableStats). s.table == table_of query entry) file.tables t.section (recursion_from_All IsFromStatsFile file.tables (section_filed file is)) t.is)
+
+    pub its_pairs : (entry : ℕ) (t : IsThere entry) → list_all (has_pair (section_for query file entry)) (pairs_of (needs_of query entry)) ≡ true
+    its_pairs entry t = ap (λ (s : TableStats). list_all (has_pair s) (needed query entry)) (section_is entry t) ∙ t.all
+
+    -- a column that is asked for is joined, or none is
+    asked_joined : (entry column : ℕ) → Contains (asked_columns entry (equalities_of query)) column → IsJoined (needs_of query entry) column
+    unfolding IsJoined
+    asked_joined entry column has = by (joined_columns entry (equalities_of query)) refl has
+      where
+        by : (joined : List ℕ) → joined_columns entry (equalities_of query) ≡ joined → Contains (or_no_column joined) column
+            → (joined_columns entry (equalities_of query) ≡ []) ⊎ Contains (joined_columns entry (equalities_of query)) column
+        by [] is has = inl is
+        by (c ∷ joined) is has = inr (subst (λ (s : List ℕ). Contains s column) (sym is) has)
+
+    module _ (own : NamesItsEntries query) (stats : QueryStats) (told : (entry : ℕ) → entry < length query.from → EntryIsTold query file entry (get_or stats.entries entry no_columns))
+        (none_missing : (entry : ℕ) → entry < length query.from → is_missing query file entry ≡ false) where
+      abbrev section : ℕ → TableStats
+      section entry = section_for query file entry
+
+      tells_entry : (entry : ℕ) → entry < length query.from → TellsEntry query stats (stats_file_statistics query file) entry
+      tells_entry entry low =
+          let here : EntryIsTold query file entry (get_or stats.entries entry no_columns) = told entry low in
+          let t : IsThere entry = is_there entry (none_missing entry low) in
+          let from_stats_file : IsFromStatsFile (section entry) = its_filed entry t in
+          let columns : List ColumnSteps = columns_of stats entry in
+          let some : 0 < length columns = omega (arith, some_asked entry (equalities_of query), ap (λ (s : List ℕ). length s) here.columns, length-map columns (λ (g : ColumnSteps). g.column)) in
+          let first = first_one (AreStepsFromStatsFile (section entry) (needs_of query entry) (steps_of entry query.conjuncts)) columns some here.steps in
+          let joins : IsJoined (needs_of query entry) first.0.column = asked_joined entry first.0.column (subst (λ (s : List ℕ). Contains s first.0.column) here.columns first.2) in
+          record {
+            column = first.0.column;
+            lists = ap (option_map (λ (g : ColumnSteps). g.steps)) first.1 ∙ ap Some first.3;
+            sums = sums_are (section entry) from_stats_file (needs_of query entry) (its_pairs entry t) first.0.column joins;
+            small = omega (arith, whole_within (section entry) from_stats_file (needs_of query entry) (get_or (joined_columns entry (equalities_of query)) 0 0), from_stats_file.is.rows);
+          }
+
+      tells_column : (p : Place) → Contains (places_of (equalities_of query)) p → TellsColumn query stats (stats_file_statistics query file) p.entry p.column
+      tells_column p has =
+          let low : p.entry < length query.from = place_low query own p has in
+          let here : EntryIsTold query file p.entry (get_or stats.entries p.entry no_columns) = told p.entry low in
+          let t : IsThere p.entry = is_there p.entry (none_missing p.entry low) in
+          let asked : Contains (asked_columns p.entry (equalities_of query)) p.column = place_asked (equalities_of query) p has in
+          let one = found_one (AreStepsFromStatsFile (section p.entry) (needs_of query p.entry) (steps_of p.entry query.conjuncts)) (columns_of stats p.entry) p.column
+          (subst (λ (s : List ℕ). Contains s p.column) (sym here.columns) asked) here.steps in
+          record {
+            lists = ap (option_map (λ (g : ColumnSteps). g.steps)) one.1
+                ∙ ap Some (one.3 ∙ ap (λ (c : ℕ). asked_lists query p.entry (stats_file_lists (section p.entry) (needs_of query p.entry) c)) one.2);
+            sums = sums_are (section p.entry) (its_filed p.entry t) (needs_of query p.entry) (its_pairs p.entry t) p.column (asked_joined p.entry p.column asked);
+          }
+
+      pub all_told : length stats.entries ≡ length query.from → Tells query stats (stats_file_statistics query file)
+      all_told as_many = record {
+        one_each = as_many;
+        entries = tells_entry;
+        columns = all_from (λ (p : Place). TellsColumn query stats (stats_file_statistics query file) p.entry p.column) (places_of (equalities_of query)) tells_column;
+      }

@@ -1,0 +1,12 @@
+-- What the pool of a database knows makes the database one that a file is made from.
+use Rattle.std.specs.Prelude.{All}
+use Rattle.std.specs.Str.{IsUtf8}
+use Rattle.csv_tables.specs.Pools.{TextsAreDifferent}
+use Rattle.csv_tables.specs.declared.types.Database.{Database}
+use Rattle.level_bounds.proofs.CellKeys.{characters_differ}
+use Rattle.query_types.specs.declared.types.Query.{Query}
+use Rattle.schema_types.specs.declared.types.Schema.{Schema}
+use Rattle.stats_file_of_query.specs.Databases.{IsOverSchema, IsReadOver}
+
+pub over_all : (schema : Schema) (query : Query) (db : Database) → IsReadOver schema query db → All IsUtf8 db.pool → TextsAreDifferent db.pool → IsOverSchema schema query db
+over_all schema query db of utf8 differ = record { of = of; texts = utf8; differ = characters_differ db.pool utf8 differ }

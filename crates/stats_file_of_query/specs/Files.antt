@@ -1,0 +1,58 @@
+-- The file of statistics of a query.
+use Rattle.std.specs.Prelude.{ℕ, ◌==◌, List, [], length, map, Option, option_map, find, slice_index_or}
+use Rattle.std.specs.List.{filter, filter_map, flat_map, list_any, range_with_len}
+use Rattle.query_types.specs.declared.types.Query.{Query}
+use Rattle.schema_types.specs.declared.types.Schema.{Schema}
+use Rattle.schema_types.specs.declared.types.Table.{Table}
+use Rattle.sql_meaning.specs.Tables.{Tables, row_counts}
+use Rattle.stats_file.specs.declared.types.StatsFile.{StatsFile}
+use Rattle.stats_file.specs.declared.types.TableStats.{TableStats}
+use Rattle.stats_file_of_query.specs.declared.column_pairs.ColumnPair.{ColumnPair}
+use Rattle.stats_file_of_query.specs.Needs.{needed_of_table, table_of}
+use Rattle.stats_file_of_query.specs.ColumnPairs.{is_pair}
+use Rattle.stats_file_of_query.specs.Pairs.{pair_in_table}
+
+-- ---- of a table
+
+-- the columns below so many with which a filter column is needed, ascending
+abbrev pub joined_with : List ColumnPair → ℕ → ℕ → List ℕ
+joined_with needed count column = filter (λ joined. list_any (is_pair column joined) needed) (range_with_len 0 count)
+
+-- what is made of each needed pair, ascending by the filter column and then by the joined column
+abbrev pub for_each_pair : {A : Type 0} → (ℕ → ℕ → A) → List ColumnPair → ℕ → List A
+for_each_pair make needed count = flat_map (λ column. map (make column) (joined_with needed count column)) (range_with_len 0 count)
+
+-- how many columns a table of the schema has
+abbrev pub no_table : Table
+no_table = record { name = []; columns = []; keys = []; references = [] }
+
+abbrev pub table_at : Schema → ℕ → Table
+table_at schema table = slice_index_or schema.tables table no_table
+
+abbrev pub column_count : Schema → ℕ → ℕ
+column_count schema table = length (table_at schema table).columns
+
+-- the first FROM entry of a table, where the query names it
+abbrev pub first_entry : Query → ℕ → Option ℕ
+first_entry query table = find (λ entry. table_of query entry == table) (range_with_len 0 (length query.from))
+
+-- the section of a table at an accuracy, from the rows of one of its entries: their number, and the pairs that some entry of it needs
+abbrev pub section_of_table : Schema → Query → Tables → ℕ → ℕ → ℕ → TableStats
+section_of_table schema query tables accuracy table entry = record {
+  table = table;
+  rows = row_counts tables entry;
+  pairs = for_each_pair (pair_in_table tables accuracy entry) (needed_of_table query table) (column_count schema table);
+}
+
+-- ---- of a query
+
+-- what is made of each of the first so many tables that the query names, and of its first entry
+abbrev pub for_each_table : {A : Type 0} → (ℕ → ℕ → A) → Query → ℕ → List A
+for_each_table make query count = filter_map (λ table. option_map (make table) (first_entry query table)) (range_with_len 0 count)
+
+-- the file of a query over its tables: the sections of those that it names, in the schema's order
+abbrev pub file_of_query : Schema → Query → Tables → ℕ → StatsFile
+file_of_query schema query tables accuracy = record {
+  accuracy = accuracy;
+  tables = for_each_table (section_of_table schema query tables accuracy) query (length schema.tables);
+}

@@ -1,0 +1,57 @@
+-- The statistics of a filter column for a joined column, as a file has them.
+use Rattle.std.specs.Prelude.{ℕ, Bool, List, map}
+use Rattle.csv_tables.specs.Cells.{value_of_cell}
+use Rattle.csv_tables.specs.Values.{Value}
+use Rattle.csv_tables.specs.declared.types.Cells.{Cells}
+use Rattle.cond_stats.specs.Columns.{cell_le}
+use Rattle.cond_stats.specs.Leaves.{cuts}
+use Rattle.cond_stats.specs.Lists.{rest, whole}
+use Rattle.cond_stats.specs.Rows.{filter_values}
+use Rattle.column_stats.specs.declared.stats.FrequentList.{FrequentList}
+use Rattle.column_stats.specs.Nodes.{node_lists}
+use Rattle.column_stats.specs.Pairs.{kind_of_column, rows_of_pair}
+use Rattle.column_stats.specs.Stats.{frequent_lists}
+use Rattle.sql_meaning.specs.Tables.{Tables}
+use Rattle.stats_file.specs.declared.types.Datum.{Datum}
+use Rattle.stats_file.specs.declared.types.Pair.{Pair}
+use Rattle.table_stats.specs.Columns.{column_values, paired, row_le, value_of_row}
+use Rattle.stats_file_of_query.specs.Data.{datum_of}
+
+-- a frequent value, by the number that stands for it, and its list
+abbrev pub frequent_in : (ℕ → Datum) → FrequentList → Datum × List ℕ
+frequent_in value_of frequent = (value_of frequent.cell, frequent.list)
+
+-- of rows of a filter value and a joined key at an accuracy, the filter values being numbers that compare so and stand for these values;
+-- and the places of the two columns in their table
+abbrev pub pair_of : (ℕ → ℕ → Bool) → (ℕ → Datum) → ℕ → List (ℕ × ℕ) → ℕ → ℕ → Pair
+pair_of at_most value_of accuracy rows filter joined = record {
+  filter = filter;
+  joined = joined;
+  whole = whole accuracy rows;
+  frequent = map (frequent_in value_of) (frequent_lists accuracy rows);
+  rest = rest accuracy rows;
+  cuts = map value_of (cuts at_most (filter_values rows));
+  nodes = node_lists at_most accuracy rows;
+}
+
+-- the value of a row of a column
+abbrev pub datum_of_row : List Value → ℕ → Datum
+datum_of_row values row = datum_of (value_of_row values row)
+
+-- of two columns of values, a value being the first row that has it
+abbrev pub pair_of_values : ℕ → List Value → List Value → ℕ → ℕ → Pair
+pair_of_values accuracy filters keys filter joined = pair_of (row_le filters) (datum_of_row filters) accuracy (paired filters keys) filter joined
+
+-- of two columns of an entry's table
+abbrev pub pair_in_table : Tables → ℕ → ℕ → ℕ → ℕ → Pair
+pair_in_table tables accuracy entry filter joined =
+    pair_of_values accuracy (column_values tables entry filter) (column_values tables entry joined) filter joined
+
+-- the value of a cell of a column
+abbrev pub datum_of_cell : List (List ℕ) → Cells → ℕ → ℕ → Datum
+datum_of_cell texts cells column cell = datum_of (value_of_cell texts (kind_of_column cells column) cell)
+
+-- the same of two columns of a table's cells, a value being its cell
+abbrev pub pair_in_cells : List (List ℕ) → Cells → ℕ → ℕ → ℕ → Pair
+pair_in_cells texts cells accuracy filter joined =
+    pair_of (cell_le texts (kind_of_column cells filter)) (datum_of_cell texts cells filter) accuracy (rows_of_pair cells filter joined) filter joined

@@ -1,0 +1,82 @@
+//! The file of a query.
+ghost use Rattle.std.specs.Prelude.{◌≡◌, ◌≤◌, IfOk, length};
+ghost use Rattle.join_graph.specs.Conjuncts.{equalities_of, local_of};
+ghost use Rattle.sql_meaning.specs.Tables.{tables_of};
+ghost use Rattle.stats_file.specs.Rules.{KeepsRules};
+ghost use Rattle.stats_file_of_query.specs.Databases.{IsOverSchema, IsReadOver, sections_of_cells};
+ghost use Rattle.stats_file_of_query.specs.Files.{file_of_query, first_entry};
+ghost use Rattle.stats_file_of_query.specs.Standing.{StandsFor};
+
+use crate::sections::{section_of, table_of};
+use base_io::{NoMemory, Seq};
+use csv_tables::Database;
+use join_graph::{Parts, split};
+use limits::Accuracy;
+use query_types::Query;
+use schema_types::Schema;
+use stats_file::{StatsFile, TableStats};
+use std::alloc::Global;
+
+// The first FROM entry of a table, where the query names it.
+fn first_entry(query: &Query, table: u32) -> Option<u8>
+    requires { length query.now.from ≤ 12 }
+    ensures { result ≡ first_entry query.now table }
+{
+    for entry in 0..query.from.len() as u8 {
+        if table_of(query, entry) == table {
+            return Some(entry);
+        }
+    }
+    None
+}
+
+// The sections of the tables that the query names, of the first so many of its schema.
+fn sections_of(
+    alloc: Global,
+    schema: &Schema,
+    query: &Query,
+    parts: &Parts,
+    db: &Database,
+    accuracy: Accuracy,
+) -> Result<Seq<TableStats>, NoMemory>
+    requires over { IsOverSchema schema.now query.now db.now }
+    requires local { parts.now.local ≡ local_of query.now }
+    requires equalities { parts.now.equalities ≡ equalities_of query.now }
+    ensures { IfOk result (λ sections. sections ≡ sections_of_cells query.now db.now accuracy (length schema.now.tables)) }
+{
+    let mut sections = Seq::new(alloc);
+    for table in 0..schema.tables.len() as u32 {
+        if let Some(entry) = first_entry(query, table) {
+            let section = section_of(alloc, query, parts, db, table, entry, accuracy)?;
+            sections.push(section)?;
+        }
+    }
+    Ok(sections)
+}
+
+/// The statistics that the bounds of a query need, of all its tables, at an accuracy of compression (SafeBound, SIGMOD 2023):
+/// of each table that the query names, in the schema's order, the number of rows, and of each pair of columns that some entry of it needs
+/// all lists. Where memory is wanting nothing is kept.
+pub fn stats_of(
+    alloc: Global,
+    schema: &Schema,
+    query: &Query,
+    db: &Database,
+    accuracy: Accuracy,
+) -> Result<StatsFile, NoMemory>
+    requires over { IsReadOver schema.now query.now db.now }
+    ensures file { IfOk result (λ file. file ≡ file_of_query schema.now query.now (tables_of db.now) accuracy) }
+    // it may be written
+    ensures rules { IfOk result (KeepsRules schema.now) }
+    // what is planned from it is never under
+    ensures stands { IfOk result (λ file. StandsFor query.now file (tables_of db.now)) }
+{
+    // what the pool knows of its texts
+    let _ = db.pool.len();
+    let parts = split(alloc, query)?;
+    let tables = sections_of(alloc, schema, query, &parts, db, accuracy)?;
+    Ok(StatsFile {
+        accuracy: accuracy.value(),
+        tables,
+    })
+}

@@ -1,0 +1,42 @@
+//! The filter columns of an entry.
+ghost use Rattle.std.specs.Prelude.{◌≡◌, ◌==◌, IfOk, OnOk};
+ghost use Rattle.std.specs.List.{filter_map, list_any};
+ghost use Rattle.degree_sequences.specs.Degrees.{different};
+ghost use Rattle.gathered_stats.specs.Asked.{column_asked};
+ghost use Rattle.stats_file_of_query.specs.Columns.{with_column};
+
+use base_io::{NoMemory, Seq};
+use gathered_stats::column_asked;
+use predicate_bounds::Step;
+use std::alloc::Global;
+
+// Whether a column is there.
+fn has(columns: &[u32], column: u32) -> bool
+    ensures { result ≡ list_any (λ other. column == other) columns.now }
+{
+    columns.iter().any(|other| column == *other)
+}
+
+// Puts a column at the end of a list, where it isn't there yet.
+fn add(columns: &mut Seq<u32>, column: Option<u32>) -> Result<(), NoMemory>
+    ensures { OnOk result (columns.new ≡ with_column columns.old column) }
+{
+    let Some(column) = column else {
+        return Ok(());
+    };
+    if has(columns.as_slice(), column) {
+        return Ok(());
+    }
+    columns.push(column)
+}
+
+/// The columns that steps compare with literals, each once.
+pub(crate) fn filters_of(alloc: Global, steps: &[Step]) -> Result<Seq<u32>, NoMemory>
+    ensures { IfOk result (λ columns. columns ≡ different (filter_map column_asked steps.now)) }
+{
+    let mut columns = Seq::new(alloc);
+    for step in steps {
+        add(&mut columns, column_asked(step))?;
+    }
+    Ok(columns)
+}

@@ -1,0 +1,112 @@
+//! The section of a table.
+ghost use Rattle.std.specs.Prelude.{◌≡◌, ◌++◌, ◌<◌, ◌≤◌, ◌^◌, IfOk, OnOk, length};
+ghost use Rattle.join_graph.specs.Conjuncts.{equalities_of, local_of};
+ghost use Rattle.stats_file_of_query.specs.Needs.{needed, needed_of_table, table_of};
+ghost use Rattle.sql_meaning.specs.Databases.{AreCells, IsDatabaseOf};
+ghost use Rattle.sql_meaning.specs.Tables.{cells_of};
+ghost use Rattle.stats_file_of_query.specs.Databases.{section_of_cells};
+ghost use Rattle.stats_file_of_query.specs.Files.{for_each_pair};
+ghost use Rattle.stats_file_of_query.specs.Pairs.{pair_in_cells};
+
+use crate::column_pairs::ColumnPair;
+use crate::needs::needs_of;
+use crate::pairs::{add_pairs, row_count};
+use base_io::{NoMemory, Seq};
+use csv_tables::{Cells, Database, Pool};
+use join_graph::Parts;
+use limits::Accuracy;
+use predicate_bounds::read_steps;
+use query_types::Query;
+use stats_file::{Pair, TableStats};
+use std::alloc::Global;
+
+// Appends the pairs that an entry needs.
+fn add_needed(
+    alloc: Global,
+    query: &Query,
+    parts: &Parts,
+    entry: u8,
+    pairs: &mut Seq<ColumnPair>,
+) -> Result<(), NoMemory>
+    requires entry { entry < length query.now.from }
+    requires local { parts.now.local ≡ local_of query.now }
+    requires equalities { parts.now.equalities ≡ equalities_of query.now }
+    ensures { OnOk result (pairs.new ≡ pairs.old ++ needed query.now entry) }
+{
+    let steps = read_steps(alloc, query, parts, entry)?;
+    let needs = needs_of(alloc, steps.as_slice(), parts.equalities.as_slice(), entry)?;
+    needs.add_pairs(pairs)
+}
+
+/// The place in the schema of an entry's table.
+pub(crate) fn table_of(query: &Query, entry: u8) -> u32
+    requires { entry < length query.now.from }
+    ensures { result ≡ table_of query.now entry }
+{
+    query.from.get(usize::from(entry)).table
+}
+
+// The pairs that the entries of a table need, one entry after the other.
+fn needed_of_table(
+    alloc: Global,
+    query: &Query,
+    parts: &Parts,
+    table: u32,
+) -> Result<Seq<ColumnPair>, NoMemory>
+    requires few { length query.now.from ≤ 12 }
+    requires local { parts.now.local ≡ local_of query.now }
+    requires equalities { parts.now.equalities ≡ equalities_of query.now }
+    ensures { IfOk result (λ pairs. pairs ≡ needed_of_table query.now table) }
+{
+    let mut pairs = Seq::new(alloc);
+    for entry in 0..query.from.len() as u8 {
+        if table_of(query, entry) == table {
+            add_needed(alloc, query, parts, entry, &mut pairs)?;
+        }
+    }
+    Ok(pairs)
+}
+
+// The statistics of each needed pair of columns, ascending.
+fn pairs_of(
+    alloc: Global,
+    pool: &Pool,
+    cells: &Cells,
+    needed: &[ColumnPair],
+    accuracy: Accuracy,
+) -> Result<Seq<Pair>, NoMemory>
+    requires cells { AreCells pool.now cells.now }
+    requires few { length cells.now.kinds < 2 ^ 32 }
+    ensures { IfOk result (λ pairs. pairs ≡ for_each_pair (pair_in_cells pool.now cells.now accuracy) needed.now (length cells.now.kinds)) }
+{
+    let mut pairs = Seq::new(alloc);
+    for filter in 0..cells.kinds.len() as u32 {
+        add_pairs(alloc, pool, cells, needed, filter, accuracy, &mut pairs)?;
+    }
+    Ok(pairs)
+}
+
+/// The section of a table, from the cells of one of its entries.
+pub(crate) fn section_of(
+    alloc: Global,
+    query: &Query,
+    parts: &Parts,
+    db: &Database,
+    table: u32,
+    entry: u8,
+    accuracy: Accuracy,
+) -> Result<TableStats, NoMemory>
+    requires database { IsDatabaseOf query.now db.now }
+    requires entry { entry < length query.now.from }
+    requires few { length (cells_of db.now entry).kinds < 2 ^ 32 }
+    requires local { parts.now.local ≡ local_of query.now }
+    requires equalities { parts.now.equalities ≡ equalities_of query.now }
+    ensures { IfOk result (λ section. section ≡ section_of_cells query.now db.now accuracy table entry) }
+{
+    let needed = needed_of_table(alloc, query, parts, table)?;
+    let slot = *db.slots.get(usize::from(entry));
+    let cells = db.cells.get(slot as usize);
+    let rows = row_count(cells);
+    let pairs = pairs_of(alloc, &db.pool, cells, needed.as_slice(), accuracy)?;
+    Ok(TableStats { table, rows, pairs })
+}
