@@ -69,7 +69,7 @@ module _ (binder : Binder) (scope : Scope) where
       → LookedAt binder scope (flat_map tests cs) held held' found found' (more cs)
   looked_all cs {i} {held} {held'} {found} {found'} more done l = subst (λ taken. LookedAt binder scope (flat_map tests taken) held held' found found' (more taken)) (take_all i cs done) l
 
-  -- if no condition before place i has a wrong name, an error at the first wrong name of condition i is the error of the whole list
+  -- where no condition before place i has a wrong name, the name error of condition i is that of the whole list
   pub wrong_in : (cs : List CondText) {i : ℕ} (d : CondText) (e : QueryError)
       → i < length cs → flat_map (test_offences_of binder scope) (flat_map tests (take i cs)) ≡ []
       → IsNameError (flat_map (test_offences_of binder scope) (tests (get_or cs i d))) e → IsNameError (flat_map (test_offences_of binder scope) (flat_map tests cs)) e
