@@ -1,7 +1,7 @@
 -- complain if script is sourced in psql, rather than via CREATE EXTENSION
 \echo Use "CREATE EXTENSION safebound" to load this file. \quit
 
--- The statistics of tables: kept_table has a row for each table that is kept, kept_lists one for each joined column with each filter column.
+-- The statistics of tables: kept_table has a row for each kept table, and kept_lists one for each joined column with each filter column.
 -- They have values of the tables in them, so only the extension's owner may read them.
 -- accuracy, common and ranges are what `keep` was called with.
 -- joined and filters are the numbers of the table's own columns that were counted as joined columns and as filter columns.
