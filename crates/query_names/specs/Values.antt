@@ -125,8 +125,7 @@ outs_of_found schema None = []
 outs_of_found schema (Some entry) = outs_of_entry schema entry
 
 module _ (schema : Schema) (text : List ℕ) (from : List Source) where
-  -- the outputs of one item of the list: all columns of the entry of an alias, or a column, under the name that is written after it, else
-  -- under its own
+  -- the outputs of one item: all columns of an alias's entry, or one column, under the name that is written after it, else its own
   abbrev pub outs_of : OutText → List Out
   outs_of (out.All alias) = outs_of_found schema (entry_named from (everything from) (name_of text alias))
   outs_of (out.Column reference name) =

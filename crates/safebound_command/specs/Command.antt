@@ -70,7 +70,6 @@ pub record HasNoWords (words : List (List ℕ)) (out notes : Written) (code : �
   pub no_out : out.count ≡ 0
   pub no_notes : notes.count ≡ 0
 
--- The program was run, or a word isn't UTF-8. There is no third case for want of memory: to copy the words takes none, and where the run
--- lacks memory its exit status says so.
+-- the program was run, or a word isn't UTF-8. To copy the words takes no memory; where the run lacks some, its exit status says so
 abbrev pub CallEnds : List (List ℕ) → Files → Written → Written → ℕ → Type 0
 CallEnds words files out notes code = ((misses : ℕ) × Ran words files out notes misses code) ⊎ HasNoWords words out notes code

@@ -17,8 +17,7 @@ use Rattle.table_files.specs.declared.rows.TableRows.{TableRows}
 abbrev pub entry_rows : Database → List (List Row)
 entry_rows db = map (tables_of db) (range_with_len 0 (length db.slots))
 
--- the rows of each entry as `Tables`, which also gives rows at numbers past the last entry: those of the first entry, or none. No query
--- asks there
+-- the rows of each entry as `Tables`. Past the last entry, where no query asks, it gives the first entry's rows, or no rows
 abbrev pub tables_in : List (List Row) → Tables
 tables_in rows entry = slice_index_or rows entry (slice_index_or rows 0 [])
 
