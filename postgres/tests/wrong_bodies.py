@@ -4,7 +4,7 @@
 
 Each bug is an edit of a C file. For each edit whose name has WORD in it (without WORD for all of them) the extension
 is built anew, and the test that has to fail is run on a server of its own. An edit whose test passes is printed as
-MISSED, and the exit status is then 1. Each of these tests is also run without an edit, and then it has to pass.
+MISSED, and the exit status is then 1. Without WORD each of these tests is first run without an edit, and has to pass.
 """
 
 from __future__ import annotations

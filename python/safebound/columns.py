@@ -22,7 +22,8 @@ _LISTED_BY = ("to_pylist", "tolist", "to_list")
 def keys_of(values: object) -> Any:
     """An array of 64-bit keys, one for each row that has a value. Rows have the same key where their values are equal.
 
-    Raises WrongType where `values` is no column, or has a value that can't be one of a column.
+    The array may share the memory of `values`. Raises WrongType where `values` is no column, or one of them isn't one
+    value of a column.
     """
     _refuse_what_is_no_column(values)
     found = _of_pandas(values)
