@@ -1,10 +1,14 @@
 -- complain if script is sourced in psql, rather than via CREATE EXTENSION
 \echo Use "CREATE EXTENSION safebound" to load this file. \quit
 
--- What is known of a table: one row for each kept table, and one for each joined column with each filter column.
--- Statistics tell values, so only the extension's owner reads them.
--- version: another one each time that the table is counted. sources: the tables whose statements bring rows, where it is watched.
--- referred: the number, the version and how many deltas of each watched table that it refers to, when it was counted.
+-- The statistics of tables: kept_table has a row for each kept table, and kept_lists one for each joined column with each filter column.
+-- They have values of the tables in them, so only the extension's owner may read them.
+-- accuracy, common and ranges are what `keep` was called with.
+-- joined and filters are the numbers of the table's own columns that were counted as joined columns and as filter columns.
+-- version is a new number each time that the table is counted.
+-- sources are the tables to which a statement may bring rows of this one; NULL where the table isn't watched.
+-- referred has three numbers for each watched table that this one refers to: its oid, and its version and how many deltas it had when this
+-- table was counted.
 CREATE SEQUENCE versions;
 CREATE TABLE kept_table (
     relation regclass PRIMARY KEY,
@@ -21,9 +25,10 @@ CREATE TABLE kept_table (
 );
 REVOKE ALL ON kept_table FROM PUBLIC;
 
--- joined 0: the rows of each value of the filter column alone. filter 0: the list of all rows.
--- along: the filter column is one of the table `referred`, to whose column `key` the column `along` refers; 0: it is one of the table
--- itself.
+-- A row has the degree lists of one joined column, for all rows and by the values of one filter column. Columns stand as numbers.
+-- Where joined is 0, it has only how many rows each value of the filter column has. Where filter is 0, it has only the list of all rows.
+-- Where along is 0, the filter column is one of the table itself. Else it is one of the table `referred`, to whose column `key` the column
+-- `along` is a foreign key.
 CREATE TABLE kept_lists (
     relation regclass NOT NULL,
     joined smallint NOT NULL,
@@ -40,7 +45,7 @@ CREATE TABLE kept_lists (
 );
 REVOKE ALL ON kept_lists FROM PUBLIC;
 
--- The rows that came since a table was counted, one delta for each statement. rows -1: some came that weren't counted.
+-- The rows that came since a table was counted, one delta for each statement. Where rows is -1, some came that weren't counted.
 CREATE TABLE kept_delta (
     relation oid NOT NULL,
     id bigint NOT NULL,

@@ -1,8 +1,10 @@
-"""Wrong bodies: each is an edit that a test has to fail for.
+"""Puts known bugs into the extension, one at a time, and sees whether its tests find them.
 
     postgres/tests/wrong_bodies.py [WORD]
 
-The extension is built anew with each edit whose name has WORD in it, and tested on a server of its own.
+Each bug is an edit of a C file. For each edit whose name has WORD in it (without WORD for all of them) the extension
+is built anew, and the test that has to fail is run on a server of its own. An edit whose test passes is printed as
+MISSED, and the exit status is then 1. Without WORD each of these tests is first run without an edit, and has to pass.
 """
 
 from __future__ import annotations
@@ -24,7 +26,10 @@ from installed import SETTINGS, Alone, lay_server
 
 @dataclass
 class Edit:
-    """What goes wrong, in which file, by which edits, and the regression or isolation test that fails."""
+    """A bug: what goes wrong, the C file, texts of it with what replaces them, and the test that has to fail.
+
+    The test is a regression or an isolation test, by its name.
+    """
 
     name: str
     file: str
@@ -182,12 +187,12 @@ def apply(edit: Edit, folder: Path) -> None:
 
 
 def passes(folder: Path, test: str) -> bool:
-    """Whether one test passes, on a server with what stands in the folder."""
+    """Whether one test of the folder passes, on a new server with the extension as it was built there."""
     kind = "ISOLATION" if (folder / "specs" / f"{test}.spec").exists() else "REGRESS"
     other = {"ISOLATION": "REGRESS", "REGRESS": "ISOLATION"}[kind]
     with Alone(SETTINGS) as server:
         reach = {**os.environ, "PGHOST": server.folder, "PGUSER": "postgres"}
-        # One test creates the extension itself.
+        # The test `keep` creates the extension itself.
         extension = "" if test == "keep" else "--load-extension=safebound "
         words = [f"{kind}={test}", f"{other}=", f"REGRESS_OPTS={extension}--dbname=contrib_regression"]
         command = ["make", "-s", "-C", str(folder), "installcheck", *words]

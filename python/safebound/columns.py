@@ -1,4 +1,7 @@
-"""Columns as a program has them: from their values to keys of 64 bits, without the rows that have no value (NULL)."""
+"""Makes 64-bit keys of a column as a Python program has it: a list, an array, or a column of Arrow, pandas or polars.
+
+Rows without a value (NULL) are left out.
+"""
 
 from __future__ import annotations
 
@@ -12,12 +15,16 @@ from .errors import WrongType
 
 __all__ = ["keys_of"]
 
-# How columns of other libraries give their values as Python's: Arrow, then numpy and its like, then polars.
+# The method that lists a column's values as Python objects: in Arrow, in numpy and its like, in polars.
 _LISTED_BY = ("to_pylist", "tolist", "to_list")
 
 
 def keys_of(values: object) -> Any:
-    """A key for each row that has a value: the same one where values are equal."""
+    """An array of 64-bit keys, one for each row that has a value. Rows have the same key where their values are equal.
+
+    The array may share the memory of `values`. Raises WrongType where `values` is no column, or one of them isn't one
+    value of a column.
+    """
     _refuse_what_is_no_column(values)
     found = _of_pandas(values)
     if found is None:
@@ -27,7 +34,7 @@ def keys_of(values: object) -> Any:
 
 
 def _refuse_what_is_no_column(values: object) -> None:
-    """Refuses what doesn't have one value for each row: counted as a column, it would make bounds that are too low."""
+    """Raises WrongType where there isn't one value for each row: such values, counted, would make bounds too low."""
     kind = type(values).__name__
     if isinstance(values, (str, bytes, bytearray)) or _is_view_of_text(values):
         raise WrongType(f"{kind} is a text and no column: a column has one value for each row")
@@ -45,7 +52,7 @@ def _is_view_of_text(values: object) -> bool:
 
 
 def _dimensions(values: object) -> Optional[int]:
-    """How many dimensions it has, where it says so."""
+    """How many dimensions the values have; None where they don't tell."""
     told = getattr(values, "ndim", None)
     if isinstance(told, int):
         return told
@@ -57,7 +64,7 @@ def _dimensions(values: object) -> Optional[int]:
 
 
 def _of_pandas(values: object) -> Any:
-    """A number for each value of a column of pandas that isn't missing, the same one for equal values; else None."""
+    """For a pandas column: numbers for the values that aren't missing, equal ones for equal values. Else None."""
     pandas = sys.modules.get("pandas")
     if pandas is None or not isinstance(values, (pandas.Series, pandas.Index, pandas.api.extensions.ExtensionArray)):
         return None
@@ -69,7 +76,10 @@ def _of_pandas(values: object) -> Any:
 
 
 def _of_numpy(values: object) -> Any:
-    """An array of numbers or times of numpy as 64-bit numbers, without what is masked, NaN or NaT; else None."""
+    """For a numpy array of numbers or times: its values in 64 bits, without masked ones, NaN and NaT. Else None.
+
+    Complex numbers and floats of more than 64 bits are no such numbers.
+    """
     numpy = sys.modules.get("numpy")
     if numpy is None or not isinstance(values, numpy.ndarray):
         return None
@@ -88,7 +98,7 @@ def _of_numpy(values: object) -> Any:
 
 
 def _listed(values: object) -> Iterable[object]:
-    """The values one by one, as values of Python where they can be had so."""
+    """The values to go through one by one, as Python objects where the column has a method for that."""
     by = next((name for name in _LISTED_BY if callable(getattr(values, name, None))), None)
     listed: Any = values if by is None else getattr(values, by)()
     try:
@@ -99,9 +109,9 @@ def _listed(values: object) -> Iterable[object]:
 
 
 def _numbered(values: Iterable[object]) -> array[int]:
-    """A number for each value, the same one where they are equal.
+    """A number for each value, the same one for equal values.
 
-    None, `pandas.NA` and what isn't equal to itself is no value.
+    None, `pandas.NA` and what isn't equal to itself, as NaN, count as no value and get no number.
     """
     absent = getattr(sys.modules.get("pandas"), "NA", None)
     numbers: dict[object, int] = {}
@@ -136,7 +146,7 @@ def _view(values: object) -> Optional[memoryview]:
 
 
 def _in_memory(values: object) -> Any:
-    """The keys of values that lie in memory as 64-bit numbers already, or None."""
+    """The values themselves as keys, if they lie in memory as 64-bit integers without a mask. Else None."""
     view = _view(values)
     if view is None or getattr(values, "mask", None) is not None:
         return None

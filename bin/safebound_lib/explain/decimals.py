@@ -1,4 +1,4 @@
-"""What is wrong where a query compares a column of decimals with a number."""
+"""Explains why a query can't compare a column of decimals with a number, and how to write that column in cents."""
 from __future__ import annotations
 
 import os
@@ -20,8 +20,10 @@ COMPARISONS = ("=", "<>", "<", "<=", ">", ">=")
 
 
 def of_decimals(cause: str, query: Query, schema: Schema, at: int, run: Run) -> list[str]:
-    """Sentences on the column, with the line that writes it in cents and the comparison as it is then; nothing where no
-    column of decimals is compared at this place.
+    """What to tell of a fault at place `at` of the query text, in two sentences.
+
+    The first says that the column has decimals, and gives the command that writes it in cents. The second gives the
+    comparison as the query has it then. The list is empty where no column of decimals is compared at this place.
     """
     if cause == "kind":
         return of_kind(query, schema, at, run)
@@ -29,7 +31,7 @@ def of_decimals(cause: str, query: Query, schema: Schema, at: int, run: Run) -> 
 
 
 def of_kind(query: Query, schema: Schema, at: int, run: Run) -> list[str]:
-    """A whole number beside such a column."""
+    """For a column of decimals beside a whole number: the program refuses to compare a text with a number."""
     test = next(t for t in query.tests if any(o.token.start == at for o in t.operands[1:]))
     sides = [test.operands[0], next(o for o in test.operands[1:] if o.token.start == at)]
     literal = next((side for side in sides if isinstance(side, Literal) and side.is_number), None)
@@ -41,7 +43,7 @@ def of_kind(query: Query, schema: Schema, at: int, run: Run) -> list[str]:
 
 
 def of_point(query: Query, schema: Schema, at: int, run: Run) -> list[str]:
-    """A decimal behind a column: the text goes wrong at its point or comma."""
+    """For a column compared with a decimal: the query's syntax is wrong at the decimal's point or comma."""
     number = next((i for i, token in enumerate(query.tokens) if token.start == at), 0)
     around = query.tokens[max(number - 4, 0):number + 2]
     before, behind = around[:-2], around[-2:]
@@ -56,6 +58,11 @@ def of_point(query: Query, schema: Schema, at: int, run: Run) -> list[str]:
 
 
 def said(query: Query, schema: Schema, beside: Reference, number: str, sign: str, run: Run) -> list[str]:
+    """The two sentences on the column `beside`, which the query compares with `number` by `sign`.
+
+    Where `sign` is empty, the second sentence gives the number alone. The list is empty where the schema declares the
+    column as a number, or its table's file can't be read or has no decimals there.
+    """
     from ..sheets import NoTable, sheet_of
     _, table, column = found_of(query, beside, schema)
     if column.is_number or not os.path.isfile(table.file):

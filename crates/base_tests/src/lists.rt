@@ -1,4 +1,4 @@
-//! Lists, names, sets, degree lists and pieces.
+//! Tests of lists, names, sets of entries, degree lists and pieces.
 use base_io::{Boxed, Name, NoMemory, Seq};
 use counted_sets::{Use, reduce};
 use degree_lists::falling;
@@ -33,12 +33,12 @@ fn sets_gain_and_lose_entries(rt: HostRuntime) {
     }
 }
 
-// Five equal keys, three and one.
+// The degrees of three different keys, which stand five times, three times and once.
 fn degrees(alloc: Global) -> Result<Seq<u64>, NoMemory> {
     falling(alloc, &[8, 8, 8, 8, 8, 2, 2, 2, 5])
 }
 
-// Their degree list, with accuracy 1: 5 and 4.
+// These degrees compressed at accuracy 1: the elements 5 and 4, each a piece.
 fn compressed(alloc: Global) -> Result<Pieces, NoMemory> {
     compress(alloc, &[5, 3, 1], Accuracy::of(1))
 }
@@ -52,7 +52,8 @@ fn counts_fall(rt: HostRuntime) -> Result<(), Fail> {
     Ok(())
 }
 
-// A list of these runs. Runs that don't fall are answered as want of memory, which fails a test.
+// The list with these runs, each a degree and its number of keys. It answers NoMemory, which fails the test, where a degree is above the
+// one before it, a degree or a number is 0, or the numbers sum to more than 64 bits hold.
 fn of_runs(alloc: Global, runs: &[(u64, u64)]) -> Result<Pieces, NoMemory> {
     let mut list = Pieces::empty(alloc);
     let mut last = u64::MAX;
@@ -68,11 +69,12 @@ fn of_runs(alloc: Global, runs: &[(u64, u64)]) -> Result<Pieces, NoMemory> {
     Ok(list)
 }
 
-// Ten billion rows by the degrees of their keys: 6,000 keys have 1,000,000 rows each, 5,000 have 600,001, and 999,995 have 1,000.
+// Ten billion rows: 6,000 keys have 1,000,000 rows each, 5,000 keys have 600,001 each, and 999,995 keys have 1,000 each.
 const MANY_ROWS: [(u64, u64); 3] = [(1_000_000, 6_000), (600_001, 5_000), (1_000, 999_995)];
 
-// They are compressed with accuracy 1, where the second degree is not half of the first: its 3,000,005,000 rows go to 3,001 keys of the
-// first degree, and of the others 999,000,000 are left, which 999,000 keys have.
+// These rows compressed at accuracy 1. The second degree is more than half of the first, so its 3,000,005,000 rows are counted at the first
+// degree. With 995,000 rows of the third they are 3,001 more keys of 1,000,000 rows. Of the third degree 999,000,000 rows are left, which
+// are 999,000 keys of 1,000 rows.
 fn many_compressed(alloc: Global) -> Result<Pieces, NoMemory> {
     let list = of_runs(alloc, &MANY_ROWS)?;
     if list.total() != 10_000_000_000 {
@@ -96,7 +98,7 @@ fn ten_billion_rows_are_compressed_by_their_runs(rt: HostRuntime) -> Result<(), 
     Ok(())
 }
 
-// The totals of the greater of 3, 1 and 2, 2, 1 by rank, of their sum and of their product.
+// The lists 3, 1 and 2, 2, 1 are combined rank by rank. These are the totals of the greater elements, of the sums and of the products.
 fn totals(alloc: Global) -> Result<[u128; 3], NoMemory> {
     let short = Pieces::from_list(alloc, &[3, 1])?;
     let long = Pieces::from_list(alloc, &[2, 2, 1])?;
@@ -111,7 +113,8 @@ fn lists_are_combined_by_rank(rt: HostRuntime) -> Result<(), Fail> {
     Ok(())
 }
 
-// Item 1 needs what nobody gives, item 0 what item 1 gives; item 2 gives for itself, and item 3 needs nothing.
+// Item 1 needs slot 2, which no item gives, so it goes. Then item 0 goes, since it needs slot 1 of item 1. Item 2 gives the slot that it
+// needs, and item 3 needs no slot, so both stay.
 fn marks(alloc: Global) -> Result<RowBuf<bool>, NoMemory> {
     let uses = [
         Use {

@@ -1,4 +1,4 @@
-//! The bounds of queries, and the least time that they took.
+//! Measures how long the bounds of a query take. Each call computes them several times and keeps the least time.
 ghost use Rattle.bound_fold.specs.Sets.{SetIsListed};
 ghost use Rattle.set_bounds.specs.AllSets.{first_entries};
 
@@ -12,7 +12,7 @@ use std::io;
 use std::rt::Clock;
 use std::time::Instant;
 
-/// The bound of a set, or the sum of the bounds of all sets, and the least time that it took.
+/// The bound of a set of entries, or the sum of the bounds of all sets, and how many nanoseconds the computation took.
 #[derive(Clone, Copy)]
 pub struct Timing {
     pub bound: u128,
@@ -27,7 +27,7 @@ impl Timing {
         }
     }
 
-    // A later one, with the least time.
+    // The bound of the later timing, with the lesser of both times.
     fn and(self, later: Timing) -> Timing {
         Timing {
             bound: later.bound,
@@ -53,7 +53,8 @@ fn bound_once(rt: &impl Clock, alloc: Global, query: &Query, subset: EntrySet) -
     Ok(Timing { bound, nanos })
 }
 
-/// The bound of a set. One that misses a row bound or a list is refused.
+/// The bound of a set of entries, with the least time of so many rounds. The error is `InvalidInput` where an entry has no row bound
+/// or a joined column no list, and `OutOfMemory` where memory is wanting.
 pub fn timed(
     rt: &impl Clock,
     alloc: Global,
@@ -89,7 +90,8 @@ fn sets_once(rt: &impl Clock, alloc: Global, query: &Query) -> io::Result<Timing
     Ok(Timing { bound, nanos })
 }
 
-/// The sum of the bounds of all sets of twelve entries.
+/// The sum of the bounds of all sets of a query's first twelve entries, modulo 2^128, with the least time of so many rounds. The time is
+/// that of the bounds without the sum. Errors are those of `timed`.
 pub fn timed_sets(
     rt: &impl Clock,
     alloc: Global,

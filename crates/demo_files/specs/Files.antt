@@ -1,4 +1,4 @@
--- The six files of the shop: a schema, a query, and a file for each table.
+-- The six files of a shop that `demo` makes in memory: a schema, a query, and a file for each of four tables.
 use Rattle.std.specs.Prelude.{ℕ, List, [], ◌∷◌, ◌++◌, map, codes, decimal}
 use Rattle.std.specs.List.{flat_map, join_with_byte, range_with_len}
 use Rattle.base_io.specs.Files.{Files}
@@ -6,7 +6,7 @@ use Rattle.demo_files.specs.Shop.{customer, customer_columns, customers, item, i
 use Rattle.demo_files.specs.Shop.{order, order_columns, orders, product, product_columns, products}
 use Rattle.demo_files.specs.Texts.{query_text, schema_text}
 
--- the records of a table's file: the names of its columns, and then so many records of numbers
+-- the records of a table's file: the names of its columns, and then `count` records of numbers
 unfoldable pub table_records : List (List ℕ) → (ℕ → List ℕ) → ℕ → List (List (List ℕ))
 table_records columns numbers count = columns ∷ map (λ i. map decimal (numbers i)) (range_with_len 0 count)
 
@@ -22,15 +22,15 @@ order_records number = table_records order_columns (order number) orders
 unfoldable pub customer_records : ℕ → List (List (List ℕ))
 customer_records number = table_records customer_columns (customer number) customers
 
--- a record: its fields with commas between them, and CR and LF
+-- the text of a record: its fields with commas between them, then CR and LF
 abbrev pub record_text : List (List ℕ) → List ℕ
 record_text fields = join_with_byte 44 fields ++ codes "\r\n"
 
--- a file of these records
+-- the text of a file with these records
 unfoldable pub file_text : List (List (List ℕ)) → List ℕ
 file_text records = flat_map record_text records
 
--- the files of the shop with this number, by their names
+-- the files of the shop with this number, each under its name
 abbrev pub demo_files : ℕ → Files
 demo_files number =
     (codes "schema.sql", schema_text)

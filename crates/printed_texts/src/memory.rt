@@ -1,4 +1,4 @@
-//! The line of a plan's bytes. Nothing here takes memory.
+//! Writes the line `memory BYTES`, which tells how many bytes a plan takes. Nothing here allocates.
 ghost use Rattle.std.specs.Prelude.{◌≡◌};
 ghost use Rattle.base_io.specs.Devices.{growth};
 ghost use Rattle.base_io.specs.Writes.{Put, Wrote};
@@ -26,7 +26,7 @@ fn write_bytes<N: Sink>(bytes: u128, sink: &mut N) -> Result<(), Failed>
     buffer.flush(sink)
 }
 
-/// Writes the line of a plan's bytes, where a limit of memory is given. It stands behind the plan text.
+/// Writes how many bytes the plan takes, if the command gave a limit of memory, and else nothing. The line follows the plan text.
 pub fn write_memory<N: Sink>(limit: Option<u64>, bytes: u128, sink: &mut N) -> Result<(), Failed>
     ensures { Wrote (growth N.taken N.faults sink.old sink.new) (memory_text limit bytes) result }
 {

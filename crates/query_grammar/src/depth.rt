@@ -1,14 +1,14 @@
-//! How deep parentheses are nested.
+//! How deep the parentheses of a query text are nested.
 ghost use Rattle.std.specs.Prelude.{◌≡◌, ◌+◌, ◌<◌, ◌^◌};
 ghost use Rattle.query_grammar.specs.Nesting.{nesting, behind};
 
 use crate::terminals::{CLOSE, OPEN};
 use ll_grammars::{Lexeme, is_among};
 
-/// How many parentheses may be open at one place of a query text.
+/// The most parentheses that may be open at once in a query text.
 pub const MAX_NESTING: u32 = 64;
 
-/// How many parentheses are open behind a token, where so many are open before it.
+/// How many parentheses are open after a token, if `opened` are open before it.
 fn open_behind(opened: u64, token: Lexeme) -> u64
     requires { opened + 1 < 2 ^ 64 }
     ensures { result ≡ behind opened token }
@@ -22,8 +22,8 @@ fn open_behind(opened: u64, token: Lexeme) -> u64
     }
 }
 
-/// The greatest number of parentheses that are open at one place of the tokens. A `)` where none is open closes
-/// nothing. Parentheses around the values of IN count as others do.
+/// The greatest number of parentheses that are open at once. A `)` without an open `(` closes nothing. Parentheses around
+/// the values of IN count too.
 pub fn nesting(tokens: &[Lexeme]) -> u64
     ensures { result ≡ nesting tokens.now }
 {

@@ -36,7 +36,7 @@ use Rattle.query_names.specs.Scopes.{resolve, entry_named, in_scope, everything,
 use Rattle.query_names.specs.Numbers.{number_value}
 use Rattle.query_names.specs.Offences.{of_literal}
 
--- a condition, and its members: where it is an AND the members of its operands, else the condition itself
+-- a condition, and its members. The members of an AND are those of all its operands; any other condition has itself as its one member
 pub record Meaning : Type 0 where
   pub whole : Cond
   pub members : List Cond
@@ -54,13 +54,13 @@ abbrev pub negated_where : Bool → Meaning → Meaning
 negated_where true m = alone (cond.Not m.whole)
 negated_where false m = m
 
--- one condition, or the OR of several
+-- the OR of these conditions, or the condition itself where there is just one
 abbrev pub any_of : List Cond → Meaning
 any_of [] = alone (cond.Or [])
 any_of (one ∷ []) = alone one
 any_of (one ∷ other ∷ rest) = alone (cond.Or (one ∷ other ∷ rest))
 
--- what a reference stands for. The first case is never met where no name is wrong
+-- the column that a reference stands for. None comes only from a wrong name, and such a query is refused, so that column is never used
 abbrev pub reference_to : Option EntryColumn → ColumnRef
 reference_to None = record { from = 0; column = 0 }
 reference_to (Some column) = record { from = column.from; column = column.column }
@@ -80,7 +80,7 @@ module _ (schema : Schema) (text : List ℕ) (from : List Source) (scope : Scope
   abbrev pub equality : OperandText → LiteralText → Cond
   equality left l = comparison op.Eq left (of_literal l)
 
-  -- BETWEEN is AND of >= and <=, IN is OR of the equalities; NOT before them is NOT of that
+  -- BETWEEN means the AND of >= and <=, and IN the OR of equalities. NOT BETWEEN and NOT IN are the NOT of these
   abbrev pub test_meaning : TestText → Meaning
   test_meaning (test.Compare left how right) = alone (comparison how left right)
   test_meaning (test.Between left negated low high) =
@@ -125,7 +125,7 @@ outs_of_found schema None = []
 outs_of_found schema (Some entry) = outs_of_entry schema entry
 
 module _ (schema : Schema) (text : List ℕ) (from : List Source) where
-  -- a column's name is the name after it, else its own
+  -- the outputs of one item: all columns of an alias's entry, or one column, under the name that is written after it, else its own
   abbrev pub outs_of : OutText → List Out
   outs_of (out.All alias) = outs_of_found schema (entry_named from (everything from) (name_of text alias))
   outs_of (out.Column reference name) =
@@ -134,7 +134,7 @@ module _ (schema : Schema) (text : List ℕ) (from : List Source) where
         name = name_of text (unwrap_or name reference.column);
       } ∷ []
 
-  -- * is all columns of all entries in order
+  -- the outputs of the whole list. * means all columns of all entries, in the order of FROM
   abbrev pub selected : OutsText → List Out
   selected outs.All = flat_map (outs_of_entry schema) (in_scope from (everything from))
   selected (outs.Listed list) = flat_map outs_of list

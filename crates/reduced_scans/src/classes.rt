@@ -1,4 +1,4 @@
-//! The values of equalities, numbered as they come.
+//! Gives a number to each value that stands in a column of an equality. `wiring` makes two slots of each number.
 ghost use Rattle.std.specs.Prelude.{◌≡◌, ◌+◌, ◌^◌, ◌<◌, ◌≤◌, [], IfOk, OnOk, Some, length, slice_get};
 ghost use Rattle.reduced_scans.specs.Wiring.{ClassesAreDifferent, ClassesBeginWith};
 
@@ -7,8 +7,8 @@ use indexmap::IndexSet;
 use std::alloc::Global;
 use std::marker::Model;
 
-/// Values of equalities. A value is kept as its cell, with the number of its equality; texts are equal if their numbers in the pool are.
-/// Contracts see the list of them.
+/// The values that were numbered so far, each as its cell with the number of its equality. Texts are equal if their numbers in the pool are
+/// equal. Contracts see these pairs as a list, in which the place of a pair is its number.
 #[derive(Drop)]
 pub(crate) struct ClassSet {
     pairs: IndexSet<(u32, u64)>,
@@ -32,7 +32,7 @@ impl ClassSet {
         }
     }
 
-    /// How many values there are. No two are equal.
+    /// How many values were numbered. No pair of equality and cell stands twice.
     pub(crate) fn len(&self) -> usize
         ensures len { result ≡ length self.now }
         ensures different { ClassesAreDifferent self.now }
@@ -40,7 +40,7 @@ impl ClassSet {
         self.pairs.len()
     }
 
-    /// The number of a value of an equality. A new value is added at the end.
+    /// The number of a value in this equality. A value that wasn't met yet gets the next number. Numbers that were given stay.
     pub(crate) fn number(&mut self, equality: u32, cell: u64) -> Result<u32, NoMemory>
         requires { length self.old < 2 ^ 31 }
         ensures class { IfOk result (λ class. slice_get self.new class ≡ Some (equality, cell)) }

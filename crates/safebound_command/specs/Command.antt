@@ -1,4 +1,4 @@
--- What a call of the program over files in memory answers.
+-- What one call of `safebound_command` answers: it runs the program over files in memory.
 use Rattle.std.specs.Prelude.{ℕ, ◌≡◌, ◌⊎◌, ◌<◌, ◌≤◌, List, [], length, take, Some}
 use Rattle.std.specs.List.{Any}
 use Rattle.std.specs.Str.{IsUtf8}
@@ -20,7 +20,7 @@ read_from files after misses_before misses_after = record {
   misses_after = misses_after;
 }
 
--- a stream that began empty, has taken this text, and has failed so often
+-- a stream that began empty, has taken this text, and of which `faults` writes failed
 abbrev pub stream : List ℕ → ℕ → Growth
 stream text faults = record {
   taken_before = Some [];
@@ -29,7 +29,7 @@ stream text faults = record {
   faults_after = faults;
 }
 
--- a room after a call, and how many bytes of it, from its front on, were written
+-- a buffer of the caller's (a room) after a call, and how many bytes were written at its front
 pub record Written : Type 0 where
   pub room : List ℕ
   pub count : ℕ
@@ -40,13 +40,13 @@ written room count = record { room = room; count = count }
 abbrev pub text_of : Written → List ℕ
 text_of w = take w.count w.room
 
--- the text is within the room, and a write failed only where it fills the room
+-- the text fits into the room, and if a write failed, the text fills the room
 pub record TextIsWithin (w : Written) (faults : ℕ) : Type 0 where
   pub within : w.count ≤ length w.room
   pub full : 0 < faults → w.count ≡ length w.room
 
--- The program was run: the code is its exit status, both texts stand in their rooms, and the run has the headline, over a store that tells
--- just these files, never fails, and was asked for so many names that it hasn't.
+-- The program was run. The code is its exit status, and both texts stand in their rooms. The headline holds of the run, over a store that
+-- tells just these files and never fails. `misses` is how often the run asked it for a file that it doesn't have.
 pub record Ran (words : List (List ℕ)) (files : Files) (out notes : Written) (misses code : ℕ) : Type 0 where
   pub status : Status
   pub told : code ≡ code_of status
@@ -63,13 +63,13 @@ pub record Ran (words : List (List ℕ)) (files : Files) (out notes : Written) (
     notes = stream (text_of notes) notes_faults;
   })
 
--- a word isn't UTF-8: the code is 15, and both texts are empty
+-- The program was not run, since a word isn't UTF-8. The code is 15, and both texts are empty.
 pub record HasNoWords (words : List (List ℕ)) (out notes : Written) (code : ℕ) : Type 0 where
   pub told : code ≡ 15
   pub word : Any (λ word. ¬ (IsUtf8 word)) words
   pub no_out : out.count ≡ 0
   pub no_notes : notes.count ≡ 0
 
--- the program was run, or a word isn't UTF-8. Want of memory is an answer of the run alone: the words take none
+-- the program was run, or a word isn't UTF-8. To copy the words takes no memory; where the run lacks some, its exit status says so
 abbrev pub CallEnds : List (List ℕ) → Files → Written → Written → ℕ → Type 0
 CallEnds words files out notes code = ((misses : ℕ) × Ran words files out notes misses code) ⊎ HasNoWords words out notes code

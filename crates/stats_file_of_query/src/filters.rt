@@ -1,4 +1,4 @@
-//! The filter columns of an entry.
+//! Which columns of an entry the query compares with literals: its filter columns.
 ghost use Rattle.std.specs.Prelude.{◌≡◌, ◌==◌, IfOk, OnOk};
 ghost use Rattle.std.specs.List.{filter_map, list_any};
 ghost use Rattle.degree_sequences.specs.Degrees.{different};
@@ -10,14 +10,14 @@ use gathered_stats::column_asked;
 use predicate_bounds::Step;
 use std::alloc::Global;
 
-// Whether a column is there.
+// Whether the list has this column.
 fn has(columns: &[u32], column: u32) -> bool
     ensures { result ≡ list_any (λ other. column == other) columns.now }
 {
     columns.iter().any(|other| column == *other)
 }
 
-// Puts a column at the end of a list, where it isn't there yet.
+// Adds the column, if there is one, at the end of the list, unless the list has it already.
 fn add(columns: &mut Seq<u32>, column: Option<u32>) -> Result<(), NoMemory>
     ensures { OnOk result (columns.new ≡ with_column columns.old column) }
 {
@@ -30,7 +30,7 @@ fn add(columns: &mut Seq<u32>, column: Option<u32>) -> Result<(), NoMemory>
     columns.push(column)
 }
 
-/// The columns that steps compare with literals, each once.
+/// The columns that steps compare with literals, each once, in the order in which they are met.
 pub(crate) fn filters_of(alloc: Global, steps: &[Step]) -> Result<Seq<u32>, NoMemory>
     ensures { IfOk result (λ columns. columns ≡ different (filter_map column_asked steps.now)) }
 {

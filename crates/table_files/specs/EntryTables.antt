@@ -1,4 +1,4 @@
--- What was read, as rows.
+-- Which rows the cells of tables stand for, and whether rows can have come from files.
 use Rattle.std.specs.Prelude.{ℕ, ◌≡◌, ◌<◌, List, [], ◌∷◌, length, map, slice_index, slice_index_or, Ok, ⊤}
 use Rattle.std.specs.List.{range_with_len}
 use Rattle.schema_types.specs.declared.types.Schema.{Schema}
@@ -17,7 +17,7 @@ use Rattle.table_files.specs.declared.rows.TableRows.{TableRows}
 abbrev pub entry_rows : Database → List (List Row)
 entry_rows db = map (tables_of db) (range_with_len 0 (length db.slots))
 
--- the rows of each entry as tables. No query asks past its last entry; there stand the first entry's
+-- the rows of each entry as `Tables`. Past the last entry, where no query asks, it gives the first entry's rows, or no rows
 abbrev pub tables_in : List (List Row) → Tables
 tables_in rows entry = slice_index_or rows entry (slice_index_or rows 0 [])
 
@@ -26,7 +26,7 @@ abbrev pub HasCells : Schema → List Source → Database → Type 0
 HasCells schema from db = (entry : ℕ) → entry < length from
     → AreCellsOf (table_at schema (slice_index (numbers_of from) entry)) db.pool (cells_of db entry)
 
--- these are the cells of the tables with these numbers, one after the other
+-- both lists are equally long, and each `Cells` is that of the table whose number stands at the same place
 abbrev pub AreCellsOfEach : Schema → List (List ℕ) → List ℕ → List Cells → Type 0
 AreCellsOfEach schema texts [] [] = ⊤
 AreCellsOfEach schema texts [] (cells ∷ others) = ⊥
@@ -34,25 +34,25 @@ AreCellsOfEach schema texts (number ∷ numbers) [] = ⊥
 AreCellsOfEach schema texts (number ∷ numbers) (cells ∷ others) =
     AreCellsOf (table_at schema number) texts cells × AreCellsOfEach schema texts numbers others
 
--- the rows of the cells of tables
+-- the rows of each table, from its cells
 abbrev pub rows_of_tables : List (List ℕ) → List Cells → List (List Row)
 rows_of_tables texts tables = map (rows_of_cells texts) tables
 
--- the rows of one table
+-- the rows of one table, from what was read of it
 abbrev pub rows_of_read : TableRows → List Row
 rows_of_read read = rows_of_cells read.pool read.cells
 
 -- ---- files
 
--- the rows are those in some file of the table
+-- there are bytes that, as the table's file, have just these rows
 abbrev pub AreOfAFile : Table → List Row → Type 0
 AreOfAFile table rows = (bytes : List ℕ) × (rows_of_file table bytes ≡ Ok rows)
 
--- each FROM entry has the rows in some file of its table
+-- the rows of each FROM entry are those of some file of its table
 abbrev pub AreOfFiles : Schema → List Source → Tables → Type 0
 AreOfFiles schema from tables = (entry : ℕ) → entry < length from → AreOfAFile (table_at schema (slice_index (numbers_of from) entry)) (tables entry)
 
--- these are rows in some files of the tables with these numbers, one after the other
+-- both lists are equally long, and each item is the rows of some file of the table whose number stands at the same place
 abbrev pub AreOfFilesEach : Schema → List ℕ → List (List Row) → Type 0
 AreOfFilesEach schema [] [] = ⊤
 AreOfFilesEach schema [] (rows ∷ others) = ⊥
