@@ -264,7 +264,7 @@ def meant(query: Query, reference: Reference, schema: Schema) -> tuple[Entry, Ta
 
 
 def found_of(query: Query, reference: Reference, schema: Schema) -> tuple[Entry, Table, Column]:
-    """The same of a reference in a query that the program has accepted, so that there is one."""
+    """The same of a reference that the program has resolved, so that there is one meaning."""
     return visible(query, reference, schema)[0]
 
 

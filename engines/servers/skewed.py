@@ -1,7 +1,7 @@
 """Skewed tables of films and people, and random queries over them.
 
 A few films have most parts, keywords, ratings and awards, and these films are recent. A few people have most parts,
-ratings and awards. Planners expect less, since they take columns for independent.
+ratings and awards. Planners expect fewer rows, since they take columns for independent.
 """
 
 from __future__ import annotations

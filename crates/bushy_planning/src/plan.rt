@@ -32,8 +32,8 @@ pub fn plan_tree_from(alloc: Global, known: &Known, budget: u64) -> Result<Bushy
     choose_bushy(alloc, &known.sets, &known.scans, budget)
 }
 
-/// Gathers the statistics of a query's tables, once, and finds the join tree that is best by their bounds. The plan has a bound in rows for
-/// each scan and each inner node.
+/// Gathers the statistics of a query's tables, once, and finds the join tree that is best by the bounds that they give. The plan has a bound
+/// in rows for each scan and each inner node.
 ///
 /// `accuracy` says how near compressed lists are to the degrees (SafeBound, SIGMOD 2023). The budget is at most 4,000,000 rows. Errors are
 /// those of `plan_tree_from`.
