@@ -1,7 +1,7 @@
-/* Admission: a query of which a join may have more rows than safebound.budget is refused before it runs.
+/* Admission: a query is refused before it runs if a join of its plan may have more rows than safebound.budget.
 
-   The planner's hook keeps with the plan what the bounds of its joins are made of. They are made when the plan starts to run, in the
-   snapshot in which it runs and with its parameters: a plan may be made in an earlier snapshot, or be kept and run many times. */
+   The hook of the planner stores in the plan what the bounds of its joins are computed from. They are computed when the plan starts to
+   run, with the snapshot and the parameters of that run: the plan may be of an earlier snapshot, or be kept and run many times. */
 #include "admit.h"
 
 #include "access/parallel.h"
@@ -23,7 +23,7 @@
 #include "utils/plancache.h"
 #include "utils/snapmgr.h"
 
-/* A class of SQLSTATEs that the standard leaves to implementations. */
+/* SB is a class of SQLSTATEs that the standard leaves to implementations. */
 #define ERRCODE_BUDGET MAKE_SQLSTATE('S', 'B', '0', '0', '1')
 #define ERRCODE_UNBOUNDED MAKE_SQLSTATE('S', 'B', '0', '0', '2')
 
@@ -42,23 +42,23 @@ static const struct config_enum_entry unbounded_choices[] = {
 static int	budget;
 static int	unbounded;
 
-/* The extension counts tables by queries of its own, which are no user's. */
+/* True while the extension opens a query of its own, by which it counts a table. These are not checked. */
 bool		admission_paused = false;
 
 static planner_hook_type planner_before;
 static set_rel_pathlist_hook_type rel_paths_before;
 static ExecutorStart_hook_type start_before;
 
-/* One call of the planner. A function that it evaluates may call it again. */
+/* A call of the planner. Calls may nest: the planner may evaluate a function, whose queries are planned too. */
 typedef struct Call
 {
 	struct Call *outer;
-	List	   *roots;			/* the parts of the planner that made paths */
+	List	   *roots;			/* each PlannerInfo that made paths */
 } Call;
 
 static Call *call;
 
-/* Plans that were kept without a budget hold nothing to bound them by: they are made anew. */
+/* A plan that was cached while there was no budget holds nothing to compute bounds from, so all are planned again. */
 static void
 on_budget(int changed, void *extra)
 {
@@ -106,14 +106,14 @@ on_planner(Query *parse, const char *text, int options, ParamListInfo parameters
 	return plan;
 }
 
-/* The tables of the system and of this extension. */
+/* Whether a table is a catalog of the system or one of this extension's. */
 static bool
 is_exempt(Oid relation)
 {
 	return IsCatalogRelationOid(relation) || get_rel_namespace(relation) == get_namespace_oid("safebound", true);
 }
 
-/* A query over such tables alone is always admitted: who looks at a table with psql asks some. */
+/* Whether a plan reads tables, and only exempt ones. Such a plan is always admitted: psql makes some to describe a table. */
 static bool
 all_exempt(PlannedStmt *plan)
 {
@@ -176,7 +176,7 @@ why_entry(BoundedQuery *query, int relid)
 	return why_not_known(entry->relid);
 }
 
-/* The same of a join, by its first relation without a bound. */
+/* Why a join has no bound: by its first relation without one, or else by the limit that the join passes. */
 static char *
 why_unbounded(BoundedQuery *query, List *join, Relids relids)
 {
@@ -208,7 +208,7 @@ refuse_unbounded(const char *relations, const char *why)
 			 errhint("%s", why)));
 }
 
-/* What would help: an order by bounds, where the planner didn't look for one. */
+/* The hint of a refusal by the budget. It names safebound.estimates = bound where that isn't set. */
 static const char *
 advice(void)
 {
@@ -247,7 +247,7 @@ check_part(List *part, ParamListInfo parameters)
 		check_join(query, lfirst(cell));
 }
 
-/* Bounds all joins of a plan, in the active snapshot. */
+/* Bounds all joins of a plan in the active snapshot. Raises an error at the first one that is refused. */
 static void
 check_plan(PlannedStmt *plan, ParamListInfo parameters)
 {
@@ -287,7 +287,7 @@ admit(QueryDesc *query)
 	MemoryContextDelete(own);
 }
 
-/* EXPLAIN without ANALYZE runs nothing. A parallel worker runs a part of what its leader asked for. */
+/* EXPLAIN without ANALYZE runs nothing, and what a parallel worker runs was checked in its leader: both go unchecked. */
 static void
 on_start(QueryDesc *query, int flags)
 {
@@ -299,7 +299,7 @@ on_start(QueryDesc *query, int flags)
 		standard_ExecutorStart(query, flags);
 }
 
-/* The settings of the role and the database, as at the beginning of a session. */
+/* Applies the settings of the role and the database again, as at the beginning of a session. */
 static void
 apply_settings(void)
 {
@@ -321,7 +321,7 @@ apply_settings(void)
 		CommitTransactionCommand();
 }
 
-/* Whether somebody gave a setting a value that it doesn't have now. */
+/* Whether a setting was given a value before it was defined, and that value was refused: it has its default now. */
 static bool
 was_denied(const char *name, bool given)
 {
@@ -343,8 +343,8 @@ define_settings(void)
 							 NULL, &unbounded, UNBOUNDED_REFUSE, unbounded_choices, PGC_SUSET, 0, NULL, NULL, NULL);
 }
 
-/* A user may begin a session with any value, as long as the library isn't there. Its value is refused then, but has taken the place of
-   the one that the role, the database or the server has, which is looked up again. */
+/* Before the library is loaded, a session can begin with any value of these settings. When they are defined here, PostgreSQL refuses it if
+   the user may not set them. But it has then replaced what the role, the database or the server says, so these are applied again. */
 static void
 define_guarded_settings(void)
 {

@@ -1,4 +1,6 @@
-"""Query texts: entries, references and conditions, and where one goes wrong (docs/DEFINITIONS.md, "Query texts")."""
+"""Reads query texts: entries, references and conditions, and where a text goes wrong (docs/DEFINITIONS.md, "Query
+texts").
+"""
 from __future__ import annotations
 
 from dataclasses import dataclass, field
@@ -19,7 +21,7 @@ OPERATORS = ("=", "<>", "<", "<=", ">", ">=")
 
 @dataclass
 class Entry:
-    """An entry of FROM; `first` is the number of the first entry of its part."""
+    """An entry of FROM. Commas separate the parts of FROM; `first` is the number of the first entry of this part."""
     table: Token
     alias: Token | None
     first: int
@@ -31,7 +33,9 @@ class Entry:
 
 @dataclass
 class Reference:
-    """`ENTRY.COLUMN` or `COLUMN`, or `ENTRY.*`, whose `column` is nothing; it sees the entries of `scope`."""
+    """`ENTRY.COLUMN`, `COLUMN`, or `ENTRY.*`, which has no `column`. `scope` has the numbers of the entries that it may
+    mean.
+    """
     entry: Token | None
     column: Token | None
     scope: range = range(0)
@@ -68,7 +72,7 @@ class Literal:
 
 @dataclass
 class Test:
-    """A comparison, BETWEEN or IN over its operands."""
+    """A comparison, BETWEEN or IN, with its operands."""
     operator: str
     operands: list[Reference | Literal]
     start: int
@@ -86,7 +90,9 @@ class Joined:
 
 @dataclass
 class Query:
-    """What was read of a query text: all of it where `tested` is empty, else what lies before the token `wrong`."""
+    """What was read of a query text. If all of it is right, `tested` is empty. Else `wrong` is the number of the token
+    that can't stand there, and `tested` has what can.
+    """
     tokens: list[Token]
     entries: list[Entry] = field(default_factory=list)
     conditions: list[Test | Joined] = field(default_factory=list)
@@ -174,7 +180,7 @@ class QueryReader(Reader):
         start = self.next().start
         found = self.condition()
         end = self.take(")").end
-        # With its parentheses, so that the text of it stays a condition.
+        # AND, OR and NOT keep their parentheses, so that their text alone is a condition.
         return Joined(found.by, found.members, start, end) if isinstance(found, Joined) else found
 
     def predicate(self) -> Test:
@@ -212,7 +218,7 @@ class QueryReader(Reader):
 
 
 def members(condition: Joined | Test) -> list[Joined | Test]:
-    """The members of a condition at AND, through parentheses."""
+    """The conditions that AND joins in this one, also within parentheses; the condition itself if it is no AND."""
     if isinstance(condition, Joined) and condition.by == "AND":
         return [found for member in condition.members for found in members(member)]
     return [condition]
@@ -226,7 +232,7 @@ def references_of(condition: Joined | Test) -> list[Reference]:
 
 
 def read_query(text: bytes) -> Query:
-    """The query of a text's bytes, or of as much of it as is right."""
+    """Reads a query from the bytes of its text, or as much of it as is right."""
     reader = QueryReader(tokens_of(text))
     try:
         reader.read()
@@ -252,18 +258,18 @@ def visible(query: Query, reference: Reference, schema: Schema) -> list[tuple[En
 
 
 def meant(query: Query, reference: Reference, schema: Schema) -> tuple[Entry, Table, Column] | None:
-    """The entry, the table and the column that a reference stands for, or nothing."""
+    """The entry, the table and the column that a reference means, or nothing if there isn't exactly one."""
     found = visible(query, reference, schema)
     return found[0] if len(found) == 1 else None
 
 
 def found_of(query: Query, reference: Reference, schema: Schema) -> tuple[Entry, Table, Column]:
-    """The same of a reference that the program has found."""
+    """The same of a reference that the program has resolved, so that there is one meaning."""
     return visible(query, reference, schema)[0]
 
 
 def equality(query: Query, condition: Joined | Test, schema: Schema) -> tuple[int, int] | None:
-    """The two entries of an equality between columns of two entries, by number, or nothing."""
+    """The numbers of the two entries whose columns the condition says are equal, or nothing if it is no equality."""
     if not isinstance(condition, Test) or condition.operator != "=":
         return None
     one, other = (meant(query, o, schema) if isinstance(o, Reference) else None for o in condition.operands)
@@ -277,7 +283,7 @@ def number_of_entry(query: Query, entry: Entry) -> int:
 
 
 def groups(query: Query, schema: Schema) -> list[list[int]]:
-    """The entries in groups that equalities connect, each group by the numbers of its entries."""
+    """The connected components of the join graph, each as the numbers of its entries."""
     found = [[i] for i in range(len(query.entries))]
     for condition in query.conjuncts():
         pair = equality(query, condition, schema)

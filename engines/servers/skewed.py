@@ -1,7 +1,7 @@
 """Skewed tables of films and people, and random queries over them.
 
-Few films have most of everything, they are of late years, and few people have most parts: what planners take for
-independent.
+A few films have most parts, keywords, ratings and awards, and these films are recent. A few people have most parts,
+ratings and awards. Planners expect fewer rows, since they take columns for independent.
 """
 
 from __future__ import annotations
@@ -21,12 +21,12 @@ CREATE TABLE award (person INTEGER NOT NULL, title INTEGER NOT NULL, kind INTEGE
 
 
 def _chance(number: int) -> str:
-    """A number from 0 up to 1 that row i has, the same on all servers."""
+    """SQL for a number of row i, from 0 to below 1. It looks random, and is the same on all servers."""
     return f"((hashint8(i * 16 + {number}) & 2147483647) / 2147483648.0::float8)"
 
 
 def _few(most: str, power: float, number: int) -> str:
-    """A number below the most, and the lower the more often."""
+    """SQL for a whole number of row i, from 0 to below `most`. Low ones are more frequent if `power` is above 1."""
     return f"floor({most} * power({_chance(number)}, {power}))::integer"
 
 
@@ -50,7 +50,7 @@ MADE = Made(
     },
 )
 
-# What is joined with what: a table and its column, on both sides.
+# Which columns are joined: a table and its column, and then the other table and its column.
 EDGES = [
     ("casting", "title", "title", "id"), ("casting", "person", "person", "id"), ("keyword", "title", "title", "id"),
     ("rating", "title", "title", "id"), ("rating", "person", "person", "id"), ("award", "person", "person", "id"),
@@ -72,7 +72,9 @@ CONDITIONS = {
 
 
 def query(number: int) -> str:
-    """A query of three to six entries, the same for each number. It counts, so that its rows needn't be read."""
+    """A random query of three to six entries. The same number gives the same query. It selects count(*), so that its
+    rows needn't be read.
+    """
     chosen = random.Random(number)
     entries = [chosen.choice(EDGES)[0]]
     conditions = []
@@ -92,6 +94,6 @@ def query(number: int) -> str:
 
 
 def _ways(table: str) -> list[tuple[str, str, str]]:
-    """A column of the table, another table, and its column that is joined with it."""
+    """What a table is joined with: its own column, the other table, and that one's column."""
     forth = [(mine, other, theirs) for one, mine, other, theirs in EDGES if one == table]
     return forth + [(mine, other, theirs) for other, theirs, one, mine in EDGES if one == table]

@@ -1,4 +1,4 @@
-"""`error table FILE CAUSE ..`: what is wrong with a table file, at which record and which value."""
+"""Explains `error table FILE CAUSE ..`: what is wrong with a table file, in which record and at which value."""
 from __future__ import annotations
 
 import re
@@ -38,7 +38,7 @@ def explain(fault: Fault, run: Run) -> list[str]:
 
 
 def all_differ(data: bytes) -> str:
-    """A sentence where all rows have one number of fields, and the header another; nothing else."""
+    """A sentence if all rows, two or more, have one number of fields and the header another; else the empty text."""
     found = records(data)
     wide, widths, ends, rows = len(next(found, (0, []))[1]), set(), set(), 0
     for rows, (_, fields) in enumerate(found, 1):
@@ -57,7 +57,9 @@ def all_differ(data: bytes) -> str:
 
 
 def closed_late(data: bytes, number: int) -> str:
-    """A sentence where a field of this record goes over lines, since a quote closes lines later than it should."""
+    """A sentence if a field of this record has a line end and a comma in it, so that its quote seems to be closed too
+    late; else the empty text.
+    """
     ((line, fields),) = chosen(data, number)
     place = next((i for i, value in enumerate(fields) if "\n" in value and "," in value), None)
     if place is None:
@@ -70,7 +72,7 @@ def closed_late(data: bytes, number: int) -> str:
 
 
 def quoted(value: str) -> str:
-    """A value as it stands in the file, between marks."""
+    """A value as it stands in the file, between backticks. A long one is cut."""
     return f"`{plain(value[:MOST_OF_VALUE])}{'...' if len(value) > MOST_OF_VALUE else ''}`"
 
 
@@ -105,7 +107,7 @@ def header(table: Table, fault: Fault, data: bytes, run: Run) -> list[str]:
 
 
 def why_no_header(found: list[str], wanted: list[str], column: str, count: int, convert: str) -> str:
-    """What the header that was found looks like."""
+    """A guess at why the header lacks the column or has it twice, and what to do; the empty text without a guess."""
     separator = next((s for s in SEPARATORS if len(found) == 1 and s in found[0]), None)
     if separator:
         return (
@@ -182,7 +184,7 @@ def field(table: Table, fault: Fault, data: bytes, run: Run) -> list[str]:
 
 
 def over_lines(value: str, line: int) -> str:
-    """Where a value goes over many lines, a quote is mostly closed too late."""
+    """A sentence if a value goes over lines, since its quote is then mostly closed too late; else the empty text."""
     ends = value.count("\n")
     return (
         f'The value begins with a " on line {line}, and has {ends} line ends. Where a " is missing that closes it on'
@@ -191,7 +193,9 @@ def over_lines(value: str, line: int) -> str:
 
 
 def number_expected(value: str, of_words: str = "For texts declare the column as VARCHAR(n).") -> str:
-    """What a field of a number has to be, and what this one is instead; `of_words` is said of any other value."""
+    """What a field of a number column has to be, and what this value seems to be instead. `of_words` is the advice for
+    a value that seems to be no number, date or null.
+    """
     expected = "A number is digits, with - or + before them where there is a sign."
     if re.fullmatch(r"[+-]?[0-9]+", value, re.ASCII):
         return (
@@ -250,7 +254,7 @@ def key(table: Table, fault: Fault, data: bytes, run: Run) -> list[str]:
 
 
 def key_in_schema(column: Token, run: Run) -> str:
-    """Where a key of the schema stands, and whether it was guessed from rows."""
+    """In which line of the schema the key of this column stands, and whether it was guessed from rows."""
     data = read(run.schema_file)
     guessed = ", where it was guessed from the rows of that time" if data.startswith(b"-- Proposed from") else ""
     return f", {plain(run.schema_file)}, line {data[:column.start].count(10) + 1}{guessed}"

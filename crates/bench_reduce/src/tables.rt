@@ -1,4 +1,4 @@
-//! The tables whose scans are reduced, as files in memory.
+//! Makes the tables whose scans the benchmark reduces, as CSV files in memory.
 ghost use Rattle.std.specs.Prelude.{◌≤◌};
 
 use crate::failed::Failed;
@@ -19,7 +19,7 @@ fn push_number(file: &mut Vec<u8>, number: u32, end: u8) -> Result<(), NoMemory>
     Ok(())
 }
 
-// A column of the numbers from 0 on, each so many times as large.
+// A file of one column. Its row r, counted from 0, has the number r * `times`.
 fn column(alloc: Global, header: &[u8], rows: u32, times: u32) -> Result<Vec<u8>, NoMemory>
     requires rows { rows ≤ 1000000 }
     requires times { times ≤ 100 }
@@ -31,7 +31,7 @@ fn column(alloc: Global, header: &[u8], rows: u32, times: u32) -> Result<Vec<u8>
     Ok(file)
 }
 
-// Two columns of the numbers from 0 on, the second one with so much added, but at most the last row's number.
+// A file of two columns. Its row r, counted from 0, has r in X, and in Y the smaller of r + `more` and the number of the last row.
 fn pairs(alloc: Global, rows: u32, more: u32) -> Result<Vec<u8>, NoMemory>
     requires rows { rows ≤ 1000000 }
     requires more { more ≤ 1 }
@@ -53,7 +53,8 @@ fn add(
     files.push((Name::from_str(alloc, name)?, Seq::from_vec(file)))
 }
 
-/// A, B and D of so many rows. Of each those rows stay whose number is a multiple of 100 and stands in D.
+/// The tables of the chain: A, B and D, each of `rows` rows. A and B have every number below `rows`, D the multiples of 100 from 0 on. In each
+/// table the rows stay whose number is a multiple of 100 below `rows`.
 pub(crate) fn chain(alloc: Global, rows: u32) -> Result<MemStore, Failed>
     requires { rows ≤ 1000000 }
 {
@@ -69,8 +70,8 @@ pub(crate) fn chain(alloc: Global, rows: u32) -> Result<MemStore, Failed>
     Ok(MemStore::new(files, Seq::new(alloc)))
 }
 
-/// P and Q of so many rows. Row 0 of P has no partner; with each row of P the same row of Q goes, and with that the next row of P. The
-/// last row of each stays.
+/// The tables of the cycle: P and Q, each of `rows` rows. Row 0 of P has no match and is removed. Then row 0 of Q has no match any more, then
+/// row 1 of P, and so on: rows are removed one after another, and only the last row of each table stays.
 pub(crate) fn cycle(alloc: Global, rows: u32) -> Result<MemStore, Failed>
     requires { rows ≤ 1000000 }
 {

@@ -1,4 +1,4 @@
--- Small queries over their databases, and plans for them.
+-- Queries, a database and plans over join trees, for the worked examples of joins.
 use Rattle.std.specs.Prelude.{ℕ, List, [], ◌∷◌, map}
 use Rattle.csv_tables.specs.declared.types.Database.{Database}
 use Rattle.query_types.specs.declared.types.Query.{Query}
@@ -6,7 +6,7 @@ use Rattle.tree_plans.specs.declared.bushy.BushyPlan.{BushyPlan}
 use Rattle.tree_plans.specs.Examples.{join, plan_of}
 use Rattle.hash_join.specs.Examples.{cond_of, numbers, one_is_two, tables_are}
 
--- SELECT of nothing FROM these tables, by their numbers, WHERE 1 = 2
+-- a query that no row answers: FROM these tables, which are given by their numbers, WHERE 1 = 2. It selects no column
 abbrev pub never : List ℕ → Query
 never tables = record {
   from = map (λ table. record { table = table; alias = [] }) tables;
@@ -14,21 +14,22 @@ never tables = record {
   select = [];
 }
 
--- T(X) of 1, 2 and 3
+-- a table T(X) with the rows 1, 2 and 3
 abbrev pub three : Database
 three = tables_are (numbers 3 ((1 ∷ 2 ∷ 3 ∷ []) ∷ []) ∷ [])
 
--- two tables with one inner node, of at most twelve rows
+-- a plan that joins two entries, of at most 6 and 5 rows, into at most 12 rows
 abbrev pub pair_plan : BushyPlan
 pair_plan = plan_of (join 0 1 12 ∷ []) (6 ∷ 5 ∷ []) 12
 
--- the triangle by the tree (0, (1, 2))
+-- a plan for three entries by the tree (0, (1, 2)): node 3 joins entries 1 and 2, and then entry 0 is joined with it
 abbrev pub triangle_plan : BushyPlan
 triangle_plan = plan_of (join 1 2 5 ∷ join 0 3 9 ∷ []) (3 ∷ 3 ∷ 3 ∷ []) 9
 
--- one entry of three rows, and two
+-- a plan for one entry of at most three rows, which joins nothing
 abbrev pub alone : BushyPlan
 alone = plan_of [] (3 ∷ []) 3
 
+-- a plan that joins two such entries
 abbrev pub twice : BushyPlan
 twice = plan_of (join 0 1 9 ∷ []) (3 ∷ 3 ∷ []) 9

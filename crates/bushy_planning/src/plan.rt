@@ -1,4 +1,4 @@
-//! The plan of a query over a join tree.
+//! Plans a query by a join tree, from bounds or from its database.
 ghost use Rattle.std.specs.Prelude.{◌≡◌, ◌⊎◌, ◌^◌, ◌≤◌, Err, length, IfOk};
 ghost use Rattle.limits.specs.Profile.{greatest_budget, most_entries, most_rows};
 ghost use Rattle.order_search.specs.declared.refusal.PlanError.TheVariants as error;
@@ -18,10 +18,10 @@ use query_types::Query;
 use std::alloc::Global;
 use tree_plans::BushyPlan;
 
-/// The best join tree of the entries by these bounds, with those of its scans and nodes, in rows; or why there is none within the budget, at
-/// most 2^59 rows.
+/// Finds the join tree that is best by the bounds in `known`. The plan has a bound in rows for each scan and each inner node.
 ///
-/// `Budget` and `PastBits` come exactly where `tree_answer` says; `NoMemory` where memory is wanting.
+/// The budget is at most 2^59 rows. Errors: `Budget` where the best tree costs more than that, `PastBits` where 128 bits can't tell its cost,
+/// and `NoMemory`. `tree_answer` says exactly when each of the first two is the answer.
 pub fn plan_tree_from(alloc: Global, known: &Known, budget: u64) -> Result<BushyPlan, PlanError>
     requires some { 1 ≤ length known.now.scans }
     requires few { length known.now.scans ≤ most_entries }
@@ -32,12 +32,11 @@ pub fn plan_tree_from(alloc: Global, known: &Known, budget: u64) -> Result<Bushy
     choose_bushy(alloc, &known.sets, &known.scans, budget)
 }
 
-/// The best join tree of the FROM entries, with the bounds of its scans and nodes, in rows; or why there is none within the budget.
+/// Gathers the statistics of a query's tables, once, and finds the join tree that is best by the bounds that they give. The plan has a bound
+/// in rows for each scan and each inner node.
 ///
-/// The accuracy is that of compressed lists (SafeBound, SIGMOD 2023), the budget at most 4,000,000 rows. Statistics are gathered
-/// once.
-///
-/// `Budget` and `PastBits` come exactly where `tree_answer` says; `NoMemory` where memory is wanting.
+/// `accuracy` says how near compressed lists are to the degrees (SafeBound, SIGMOD 2023). The budget is at most 4,000,000 rows. Errors are
+/// those of `plan_tree_from`.
 pub fn plan_bushy(
     alloc: Global,
     query: &Query,

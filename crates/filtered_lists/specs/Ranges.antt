@@ -1,21 +1,21 @@
--- Ranges of a column's values, and the one range that ranges of a column make together.
+-- Ranges of a column's values, and the intersection of all ranges of a column.
 use Rattle.std.specs.Prelude.{ℕ, ◌==◌, if◌then◌else◌, List, [], ◌∷◌, map, Option, None, Some}
 use Rattle.std.specs.List.{filter, filter_map}
 use Rattle.std.specs.Ordering.{is_lt, is_gt}
 use Rattle.csv_tables.specs.Values.{Value, value_cmp}
 use Rattle.degree_sequences.specs.Degrees.{different}
 
--- the values of a column from a low end to a high end, both included; either end may be missing
+-- the values of a column from a low end to a high end, both included. Either end may be missing: then there is no limit on that side
 pub record Range : Type 0 where
   pub column : ℕ
   pub low : Option Value
   pub high : Option Value
 
--- from this value on
+-- the range from this value on
 abbrev pub from_value : ℕ → Value → Range
 from_value column low = record { column = column; low = Some low; high = None }
 
--- up to this value
+-- the range up to this value
 abbrev pub up_to_value : ℕ → Value → Range
 up_to_value column high = record { column = column; low = None; high = Some high }
 
@@ -37,11 +37,11 @@ abbrev pub least : List Value → Option Value
 least [] = None
 least (value ∷ values) = Some (lower_of value (least values))
 
--- the ranges of a column
+-- those of the ranges that are of this column
 abbrev pub ranges_of : ℕ → List Range → List Range
 ranges_of column ranges = filter (λ range. range.column == column) ranges
 
--- the one range of a column: from the greatest of the low ends to the least of the high ends
+-- the intersection of a column's ranges: from the greatest of their low ends to the least of their high ends
 abbrev pub one_range : List Range → ℕ → Range
 one_range ranges column = record {
   column = column;
@@ -49,6 +49,6 @@ one_range ranges column = record {
   high = least (filter_map (λ range. range.high) (ranges_of column ranges));
 }
 
--- one range for each column that ranges are of
+-- for each column that has ranges among these, their intersection
 abbrev pub range_for_each_column : List Range → List Range
 range_for_each_column ranges = map (one_range ranges) (different (map (λ range. range.column) ranges))

@@ -1,4 +1,4 @@
--- What statistics tell of a query's entries.
+-- What the statistics of a query say of its entries: a list for each joined column, and a row bound.
 use Rattle.std.specs.Prelude.{◌≡◌, ℕ, ◌-◌, ◌^◌, ◌==◌, min, List, [], map, Option, None, Some, option_map, slice_get, slice_index_or, find}
 use Rattle.std.specs.List.{sum}
 use Rattle.query_types.specs.declared.types.Query.{Query}
@@ -13,7 +13,7 @@ use Rattle.predicate_bounds.specs.Steps.{steps_of}
 abbrev pub no_columns : EntryStats
 no_columns = record { columns = [] }
 
--- the joined columns of an entry
+-- the joined columns of an entry, each with its steps. An entry that joins no column has one column all the same
 abbrev pub columns_of : QueryStats → ℕ → List ColumnSteps
 columns_of stats from = (slice_index_or stats.entries from no_columns).columns
 
@@ -21,11 +21,11 @@ columns_of stats from = (slice_index_or stats.entries from no_columns).columns
 abbrev pub column_steps : QueryStats → ℕ → ℕ → Option (List ListStep)
 column_steps stats from column = option_map (λ joined. joined.steps) (find (λ joined. joined.column == column) (columns_of stats from))
 
--- those of its first column
+-- the steps of the first of these columns; the row bound is made of them
 abbrev pub first_steps : QueryStats → ℕ → Option (List ListStep)
 first_steps stats from = option_map (λ joined. joined.steps) (slice_get (columns_of stats from) 0)
 
--- what steps leave on top of their stack, and nothing where there are none
+-- the list that steps leave on top of the stack, and the empty list where there are no steps
 abbrev pub list_left : Option (List ListStep) → List ℕ
 list_left None = []
 list_left (Some steps) = top_of (after_list_steps steps [])
@@ -34,18 +34,18 @@ list_left (Some steps) = top_of (after_list_steps steps [])
 abbrev pub list_told : QueryStats → ℕ → ℕ → List ℕ
 list_told stats from column = list_left (column_steps stats from column)
 
--- the rows of the list that the steps of the first column leave, or the most that 64 bits hold
+-- the row bound of an entry: the sum of the list that the steps of its first column leave, but at most 2^64 - 1
 abbrev pub rows_told : QueryStats → ℕ → ℕ
 rows_told stats from = min (sum (list_left (first_steps stats from))) (2 ^ 64 - 1)
 
--- what the entry's own conjuncts ask for, each with its list
+-- the steps of an entry's own conjuncts, each with the list of these that it asks for
 abbrev pub asked_lists : Query → ℕ → ColumnLists → List ListStep
 asked_lists query from lists = map (listed lists) (steps_of from query.conjuncts)
 
--- as far as the entry's own conjuncts ask for them, the statistics have these lists of a joined column
+-- the statistics of a joined column are these lists, as far as the entry's own conjuncts ask for them
 abbrev pub TellsList : Query → QueryStats → ℕ → ℕ → ColumnLists → Type 0
 TellsList query stats from column lists = column_steps stats from column ≡ Some (asked_lists query from lists)
 
--- and these lists for the entry's row bound
+-- the statistics for an entry's row bound are these lists, again as far as its own conjuncts ask for them
 abbrev pub TellsRows : Query → QueryStats → ℕ → ColumnLists → Type 0
 TellsRows query stats from lists = first_steps stats from ≡ Some (asked_lists query from lists)

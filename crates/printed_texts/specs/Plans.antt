@@ -1,20 +1,20 @@
--- The plan text, and the audit text.
+-- The text of a plan, and the text of an audit, for left-deep orders.
 use Rattle.std.specs.Prelude.{ℕ, ◌+◌, List, [], ◌∷◌, ◌++◌, Option, None, Some, slice_get, codes, decimal}
 use Rattle.plans.specs.declared.left_deep.Plan.{Plan}
 use Rattle.query_types.specs.declared.types.Source.{Source}
 
--- scan ALIAS BOUND. The alias is the entry's name after folding, without quotes: it may hold blanks, and the bound stands behind the last one
+-- `scan ALIAS BOUND`. The alias is the entry's name after folding, without quotes. It may hold blanks; the bound stands behind the last one
 abbrev pub scan_line : List ℕ → ℕ → List ℕ
 scan_line alias bound = codes "scan " ++ (alias ++ (codes " " ++ (decimal bound ++ codes "\n")))
 
--- level K ALIAS BOUND, and the line of it. The alias is printed as in a scan's line, so here too the bound stands behind the last blank
+-- `level K ALIAS BOUND` without a line end, and below with one. The alias may hold blanks here too; the bound stands behind the last one
 abbrev pub level_bound : ℕ → List ℕ → ℕ → List ℕ
 level_bound k alias bound = codes "level " ++ (decimal k ++ (codes " " ++ (alias ++ (codes " " ++ decimal bound))))
 
 abbrev pub level_line : ℕ → List ℕ → ℕ → List ℕ
 level_line k alias bound = level_bound k alias bound ++ codes "\n"
 
--- a line for each entry and the bound of its scan
+-- a line for each entry, with the bound of its scan
 abbrev pub scan_lines : List Source → List ℕ → List ℕ
 scan_lines [] bounds = []
 scan_lines (source ∷ sources) [] = []
@@ -24,26 +24,26 @@ abbrev pub alias_of : Option Source → List ℕ
 alias_of None = []
 alias_of (Some source) = source.alias
 
--- a line for each entry of the order and the bound of its level, the levels from the k-th on
+-- a line for each entry of the order, with the bound of its level. The first of these levels has the number k
 abbrev pub level_lines : ℕ → List Source → List ℕ → List ℕ → List ℕ
 level_lines k sources [] bounds = []
 level_lines k sources (entry ∷ order) [] = []
 level_lines k sources (entry ∷ order) (bound ∷ bounds) =
     level_line k (alias_of (slice_get sources entry)) bound ++ level_lines (k + 1) sources order bounds
 
--- a line for each FROM entry's scan, and then one for each level of the order
+-- the text of a plan: a line for each FROM entry's scan, and then one for each level of the order
 abbrev pub plan_lines : List Source → Plan → List ℕ
 plan_lines sources plan = scan_lines sources plan.scans ++ level_lines 1 sources plan.order plan.levels
 
--- what an audit's line has behind the bound, in `level K ALIAS BOUND ROWS`
+-- how an audit's line ends, behind the bound: a blank, the number of rows, and a line end
 abbrev pub row_count : ℕ → List ℕ
 row_count rows = codes " " ++ (decimal rows ++ codes "\n")
 
--- level K ALIAS BOUND ROWS, where the bound stands between the last two blanks
+-- the line `level K ALIAS BOUND ROWS`. The alias may hold blanks, and the bound stands between the last two
 abbrev pub audit_line : ℕ → List ℕ → ℕ → ℕ → List ℕ
 audit_line k alias bound rows = level_bound k alias bound ++ row_count rows
 
--- a line for each entry of the order, the bound of its level and the number of its rows, the levels from the k-th on
+-- a line for each entry of the order, with the bound of its level and the level's number of rows. The first of these levels has the number k
 abbrev pub level_audits : ℕ → List Source → List ℕ → List ℕ → List ℕ → List ℕ
 level_audits k sources [] bounds counts = []
 level_audits k sources (entry ∷ order) [] counts = []
@@ -51,6 +51,6 @@ level_audits k sources (entry ∷ order) (bound ∷ bounds) [] = []
 level_audits k sources (entry ∷ order) (bound ∷ bounds) (rows ∷ counts) =
     audit_line k (alias_of (slice_get sources entry)) bound rows ++ level_audits (k + 1) sources order bounds counts
 
--- a line for each level of the order, where these are the numbers of rows of the levels
+-- the text of an audit: a line for each level of the order. `counts` are the numbers of rows of the levels
 abbrev pub audit_lines : List Source → Plan → List ℕ → List ℕ
 audit_lines sources plan counts = level_audits 1 sources plan.order plan.levels counts

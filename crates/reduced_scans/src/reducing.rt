@@ -1,4 +1,4 @@
-//! The reduction of a query's scans.
+//! Reduces the scans of a query: by semi-joins, and then by a worklist.
 ghost use Rattle.std.specs.Prelude.{◌≡◌, ◌+◌, ◌*◌, ◌<◌, ◌≤◌, ℕ, All, Bool, IfOk, length, vec_capacity};
 ghost use Rattle.limits.specs.Profile.{most_conjuncts, most_entries, most_rows};
 ghost use Rattle.berge_tree.specs.declared.edges.Edge.{Edge};
@@ -25,7 +25,7 @@ use query_types::Query;
 use row_buf::RowBuf;
 use std::alloc::Global;
 
-// Marks the rows that stay, list by list. Values and uses are freed.
+// Marks the rows that stay; the marks of one list come behind those of the list before. The numbered values and their uses are freed.
 fn marks_of(
     alloc: Global,
     db: &Database,
@@ -51,7 +51,7 @@ fn marks_of(
     Ok(marks)
 }
 
-// How many rows of a list are marked, from the mark of its first row on.
+// Counts the marked rows of a list. `first` is the place of the mark of its first row.
 fn marked_count(list: &[u32], marks: &RowBuf<bool>, first: u32) -> u64
     requires marks { first + length list.now ≤ length marks.now.items }
     requires few { length marks.now.items ≤ most_entries * most_rows }
@@ -90,7 +90,7 @@ fn marked_rows(
     Ok(rows)
 }
 
-// The rows of each list that are marked.
+// The marked rows of each list.
 fn marked_lists(
     alloc: Global,
     scans: &[RowBuf<u32>],
@@ -113,14 +113,17 @@ fn marked_lists(
     Ok(lists)
 }
 
-/// The reduced scans of a query: the largest lists of scanned rows in which each row has its matches. For each equality of one of its entry's
-/// columns with a column of another entry, a row needs a row with the same value in the list of that entry. Lists are in file order.
+/// Reduces the scans of a query. It returns the largest lists of scanned rows in which each row has, across each equality of its entry, a
+/// match: a row with the same value in the list of the other entry. There is one list for each FROM entry, in file order.
 ///
-/// `scans` has the scan of each FROM entry, and the equalities are those of `split`. First, semi-joins along the equalities, from the first to
-/// the last and back, remove rows whose value the other side doesn't have. They look a value up by its place in a range, so they run only if
-/// the values lie in a short range. Then the values of the rows that are left get numbers, by one hash of each cell, and a worklist removes rows
-/// without a match. So the time is on average linear in the rows times their equalities, and so is the memory. All memory but the answer's is
-/// freed before the call returns. Each list of the answer has room for exactly its own rows, and the answer for exactly one list an entry.
+/// `scans` has the scan of each FROM entry; `equalities` are those that `split` of join_graph finds. The call has two steps:
+///
+/// 1. Semi-joins along the equalities, from the first to the last and back, remove rows whose value the other side doesn't have. A semi-join
+///    looks a value up by its place in the range of the other side's values. Where that range is too long, it removes nothing.
+/// 2. The values that are left get numbers, by one hash of each cell. Then a worklist removes rows without a match, until nothing changes.
+///
+/// Time and memory are on average linear in the rows times their equalities. All memory except the answer's is freed before the call returns.
+/// The answer has no spare capacity, and neither has any of its lists.
 pub fn reduce_scans(
     alloc: Global,
     query: &Query,

@@ -1,4 +1,4 @@
--- The text of a file, line by line.
+-- The text of a file of statistics, line by line.
 use Rattle.std.specs.Prelude.{ℕ, List, [], ◌∷◌, ◌++◌, Option, Some, None, map, slice_get, codes}
 use Rattle.std.specs.List.{concat, flat_map}
 use Rattle.schema_types.specs.declared.types.Column.{Column}
@@ -15,11 +15,11 @@ abbrev pub column_name : Option Column → List ℕ
 column_name None = []
 column_name (Some column) = column.name
 
--- the name of the table's column at this place
+-- the name of the column at this place of the table
 abbrev pub name_at : Table → ℕ → List ℕ
 name_at table place = column_name (slice_get table.columns place)
 
--- a frequent value and its list
+-- the line of a frequent value, with its list
 abbrev pub value_line : Datum × List ℕ → List ℕ
 value_line frequent = frequent_line frequent.0 (runs_of frequent.1)
 
@@ -31,7 +31,7 @@ pair_lines table pair = pair_line (name_at table pair.filter) (name_at table pai
     ∷ (list_line (codes "whole") (runs_of pair.whole) ∷ (map value_line pair.frequent
     ++ (list_line (codes "rest") (runs_of pair.rest) ∷ (map cut_line pair.cuts ++ map histogram_node_line pair.nodes))))
 
--- the lines of a section over its table; a section of no table of the schema has none
+-- the lines of a section: one for the table, and then those of its pairs. A section has no line if the schema lacks its table
 unfoldable pub table_lines : Option Table → TableStats → List (List ℕ)
 table_lines None section = []
 table_lines (Some table) section = table_line table.name section.rows ∷ flat_map (pair_lines table) section.pairs
@@ -39,7 +39,7 @@ table_lines (Some table) section = table_line table.name section.rows ∷ flat_m
 abbrev pub section_lines : Schema → TableStats → List (List ℕ)
 section_lines schema section = table_lines (slice_get schema.tables section.table) section
 
--- the lines of a file, and its text
+-- the lines of a file: the first line, those of each section, and the end line. Its text is all lines joined
 unfoldable pub file_lines : Schema → StatsFile → List (List ℕ)
 file_lines schema file = first_line file.accuracy ∷ (flat_map (section_lines schema) file.tables ++ (end_line ∷ []))
 

@@ -1,4 +1,4 @@
-//! The parts that lines are made of. Nothing here takes memory.
+//! Writes the lines of a file of statistics, each from its parts. Nothing here allocates.
 ghost use Rattle.std.specs.Prelude.{◌≡◌, ◌<◌, ◌++◌, codes, decimal};
 ghost use Rattle.std.specs.Fmt.{signed_decimal};
 ghost use Rattle.std.specs.List.{flat_map};
@@ -19,7 +19,7 @@ const SPACE: &[u8] = b" ";
 
 const DASH: &[u8] = b"-";
 
-/// What stands in a line between its ends.
+/// A part of a line: bytes as they are, a name in hexadecimal, a number, a value of a column, or the runs of a list.
 #[derive(Clone, Copy)]
 pub enum Part<'a> {
     Plain(&'a [u8]),
@@ -90,7 +90,7 @@ fn put_run<N: Sink>(run: Piece, buffer: &mut Buffer, sink: &mut N) -> Result<(),
     buffer.put_parts(sink, &[value, STAR, count])
 }
 
-// A run that isn't the first one of its list.
+// A run behind the first one of its list, with a blank before it.
 fn put_next_run<N: Sink>(run: Piece, buffer: &mut Buffer, sink: &mut N) -> Result<(), Failed>
     ensures { Put (growth N.taken N.faults sink.old sink.new) buffer.old buffer.new (codes " " ++ run_text run) result }
 {
@@ -132,7 +132,7 @@ fn put_part<N: Sink>(part: &Part, buffer: &mut Buffer, sink: &mut N) -> Result<(
     }
 }
 
-/// Puts the parts of a line, one after another.
+/// Writes the parts of a line, one after another, through the buffer into the sink. It fails where the sink does.
 pub fn put_line<N: Sink>(parts: &[Part], buffer: &mut Buffer, sink: &mut N) -> Result<(), Failed>
     ensures { Put (growth N.taken N.faults sink.old sink.new) buffer.old buffer.new (flat_map part_text parts.now) result }
 {

@@ -1,4 +1,4 @@
-//! The section of a table.
+//! Makes the section of a table in a query's file of statistics.
 ghost use Rattle.std.specs.Prelude.{◌≡◌, ◌++◌, ◌<◌, ◌≤◌, ◌^◌, IfOk, OnOk, length};
 ghost use Rattle.join_graph.specs.Conjuncts.{equalities_of, local_of};
 ghost use Rattle.stats_file_of_query.specs.Needs.{needed, needed_of_table, table_of};
@@ -20,7 +20,7 @@ use query_types::Query;
 use stats_file::{Pair, TableStats};
 use std::alloc::Global;
 
-// Appends the pairs that an entry needs.
+// Appends the pairs of a filter column and a joined column of which the entry's bounds need statistics.
 fn add_needed(
     alloc: Global,
     query: &Query,
@@ -38,7 +38,7 @@ fn add_needed(
     needs.add_pairs(pairs)
 }
 
-/// The place in the schema of an entry's table.
+/// The place of an entry's table in the schema.
 pub(crate) fn table_of(query: &Query, entry: u8) -> u32
     requires { entry < length query.now.from }
     ensures { result ≡ table_of query.now entry }
@@ -46,7 +46,7 @@ pub(crate) fn table_of(query: &Query, entry: u8) -> u32
     query.from.get(usize::from(entry)).table
 }
 
-// The pairs that the entries of a table need, one entry after the other.
+// The pairs that the FROM entries over a table need: those of the first entry, then those of the next. A pair may stand there twice.
 fn needed_of_table(
     alloc: Global,
     query: &Query,
@@ -67,7 +67,7 @@ fn needed_of_table(
     Ok(pairs)
 }
 
-// The statistics of each needed pair of columns, ascending.
+// The statistics of each needed pair, once, ascending by the filter column and then by the joined column.
 fn pairs_of(
     alloc: Global,
     pool: &Pool,
@@ -86,7 +86,8 @@ fn pairs_of(
     Ok(pairs)
 }
 
-/// The section of a table, from the cells of one of its entries.
+/// The section of a table: its number of rows, and the statistics of each pair of columns that some entry over it needs. They are made of
+/// the cells of `entry`, which is one of these entries. `table` is the table's place in the schema.
 pub(crate) fn section_of(
     alloc: Global,
     query: &Query,
