@@ -15,7 +15,7 @@
 /* Only so many relations of one query can be known, since a set of them is a number of 64 bits. */
 #define MOST_KNOWN 64
 
-/* The column of this query that an expression is, but for a change of its type; NULL if it is another expression. */
+/* An expression as a column of this query, with changes of type alone taken off; NULL if it isn't one. */
 Var *
 var_of(Expr *expression)
 {
@@ -125,7 +125,7 @@ add_clauses(BoundedQuery *query, RelOptInfo *rel)
 	}
 }
 
-/* Adds what one relation refers to along an equality, if the other has conditions and lists are kept for the reference. */
+/* Adds a reference of one relation to another along an equality, if the other has conditions and lists are kept for the reference. */
 static void
 add_carried(BoundedQuery *query, const EqualColumns *equal, const JoinedColumn *along, const JoinedColumn *key)
 {
@@ -182,14 +182,14 @@ carried_list(BoundedQuery *query, Carried *carried, int column)
 	return carried->lists[column];
 }
 
-/* Whether a join of these relations makes the reference, so that the conditions on the referred relation hold for the referring one's rows. */
+/* Whether a join of these relations joins along the reference: then the referred relation's conditions hold for the referring one's rows. */
 bool
 is_carried(const Carried *carried, Relids relids)
 {
 	return bms_is_member(carried->referring, relids) && bms_is_member(carried->referred, relids) && bms_is_subset(carried->required, relids);
 }
 
-/* The places in `carried` of the relation's references that a join of the set makes. */
+/* The places in `carried` of the relation's references along which a join of the set joins. */
 static Bitmapset *
 held_in_set(BoundedQuery *query, Relids relids, Index relid)
 {
@@ -218,7 +218,7 @@ narrowed(BoundedQuery *query, const Bitmapset *held, int column, DegreeList list
 	return list;
 }
 
-/* A column's list within a set: its relation may refer to others there. Many sets give the same list, so it is kept. */
+/* A column's list within a set, lowered by its relation's references to others there. Many sets give the same list, so it is kept. */
 static DegreeList
 list_in_set(BoundedQuery *query, Relids relids, int column)
 {
@@ -238,7 +238,7 @@ list_in_set(BoundedQuery *query, Relids relids, int column)
 	return made->list;
 }
 
-/* A relation's row bound within a set: it may refer to others there. */
+/* A relation's row bound within a set, lowered by its references to others there. */
 static uint64
 rows_in_set(BoundedQuery *query, Relids relids, Index relid)
 {
@@ -472,8 +472,8 @@ is_within(SpecialJoinInfo *join, Relids relids)
 }
 
 /* The bound of a join with outer, semi- and anti-joins. A row of it is made of one row of each relation, but a side of an outer join may
-   be missing. So the join has at most as many rows as all ways in which sides may be missing, taken together; each way is an inner join of
-   the relations that are left. `joins` has the joins that aren't looked at yet. The last of them is the outermost, and is looked at next.
+   be missing. So its rows are at most those of all ways in which sides may be missing, added up; each way is an inner join of the
+   relations that are left. `joins` has the joins that aren't looked at yet. The last of them is the outermost, and is looked at next.
    `present` has the relations that aren't missing so far. */
 static uint64
 bound_of_ways(BoundedQuery *query, Relids present, List *joins)

@@ -8,14 +8,14 @@ use std::alloc::AllocError;
 /// Why a call was refused. It then changed nothing in the caller's room. `place` is the number of an element of a list, counted from 0.
 #[derive(Clone, Copy, Debug, PartialEq, Eq)]
 pub enum Refusal {
-    /// The room is too small. It takes `needed` elements.
+    /// The room is too small: the answer has `needed` elements.
     Room { needed: u64 },
     /// Memory was wanting.
     NoMemory,
     /// There are more than 2^48 keys.
     Keys { count: u64 },
-    /// The run at this place is wrong: its degree or its number of keys is 0, its degree is above that of a run before it, or the degrees of all
-    /// keys up to it sum to more than 2^48.
+    /// The run at this place breaks a rule of its list: degrees and numbers of keys are above 0, degrees don't rise, and the degrees of all keys
+    /// sum to at most 2^48.
     Run { place: u64 },
     /// The run at this place of the second list is wrong, as in `Run`.
     OtherRun { place: u64 },
@@ -31,8 +31,8 @@ pub enum Refusal {
     Equalities { count: u64 },
     /// The equality at this place names an entry that isn't there, or one entry on both sides.
     Equality { place: u64 },
-    /// The list at this place is of an entry that isn't there, or of a column that an earlier list is of; or it has no runs and no mark, or
-    /// names runs that aren't there.
+    /// The list at this place is of an entry that isn't there, or of a column that an earlier list is of; or it has no runs and no mark
+    /// `NO_VALUES`, or names runs that aren't there.
     List { place: u64 },
     /// A column of the equality at this place has no list.
     MissingList { place: u64 },

@@ -45,7 +45,7 @@ is_last : (o : Option ℕ) (last : ℕ) → is_none o ≡ true → Some last ≡
 is_last (Some place) last none = cc
 is_last None last none = refl
 
--- if `f` has no place for a name and the name then gets the last one, all other names have the same places as before
+-- a name without a place by `f` gets the last one: the place of any name after that is `or_last` of its place before
 pub place_added : (f : List ℕ → Option ℕ) (name other : List ℕ) (last : ℕ) → is_none (f name) ≡ true → cond (bytes_eq name other) (Some last) (f other) ≡ or_last (f other) last (bytes_eq other name)
 place_added f name other last none = elim (cases_Bool (bytes_eq name other)) [
   | inl e ↦
