@@ -1,4 +1,4 @@
-/* Row bounds of sets of relations and of joins, outer and semi-joins among them, by the library. */
+/* Bounds, by the library, of the rows of sets of relations and of joins. A join may have outer, semi- and anti-joins in it. */
 #include "planning.h"
 
 #include "catalog/pg_class.h"
@@ -8,13 +8,14 @@
 #include "port/pg_bitutils.h"
 #include "utils/lsyscache.h"
 
-/* Longer lists are compressed before they are joined, since a plan waits for its bounds. */
+/* A list of more runs is compressed before it is joined, since a plan waits for its bounds. */
 #define LONGEST_LIST 48
 #define PLANNING_ACCURACY 6
 
-/* Of more relations of one query no more are known: a set of them is a number of 64 bits. */
+/* Only so many relations of one query can be known, since a set of them is a number of 64 bits. */
 #define MOST_KNOWN 64
 
+/* An expression as a column of this query, with changes of type alone taken off; NULL if it isn't one. */
 Var *
 var_of(Expr *expression)
 {
@@ -25,20 +26,21 @@ var_of(Expr *expression)
 	return NULL;
 }
 
+/* What is known of a relation; NULL if nothing is. */
 Entry *
 entry_of(BoundedQuery *query, int relid)
 {
 	return relid > 0 && relid < query->root->simple_rel_array_size && query->entries[relid].table ? &query->entries[relid] : NULL;
 }
 
-/* What conditions make of lists grows with each of them. */
+/* A list grows with each condition that it is made under, so a long one is compressed. */
 static DegreeList
 shortened(DegreeList list)
 {
 	return list.length > LONGEST_LIST ? compressed(list, PLANNING_ACCURACY) : list;
 }
 
-/* The number of a joined column, which is added where it is new; -1 where no list of it is kept. */
+/* The place of a joined column in `columns`, to which a new one is added; -1 if no list of it is kept. */
 static int
 joined_column(BoundedQuery *query, Var *var)
 {
@@ -59,6 +61,7 @@ joined_column(BoundedQuery *query, Var *var)
 	return query->columns_length++;
 }
 
+/* Adds the columns of an equivalence class of PostgreSQL's as equal ones. */
 static void
 add_class(BoundedQuery *query, EquivalenceClass *class)
 {
@@ -83,7 +86,7 @@ add_class(BoundedQuery *query, EquivalenceClass *class)
 		query->equalities = lappend(query->equalities, equal);
 }
 
-/* A clause that is in no class: one of an outer join's ON. */
+/* Adds an equality that is in no equivalence class, as one of an outer join's ON. */
 static void
 add_clause(BoundedQuery *query, RestrictInfo *info)
 {
@@ -107,7 +110,7 @@ add_clause(BoundedQuery *query, RestrictInfo *info)
 		query->equalities = lappend(query->equalities, equal);
 }
 
-/* Each clause stands at both of its relations: it is taken at the first. */
+/* PostgreSQL lists a clause at both of its relations. It is added at the one with the lower number. */
 static void
 add_clauses(BoundedQuery *query, RelOptInfo *rel)
 {
@@ -122,6 +125,7 @@ add_clauses(BoundedQuery *query, RelOptInfo *rel)
 	}
 }
 
+/* Adds a reference of one relation to another along an equality, if the other has conditions and lists are kept for the reference. */
 static void
 add_carried(BoundedQuery *query, const EqualColumns *equal, const JoinedColumn *along, const JoinedColumn *key)
 {
@@ -137,7 +141,7 @@ add_carried(BoundedQuery *query, const EqualColumns *equal, const JoinedColumn *
 	query->carried = lappend(query->carried, carried);
 }
 
-/* Where one of two equal columns refers to the other. */
+/* Looks at each pair of equal columns whether the one refers to the other. */
 static void
 find_carried(BoundedQuery *query, const EqualColumns *equal)
 {
@@ -160,7 +164,8 @@ make_room_for_carried(BoundedQuery *query)
 	}
 }
 
-/* The list of a column, by its number here, under the conditions of what its relation refers to. */
+/* The list of a referring relation's column, under the conditions of the relation that it refers to; NULL if there is none. `column` is a
+   place in `columns`, or the place after the last one for the number of rows alone. */
 const DegreeList *
 carried_list(BoundedQuery *query, Carried *carried, int column)
 {
@@ -177,14 +182,14 @@ carried_list(BoundedQuery *query, Carried *carried, int column)
 	return carried->lists[column];
 }
 
-/* Whether the conditions of what a relation refers to hold for its rows within a join of these relations. */
+/* Whether a join of these relations joins along the reference: then the referred relation's conditions hold for the referring one's rows. */
 bool
 is_carried(const Carried *carried, Relids relids)
 {
 	return bms_is_member(carried->referring, relids) && bms_is_member(carried->referred, relids) && bms_is_subset(carried->required, relids);
 }
 
-/* The places of what a relation refers to within a set, and of which conditions hold for its rows there. */
+/* The places in `carried` of the relation's references along which a join of the set joins. */
 static Bitmapset *
 held_in_set(BoundedQuery *query, Relids relids, Index relid)
 {
@@ -197,6 +202,7 @@ held_in_set(BoundedQuery *query, Relids relids, Index relid)
 	return held;
 }
 
+/* The lesser of a column's list and of its lists by these references. */
 static DegreeList
 narrowed(BoundedQuery *query, const Bitmapset *held, int column, DegreeList list)
 {
@@ -212,7 +218,7 @@ narrowed(BoundedQuery *query, const Bitmapset *held, int column, DegreeList list
 	return list;
 }
 
-/* A column's list in a set of which its relation may refer to others. It is the same in many sets. */
+/* A column's list within a set, lowered by its relation's references to others there. Many sets give the same list, so it is kept. */
 static DegreeList
 list_in_set(BoundedQuery *query, Relids relids, int column)
 {
@@ -232,7 +238,7 @@ list_in_set(BoundedQuery *query, Relids relids, int column)
 	return made->list;
 }
 
-/* A relation's rows in a set of which it may refer to others. */
+/* A relation's row bound within a set, lowered by its references to others there. */
 static uint64
 rows_in_set(BoundedQuery *query, Relids relids, Index relid)
 {
@@ -249,11 +255,11 @@ can_be_known(PlannerInfo *root, RelOptInfo *rel)
 	entry = root->simple_rte_array[rel->relid];
 	if (entry->tablesample != NULL)
 		return false;
-	/* With children a table has other rows than its own; a partitioned one has no others. */
+	/* A query also reads the rows of a table's children, which its statistics don't count. Those of a partitioned table count its parts. */
 	return entry->inh ? entry->relkind == RELKIND_PARTITIONED_TABLE : entry->relkind == RELKIND_RELATION || entry->relkind == RELKIND_MATVIEW;
 }
 
-/* A set of relations, by their numbers, whose bound is known. */
+/* The bound of a set of relations: bit i of the set is the relation with number i. */
 typedef struct KnownBound
 {
 	uint64		set;
@@ -307,17 +313,18 @@ bounded_query(PlannerInfo *root)
 	return query;
 }
 
-/* A call of the library, as its arrays. */
+/* What a call of the library is given for one set. */
 typedef struct SetCall
 {
 	uint64		rows[SAFEBOUND_MOST_ENTRIES];
 	int			entries;
-	int		   *number;			/* of each relid's entry, -1 where it isn't in the set */
+	int		   *number;			/* by relid: its entry's number in the call, -1 if it isn't in the set */
 	safebound_equality equalities[SAFEBOUND_MOST_EQUALITIES];
 	int			equalities_length;
-	bool	   *named;			/* the columns that an equality names */
+	bool	   *named;			/* by column: whether an equality names it */
 } SetCall;
 
+/* Adds an equality if there is room. Without it the bound may be higher, and holds too. */
 static bool
 add_equality(SetCall *call, BoundedQuery *query, int left, int right)
 {
@@ -334,7 +341,7 @@ add_equality(SetCall *call, BoundedQuery *query, int left, int right)
 	return true;
 }
 
-/* The equalities of a class within the set: each column with the last one before it that is of another entry. */
+/* Adds the equalities of columns within the set, as a chain. A column is skipped if the one before it in the chain is of the same entry. */
 static void
 add_equal_columns(SetCall *call, BoundedQuery *query, const EqualColumns *equal)
 {
@@ -353,6 +360,7 @@ add_equal_columns(SetCall *call, BoundedQuery *query, const EqualColumns *equal)
 	}
 }
 
+/* Calls the library, with the lists of the columns that the equalities name. */
 static uint64
 call_library(SetCall *call, BoundedQuery *query, Relids relids)
 {
@@ -392,7 +400,7 @@ call_library(SetCall *call, BoundedQuery *query, Relids relids)
 	return bound;
 }
 
-/* Asks the library for the bound of so many relations. */
+/* Asks the library for the bound of a set of so many relations; UNKNOWN if they are more than it takes. */
 static uint64
 new_bound(BoundedQuery *query, Relids relids, int entries)
 {
@@ -423,7 +431,7 @@ new_bound(BoundedQuery *query, Relids relids, int entries)
 	return call_library(&call, query, relids);
 }
 
-/* The bound of the inner join of a set of relations, which the library is asked once. */
+/* The bound of the inner join of a set of relations; UNKNOWN if nothing is known of one of them. The library is asked once for each set. */
 uint64
 bound_of_set(BoundedQuery *query, Relids relids)
 {
@@ -446,7 +454,7 @@ bound_of_set(BoundedQuery *query, Relids relids)
 	return known->bound;
 }
 
-/* The rows of an outer, semi- or anti-join, from the bounds of its inner join and of its sides. */
+/* The bound of an outer, semi- or anti-join, from the bounds of its inner join and of its sides. */
 static uint64
 joined_rows(uint64 kind, uint64 inner, uint64 left, uint64 right)
 {
@@ -456,16 +464,17 @@ joined_rows(uint64 kind, uint64 inner, uint64 left, uint64 right)
 	return rows;
 }
 
-/* Whether a special join is a part of the join of these relations. */
+/* Whether an outer, semi- or anti-join is a part of the join of these relations. */
 static bool
 is_within(SpecialJoinInfo *join, Relids relids)
 {
 	return bms_is_subset(join->min_lefthand, relids) && bms_is_subset(join->min_righthand, relids);
 }
 
-/* A row of a join is a choice of rows of some relations, where a side of an outer join may be missing. So the rows are at most the sum
-   over all ways in which sides may be missing, each an inner join of those that are left. `joins` are still to be looked at, the
-   outermost first, and `present` is what isn't missing yet. */
+/* The bound of a join with outer, semi- and anti-joins. A row of it is made of one row of each relation, but a side of an outer join may
+   be missing. So its rows are at most those of all ways in which sides may be missing, added up; each way is an inner join of the
+   relations that are left. `joins` has the joins that aren't looked at yet. The last of them is the outermost, and is looked at next.
+   `present` has the relations that aren't missing so far. */
 static uint64
 bound_of_ways(BoundedQuery *query, Relids present, List *joins)
 {
@@ -489,7 +498,7 @@ bound_of_ways(BoundedQuery *query, Relids present, List *joins)
 		case JOIN_SEMI:
 			return joined_rows(SAFEBOUND_SEMI_JOIN, bound_of_ways(query, present, rest), less, UNKNOWN);
 		case JOIN_LEFT:
-			/* Where the left side is missing, a strict condition on it finds no right side. */
+			/* Where the left side is missing, a strict condition on it isn't true, so no right side is joined. */
 			if (join->lhs_strict && !bms_overlap(join->min_lefthand, present))
 				return less;
 			return joined_rows(SAFEBOUND_LEFT_JOIN, bound_of_ways(query, present, rest), less, UNKNOWN);
@@ -501,7 +510,7 @@ bound_of_ways(BoundedQuery *query, Relids present, List *joins)
 	}
 }
 
-/* The outer and semi-joins of a join relation, the outermost last. */
+/* The outer, semi- and anti-joins in the join of these relations, the outermost last. */
 List *
 special_joins_within(BoundedQuery *query, Relids relids)
 {
@@ -514,7 +523,7 @@ special_joins_within(BoundedQuery *query, Relids relids)
 	return joins;
 }
 
-/* The bound of a join relation's rows. */
+/* The bound of the join of these relations; UNKNOWN if more outer, semi- and anti-joins are in it than are looked at. */
 uint64
 bound_of_join(BoundedQuery *query, Relids relids)
 {

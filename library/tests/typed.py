@@ -1,4 +1,4 @@
-"""A caller with types: `mypy --strict` takes each line but those that are marked. Nothing here is run."""
+"""Calls of the library, for their types: `mypy --strict` faults just the lines with `# wrong`. Nothing here is run."""
 
 from __future__ import annotations
 

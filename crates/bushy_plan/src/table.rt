@@ -1,4 +1,5 @@
-//! The least weight for each set. A set comes after all its parts, since its number is greater.
+//! For each set of entries, the least weight of a tree over it. A set is a number whose bits are its entries. Sets are done in the order of
+//! their numbers, so the weights of all parts of a set, whose numbers are smaller, are there before it.
 ghost use Rattle.std.specs.Prelude.{◌≡◌, ◌<◌, ◌≤◌, length, IfOk};
 ghost use Rattle.bushy_plan.specs.Splits.{IsLeastWeight, IsTable, weight_through as weight_through_of};
 
@@ -7,7 +8,7 @@ use crate::weight::Weight;
 use base_io::NoMemory;
 use std::alloc::Global;
 
-// The weight of the lightest tree over the set whose right set is this one.
+// The least weight of the trees over `set` whose root has the entries of `right` on its right side, and the others on its left.
 pub(crate) fn weight_through(
     weight: Weight,
     bounds: &[u128],
@@ -24,7 +25,8 @@ pub(crate) fn weight_through(
     weight.joined(bounds[set], table[set - right], table[right])
 }
 
-// The least weight of a tree over the set, by those over its parts. Right sets descend through all parts of what is behind the first entry.
+// The least weight of a tree over the set, by the table of its parts. The left side of the root has the set's first entry, so `right` goes down
+// through all parts of the other entries.
 fn least_weight(weight: Weight, bounds: &[u128], table: &[u128], set: usize) -> u128
     requires some { 0 < set }
     requires set { set < length bounds.now }
@@ -45,7 +47,7 @@ fn least_weight(weight: Weight, bounds: &[u128], table: &[u128], set: usize) -> 
     least
 }
 
-// The table over all sets.
+// The least weight for each set, at the set's number. Number 0, the set of no entries, has 0.
 pub(crate) fn least_weights(
     alloc: Global,
     weight: Weight,

@@ -1,4 +1,4 @@
-//! The conjuncts of a query in parts.
+//! Puts each conjunct of a query into a part: the own conjuncts of one FROM entry, the equalities, or all others.
 ghost use Rattle.std.specs.Prelude.{◌≡◌, ◌^◌, ◌<◌, length, map, IfOk, Some};
 ghost use Rattle.std.specs.List.{filter_map, range_with_len};
 ghost use Rattle.join_graph.specs.Conjuncts.{equalities_of, equality_of, joining, local_of, numbers_where, residual_of};
@@ -13,7 +13,7 @@ use query_grammar::Op;
 use query_types::{ColumnRef, Cond, Query};
 use std::alloc::{AllocError, Global};
 
-/// Where a conjunct stands.
+/// The part of a conjunct: the own conjuncts of this entry, the equalities of columns of two entries, or all others.
 #[derive(Clone, Copy)]
 pub(crate) enum Part {
     Local(u8),
@@ -44,7 +44,7 @@ fn joining(left: ColumnRef, right: ColumnRef) -> Option<Edge>
     })
 }
 
-// The equality that a condition is, if it joins two entries.
+// The condition as an equality, if it is `=` between columns of two different entries.
 fn equality_of(cond: &Cond) -> Option<Edge>
     ensures { result ≡ equality_of cond.now }
 {
@@ -69,6 +69,7 @@ fn part_of(cond: &Cond) -> Part
     }
 }
 
+// Whether both are the own part of the same entry, or both the part of all others. No two equalities are alike.
 fn is_alike(a: Part, b: Part) -> bool
     ensures { result ≡ is_alike a b }
 {
@@ -95,7 +96,7 @@ fn parts_of(alloc: Global, conjuncts: &[Cond]) -> Result<Vec<Part>, AllocError>
     conjuncts.iter().map(|cond| part_of(cond)).collect(alloc)
 }
 
-// The numbers of the conjuncts that stand in a part.
+// The numbers of the conjuncts in this part, in text order. For an equality it is empty.
 fn numbers_in(alloc: Global, parts: &[Part], part: Part) -> Result<Seq<u32>, NoMemory>
     requires { length parts.now < 2 ^ 32 }
     ensures { IfOk result (λ numbers. numbers ≡ numbers_where (is_alike part) 0 parts.now) }
@@ -109,7 +110,7 @@ fn numbers_in(alloc: Global, parts: &[Part], part: Part) -> Result<Seq<u32>, NoM
     Ok(numbers)
 }
 
-// For each FROM entry, the numbers of the conjuncts in its part.
+// For each FROM entry, the numbers of its own conjuncts.
 fn numbers_by_entry(alloc: Global, parts: &[Part], entries: u8) -> Result<Seq<Seq<u32>>, NoMemory>
     requires { length parts.now < 2 ^ 32 }
     ensures { IfOk result
@@ -140,7 +141,8 @@ fn equalities_in(alloc: Global, parts: &[Part]) -> Result<Vec<Edge>, AllocError>
         .collect(alloc)
 }
 
-/// The conjuncts of a query in parts. Where conjuncts name FROM entries alone, each stands in just one part.
+/// Splits the conjuncts of a query into parts. If every entry that a conjunct names is an entry of FROM, each conjunct is in exactly one part.
+/// The only error is want of memory.
 pub fn split(alloc: Global, query: &Query) -> Result<Parts, NoMemory>
     requires entries { length query.now.from < 2 ^ 8 }
     requires conjuncts { length query.now.conjuncts < 2 ^ 32 }

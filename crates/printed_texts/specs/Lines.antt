@@ -1,4 +1,4 @@
--- The records of the rows text, line by line.
+-- The records of the rows text: the header, and one for each choice of rows.
 use Rattle.std.specs.Prelude.{◌≡◌, ℕ, ◌<◌, List, ◌∷◌, length, map, slice_index, ⊤}
 use Rattle.csv_tables.specs.declared.types.Database.{Database}
 use Rattle.row_printer.specs.Fields.{field_text, fields_text, record_text}
@@ -9,21 +9,21 @@ use Rattle.printed_texts.specs.Texts.{value_text}
 use Rattle.printed_texts.specs.declared.rows.Line.{Line}
 use Rattle.printed_texts.specs.declared.rows.Line.TheVariants as line
 
--- a choice of one row for each FROM entry, each of which its table has
+-- a choice: for each FROM entry, in FROM order, the number of a row that its table has
 pub record IsChoice (db : Database) (rows : List ℕ) : Type 0 where
   pub one_each : length rows ≡ length db.slots
   pub exists : (entry : ℕ) → entry < length db.slots → slice_index rows entry < (cells_of db entry).rows
 
--- the rows of the line are such a choice
+-- the rows of the line are a choice. The header has no rows
 abbrev pub IsLineOf : Database → Line → Type 0
 IsLineOf db line.Header = ⊤
 IsLineOf db (line.Rows rows) = IsChoice db rows.now
 
--- an output's value where each entry has its row of a choice
+-- an output's value in a choice, as text that isn't quoted yet
 abbrev pub field_of : Tables → List ℕ → Out → List ℕ
 field_of tables rows out = value_text (column_value tables (slice_index rows) out.column)
 
--- an output's field: its name, or its value
+-- an output's field in a line: in the header its name, else its value
 abbrev pub field_at : Tables → Line → Out → List ℕ
 field_at tables line.Header out = out.name
 field_at tables (line.Rows rows) out = field_of tables rows.now out
@@ -32,12 +32,14 @@ field_at tables (line.Rows rows) out = field_of tables rows.now out
 abbrev pub next_field : Tables → Line → Out → List ℕ
 next_field tables l out = 44 ∷ field_text (field_at tables l out)
 
+-- the fields of a line, with commas between them
 abbrev pub fields_at : List Out → Tables → Line → List ℕ
 fields_at outs tables l = fields_text (map (field_at tables l) outs)
 
+-- a line as a CSV record, with CR and LF
 abbrev pub line_at : List Out → Tables → Line → List ℕ
 line_at outs tables l = record_text (map (field_at tables l) outs)
 
--- the record of the outputs where each entry has its row of a choice
+-- the record of a choice: the values of the outputs, and CR and LF
 abbrev pub choice_text : List Out → Tables → List ℕ → List ℕ
 choice_text outs tables rows = record_text (map (field_of tables rows) outs)

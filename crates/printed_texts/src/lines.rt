@@ -1,4 +1,5 @@
-//! Lines of words. Nothing here takes memory.
+//! Writes the line of a fault: `error`, words with a blank before each, and LF. One of the words may be the name of a file. Nothing here takes
+//! memory.
 ghost use Rattle.std.specs.Prelude.{◌≡◌, ◌≤◌, ◌++◌, ◌∷◌, map};
 ghost use Rattle.std.specs.Char.{to_ascii_lowercase};
 ghost use Rattle.std.specs.List.{flat_map};
@@ -18,14 +19,14 @@ const CSV: &[u8] = b".csv";
 
 const LINE_END: &[u8] = b"\n";
 
-/// A file as a line names it.
+/// A file that a line names: by a given name, or as a table's own file, whose name is that of the table in lower case and `.csv`.
 #[derive(Clone, Copy)]
 pub enum FileWord<'a> {
     Given(&'a [u8]),
     OfTable(&'a Table),
 }
 
-// A name in lower case.
+// Puts a name, with A to Z in lower case.
 fn put_lower<N: Sink>(name: &[u8], buffer: &mut Buffer, sink: &mut N) -> Result<(), Failed>
     ensures { Put (growth N.taken N.faults sink.old sink.new) buffer.old buffer.new (map to_ascii_lowercase name.now) result }
 {
@@ -51,7 +52,7 @@ fn put_file_name<N: Sink>(file: FileWord, buffer: &mut Buffer, sink: &mut N) -> 
     }
 }
 
-// A blank and a file.
+// Puts a blank and the name of a file.
 fn put_file<N: Sink>(file: FileWord, buffer: &mut Buffer, sink: &mut N) -> Result<(), Failed>
     ensures { Put (growth N.taken N.faults sink.old sink.new) buffer.old buffer.new (behind_blank (file_text file.entry)) result }
 {
@@ -59,7 +60,7 @@ fn put_file<N: Sink>(file: FileWord, buffer: &mut Buffer, sink: &mut N) -> Resul
     put_file_name(file, buffer, sink)
 }
 
-// A blank and a word.
+// Puts a blank and a word.
 fn put_word<N: Sink>(word: &[u8], buffer: &mut Buffer, sink: &mut N) -> Result<(), Failed>
     ensures { Put (growth N.taken N.faults sink.old sink.new) buffer.old buffer.new (behind_blank word.now) result }
 {
@@ -75,7 +76,7 @@ fn put_words<N: Sink>(words: &[&[u8]], buffer: &mut Buffer, sink: &mut N) -> Res
     Ok(())
 }
 
-// Words, a file, and words.
+// Puts words, the name of a file, and more words, each behind a blank.
 fn put_words_about<N: Sink>(
     words: &[&[u8]],
     file: FileWord,
@@ -91,7 +92,7 @@ fn put_words_about<N: Sink>(
     put_words(more, buffer, sink)
 }
 
-/// Writes a line of these words.
+/// Writes the line `error` with these words. Fails where the sink does; then a prefix of the line is written.
 pub fn write_words<N: Sink>(words: &[&[u8]], sink: &mut N) -> Result<(), Failed>
     ensures { Wrote (growth N.taken N.faults sink.old sink.new) (error_line (map (λ w. w.now) words.now)) result }
 {
@@ -102,7 +103,8 @@ pub fn write_words<N: Sink>(words: &[&[u8]], sink: &mut N) -> Result<(), Failed>
     buffer.flush(sink)
 }
 
-/// Writes a line of these words, a file, and more words.
+/// Writes the line `error` with these words, the name of a file, and more words. Fails where the sink does; then a prefix of the line is
+/// written.
 pub fn write_words_about<N: Sink>(
     words: &[&[u8]],
     file: FileWord,

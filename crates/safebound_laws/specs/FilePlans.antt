@@ -1,4 +1,4 @@
--- What a plan from a statistics file says of the rows in the tables' files: those that `stats` read, and those that were appended.
+-- What a plan from a statistics file says of the rows in table files: those that `stats` read, and those that `append` read after it.
 use Rattle.std.specs.Prelude.{ℕ, ◌≡◌, ◌<◌, ◌==◌, if◌then◌else◌, ◌++◌, List, [], ◌∷◌, length, slice_get, Some, Ok, true, ⊤}
 use Rattle.std.specs.List.{flat_map}
 use Rattle.std.specs.Str.{str_eq_ignore_ascii_case}
@@ -23,12 +23,12 @@ use Rattle.safebound_laws.specs.FileCalls.{AppendCall, PlanCall, StatsCall}
 
 -- ---- the rows that `stats` read
 
--- the query in the file of `plan --stats` has these rows in the files that `stats` read
+-- `query` is the query that `plan --stats` read. `tables` has for each of its entries the rows of its table's file, as `stats` read it
 pub record IsOver (made : StatsCall) (planned : PlanCall) (schema : Schema) (query : Query) (tables : Tables) : Type 0 where
   pub asks : AsksQuery planned.files planned.query_file schema query
   pub rows : (entry : ℕ) → entry < length query.from → AreInFile made.files schema query entry (tables entry)
 
--- notes took the text of a plan, and over these rows no scan and no level has more rows than this text says
+-- `plan --stats` wrote the text of a plan to notes, and over the rows that `stats` read no scan and no level has more rows than the text says
 pub record PlanHolds (made : StatsCall) (planned : PlanCall) (schema : Schema) : Type 0 where
   pub query : Query
   pub tables : Tables
@@ -37,7 +37,8 @@ pub record PlanHolds (made : StatsCall) (planned : PlanCall) (schema : Schema) :
   pub plan : PrintsOrder planned.memory query tables (scans_of query tables) text
   pub written : Grew planned.call.notes text
 
--- notes took the text of the plan that `plan` makes of these rows at the file's accuracy, within the budget of `plan --stats`
+-- `plan --stats` wrote to notes the plan that `plan` makes of the rows that `stats` read, at the accuracy of `stats` and within the budget of
+-- `plan --stats`
 pub record PlanIsOfTables (made : StatsCall) (planned : PlanCall) (schema : Schema) : Type 0 where
   pub query : Query
   pub tables : Tables
@@ -46,7 +47,7 @@ pub record PlanIsOfTables (made : StatsCall) (planned : PlanCall) (schema : Sche
   pub same : planned_over query tables made.accuracy planned.budget ≡ Ok plan
   pub written : Grew planned.call.notes (plan_lines query.from plan ++ memory_text planned.memory (plan_bytes plan.order plan.scans plan.levels))
 
--- notes took the text of a plan, each of whose levels has a bound that is near the uncompressed one over these rows
+-- `plan --stats` wrote a plan to notes, and the bound of each level is near the uncompressed one over the rows that `stats` read
 pub record PlanIsNear (made : StatsCall) (planned : PlanCall) (schema : Schema) : Type 0 where
   pub query : Query
   pub tables : Tables
@@ -55,14 +56,14 @@ pub record PlanIsNear (made : StatsCall) (planned : PlanCall) (schema : Schema) 
   pub near : LevelsAreNear query tables made.accuracy plan
   pub written : Grew planned.call.notes (plan_lines query.from plan ++ memory_text planned.memory (plan_bytes plan.order plan.scans plan.levels))
 
--- ---- and those that were appended
+-- ---- the rows that were appended
 
--- rows for a table of the schema
+-- new rows for the table with this place in the schema
 pub record Added : Type 0 where
   pub table : ℕ
   pub rows : List Row
 
--- they are those in the file of new rows that the words name, of the table that the words name
+-- the words of `append` name the table and a file, and the added rows are those in this file
 pub record AddsRowsOfFile (schema : Schema) (append : AppendCall) (added : Added) : Type 0 where
   pub table : Table
   pub is_table : slice_get schema.tables added.table ≡ Some table
@@ -71,22 +72,23 @@ pub record AddsRowsOfFile (schema : Schema) (append : AppendCall) (added : Added
   pub there : file_of append.files append.names.rows_file ≡ Some bytes
   pub read : rows_of_file table bytes ≡ Ok added.rows
 
--- each call adds its rows
+-- each call of `append` added the rows at the same place of the other list
 abbrev pub AddEach : Schema → List AppendCall → List Added → Type 0
 AddEach schema [] [] = ⊤
 AddEach schema [] (added ∷ more) = ⊥
 AddEach schema (append ∷ appends) [] = ⊥
 AddEach schema (append ∷ appends) (added ∷ more) = AddsRowsOfFile schema append added × AddEach schema appends more
 
--- what was added to a table, in the order of the calls
+-- all rows that were added to a table, in the order of the calls
 abbrev pub added_rows : ℕ → List Added → List Row
 added_rows table added = flat_map (λ (one : Added). if table == one.table then one.rows else []) added
 
--- the rows of each entry, and behind them those that were added to its table
+-- the rows of each entry, and after them those that were added to its table
 abbrev pub with_added : Query → Tables → List Added → Tables
 with_added query tables added entry = tables entry ++ added_rows (table_of query entry) added
 
--- over the rows that `stats` read, with all added rows behind them, no scan and no level has more rows than the text says
+-- `plan --stats` wrote the text of a plan to notes. Over the rows that `stats` read, with all added rows after them, no scan and no level has
+-- more rows than the text says
 pub record GrownPlanHolds (made : StatsCall) (appends : List AppendCall) (planned : PlanCall) (schema : Schema) : Type 0 where
   pub query : Query
   pub tables : Tables

@@ -1,4 +1,4 @@
-//! The degree sequence of a column.
+//! Counts a column's keys: the degree sequence of the column, as runs.
 ghost use Rattle.std.specs.Prelude.{◌≡◌, ◌+◌, ◌<◌, ◌≤◌, length, slice_index, IfErr, IfOk, OnErr, OnOk};
 ghost use Rattle.std.specs.List.{All, AllWithin};
 ghost use Rattle.limits.specs.Profile.{greatest_rows};
@@ -16,7 +16,7 @@ use limits::GREATEST_ROWS;
 use piece_math::Pieces;
 use std::alloc::Global;
 
-// How many elements from a place on are equal to the one there.
+// How many elements, from `start` on, are equal to the one at `start`. In a falling list they stand side by side.
 fn run_length(list: &[u64], start: usize) -> usize
     requires falls { IsFalling list.now }
     requires start { start < length list.now }
@@ -28,7 +28,7 @@ fn run_length(list: &[u64], start: usize) -> usize
     list[start..].partition_point(|next| *next == first)
 }
 
-// A falling list as pieces, a run at a time, since a long list of degrees has few runs.
+// A falling list as pieces. It goes from run to run, since a long list of degrees has few runs.
 fn pieces_of_falling(alloc: Global, list: &[u64]) -> Result<Pieces, NoMemory>
     requires falls { IsFalling list.now }
     requires positive { All (λ x. 0 < x) list.now }
@@ -44,7 +44,8 @@ fn pieces_of_falling(alloc: Global, list: &[u64]) -> Result<Pieces, NoMemory>
     Ok(pieces)
 }
 
-/// How often each key stands in the column, as runs whose degrees fall.
+/// Writes the degree sequence of a column at the front of `into`, as runs whose degrees strictly fall, and says how many runs these are. `keys`
+/// has the key of each row. It refuses more than 2^48 keys, want of memory, and too little room; `into` is then as it was.
 pub fn degrees(alloc: Global, keys: &[u64], into: &mut [Run]) -> Result<u64, Refusal>
     ensures done { IfOk result (IsWritten (degree_list keys.now) into.old into.new) }
     ensures few { OnOk result (length keys.now ≤ greatest_rows) }

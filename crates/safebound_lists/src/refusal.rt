@@ -1,60 +1,62 @@
-//! Why a call did nothing.
+//! Why a call of the library was refused.
 ghost use Rattle.std.specs.Prelude.{◌≡◌};
 ghost use Rattle.safebound_lists.specs.declared.refusal.Refusal.TheVariants as refusal;
 
 use base_io::NoMemory;
 use std::alloc::AllocError;
 
-/// Why a call did nothing. A place is the number of an element, counted from 0.
+/// Why a call was refused. It then changed nothing in the caller's room. `place` is the number of an element of a list, counted from 0.
 #[derive(Clone, Copy, Debug, PartialEq, Eq)]
 pub enum Refusal {
-    /// The room is too small: so many elements are needed.
+    /// The room is too small: the answer has `needed` elements.
     Room { needed: u64 },
     /// Memory was wanting.
     NoMemory,
-    /// There are too many keys.
+    /// There are more than 2^48 keys.
     Keys { count: u64 },
-    /// The run at this place is wrong.
+    /// The run at this place breaks a rule of its list: degrees and numbers of keys are above 0, degrees don't rise, and the degrees of all keys
+    /// sum to at most 2^48.
     Run { place: u64 },
-    /// The run at this place of the other list is wrong.
+    /// The run at this place of the second list is wrong, as in `Run`.
     OtherRun { place: u64 },
-    /// The lists sum to too much together.
+    /// The degrees of the list that a call would make of two lists sum to more than 2^48: to `sum`.
     Sum { sum: u64 },
-    /// The accuracy is none that is taken.
+    /// The accuracy isn't from 1 to 64.
     Accuracy { given: u64 },
-    /// There are no entries, or too many.
+    /// The number of entries isn't from 1 to 12.
     Entries { count: u64 },
-    /// The row bound at this place is too large.
+    /// The row bound at this place is above 2^48.
     Rows { place: u64 },
-    /// There are too many equalities.
+    /// There are more than 256 equalities.
     Equalities { count: u64 },
-    /// The equality at this place is wrong.
+    /// The equality at this place names an entry that isn't there, or one entry on both sides.
     Equality { place: u64 },
-    /// The list at this place is wrong.
+    /// The list at this place is of an entry that isn't there, or of a column that an earlier list is of; or it has no runs and no mark
+    /// `NO_VALUES`, or names runs that aren't there.
     List { place: u64 },
     /// A column of the equality at this place has no list.
     MissingList { place: u64 },
-    /// There are not as many bounds as sets.
+    /// The number of bounds isn't 2^n for a number of entries n from 1 to 12.
     Bounds { count: u64 },
-    /// The budget is too large.
+    /// The budget that the caller gave is above 2^59.
     GivenBudget { given: u64 },
-    /// There are not as many levels as entries.
+    /// The number of levels isn't the number of entries.
     Levels { count: u64 },
-    /// The entry of the level at this place isn't there.
+    /// The level at this place names an entry that isn't there.
     Level { place: u64 },
-    /// There are not as many joins as entries but one.
+    /// The number of joins isn't one less than the number of entries.
     Joins { count: u64 },
-    /// The join at this place isn't of two nodes before it.
+    /// The join at this place names a node that isn't before it.
     Join { place: u64 },
-    /// The best plan passes the budget: the least that would do.
+    /// The best plan passes the budget. `least` is the least budget that would do.
     Budget { least: u64 },
-    /// The set has an entry that isn't there.
+    /// The set names an entry that isn't there.
     Set { given: u64 },
     /// There is no such kind of join.
     JoinKind { given: u64 },
-    /// The work passes the limit: the least limit that would do, or 2^64 - 1 where it is more.
+    /// The work passes the limit. `needed` is the least limit that would do, or 2^64 - 1 where it is more.
     Work { needed: u64 },
-    /// Each plan has a part without a bound, or what was asked for has more than 64 bits.
+    /// Each plan has a level or a join without a bound, or the number that was asked for has more than 64 bits.
     PastBits,
 }
 

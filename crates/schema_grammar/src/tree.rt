@@ -1,8 +1,8 @@
-//! The syntax tree of a schema text. Names and numbers are its tokens, as they stand in the text.
+//! The syntax tree of a schema text. A name or a number is kept as its token, which says where it lies in the text.
 use base_io::Seq;
 use ll_grammars::Lexeme;
 
-/// What a reference leads to: the table's name, and the names of its columns where they are written.
+/// The target of a foreign key: the name of the table that it refers to, and the names of that table's columns if they are written.
 #[derive(Debug, Drop)]
 pub struct TargetText {
     pub table: Lexeme,
@@ -16,7 +16,7 @@ pub enum TypeText {
     Text { length: Lexeme },
 }
 
-/// What a column's definition says behind its type (SQL-92 11.4). `word` is the token PRIMARY.
+/// A constraint in a column's definition, after its type (SQL-92 11.4). `word` is the token PRIMARY.
 #[derive(Debug, Drop)]
 pub enum ColumnRule {
     NotNull,
@@ -33,7 +33,7 @@ pub struct ColumnText {
     pub rules: Seq<ColumnRule>,
 }
 
-/// A table's rule over columns (SQL-92 11.7 and 11.8). `word` is the token PRIMARY.
+/// A constraint that a table's definition states of some of its columns (SQL-92 11.7 and 11.8). `word` is the token PRIMARY.
 #[derive(Debug, Drop)]
 pub enum TableRule {
     PrimaryKey {
@@ -49,7 +49,7 @@ pub enum TableRule {
     },
 }
 
-/// What stands between the commas of a table's definition.
+/// One item of the list in a table's definition: a column, or a constraint.
 #[derive(Debug, Drop)]
 pub enum Element {
     Column(ColumnText),

@@ -1,4 +1,4 @@
--- The rules on the values of a file of statistics.
+-- The rules that the values in a file of statistics keep, for its reader and its writer.
 use Rattle.std.specs.Prelude.{ℕ, zero, suc, ◌≡◌, ◌≢◌, ◌<◌, ◌≤◌, ◌⊎◌, List, [], length, map, sum, Some, slice_get, All, AllPairs, FitsSigned}
 use Rattle.std.specs.Cmp.Lexicographic.{slice_cmp}
 use Rattle.std.specs.Int.{w64}
@@ -19,7 +19,7 @@ use Rattle.stats_file.specs.declared.types.Pair.{Pair}
 use Rattle.stats_file.specs.declared.types.TableStats.{TableStats}
 use Rattle.stats_file.specs.declared.types.StatsFile.{StatsFile}
 
--- the order of values: numbers by size, texts by their bytes, which is the order of their code points
+-- the order of values: numbers by size, texts by their bytes, which is the order of their code points, and a number before a text
 abbrev pub datum_cmp : Datum → Datum → Ordering
 datum_cmp (datum.Int a) (datum.Int b) = int_cmp a b
 datum_cmp (datum.Text a) (datum.Text b) = slice_cmp nat_cmp a b
@@ -33,20 +33,20 @@ IsOfKind kind.Int (datum.Text bytes) = ⊥
 IsOfKind (kind.Text most) (datum.Int number) = ⊥
 IsOfKind (kind.Text most) (datum.Text bytes) = IsUtf8 bytes
 
--- a list of degrees of so many rows at most: positive numbers that don't rise
+-- a list of degrees: positive numbers that don't rise, with a sum of at most `rows`
 pub record IsList (rows : ℕ) (list : List ℕ) : Type 0 where
   pub falls : IsFalling list
   pub positive : All (λ x. 0 < x) list
   pub within : sum list ≤ rows
 
--- at most 32 different values of the column, each with a list
+-- the frequent values of a column of this kind: at most 32 different ones, each with a list
 pub record AreFrequent (kind : Kind) (rows : ℕ) (frequent : List (Datum × List ℕ)) : Type 0 where
   pub few : length frequent ≤ 32
   pub differ : AllPairs (λ (a b : Datum × List ℕ). a.0 ≢ b.0) frequent
   pub values : All (λ (f : Datum × List ℕ). IsOfKind kind f.0) frequent
   pub lists : All (λ (f : Datum × List ℕ). IsList rows f.1) frequent
 
--- 32 values of the column that don't fall, and 63 lists
+-- a histogram with 32 leaves: a value of the column's kind for each leaf, none above the next one, and a list for each of the 63 nodes
 pub record IsHistogram (kind : Kind) (rows : ℕ) (cuts : List Datum) (nodes : List (List ℕ)) : Type 0 where
   pub leaves : length cuts ≡ 32
   pub values : All (IsOfKind kind) cuts
@@ -54,12 +54,12 @@ pub record IsHistogram (kind : Kind) (rows : ℕ) (cuts : List Datum) (nodes : L
   pub all : length nodes ≡ 63
   pub lists : All (IsList rows) nodes
 
--- no tree where there are no rows
+-- the histogram of a table with so many rows. Without rows it has no values and no lists
 abbrev pub IsHistogramOf : Kind → ℕ → List Datum → List (List ℕ) → Type 0
 IsHistogramOf kind zero cuts nodes = (cuts ≡ []) × (nodes ≡ [])
 IsHistogramOf kind (suc n) cuts nodes = IsHistogram kind (suc n) cuts nodes
 
--- statistics of two columns of a table with so many rows
+-- a pair of a table with so many rows: statistics of a joined column by the values of a filter column
 pub record IsPair (table : Table) (rows : ℕ) (pair : Pair) : Type 0 where
   pub filter : Column
   pub filter_is : slice_get table.columns pair.filter ≡ Some filter
@@ -70,11 +70,11 @@ pub record IsPair (table : Table) (rows : ℕ) (pair : Pair) : Type 0 where
   pub rest : IsList rows pair.rest
   pub tree : IsHistogramOf filter.kind rows pair.cuts pair.nodes
 
--- ascending by the filter column, and then by the joined column
+-- pair `a` goes before `b`: its filter column is earlier in the table, or it is the same one and the joined column is earlier
 abbrev pub StandsBefore : Pair → Pair → Type 0
 StandsBefore a b = (a.filter < b.filter) ⊎ ((a.filter ≡ b.filter) × (a.joined < b.joined))
 
--- the rows of the same values were counted: values and cuts are the same, and lists at equal places have equal totals
+-- two pairs count the same rows of their filter column: frequent values and cuts are the same, and lists at equal places have equal sums
 pub record CountTheSame (a b : Pair) : Type 0 where
   pub values : map (λ (f : Datum × List ℕ). f.0) a.frequent ≡ map (λ (f : Datum × List ℕ). f.0) b.frequent
   pub totals : map (λ (f : Datum × List ℕ). sum f.1) a.frequent ≡ map (λ (f : Datum × List ℕ). sum f.1) b.frequent
@@ -82,12 +82,12 @@ pub record CountTheSame (a b : Pair) : Type 0 where
   pub cuts : a.cuts ≡ b.cuts
   pub nodes : map sum a.nodes ≡ map sum b.nodes
 
--- what pairs with a column in common agree on
+-- two pairs agree: with the same joined column they have one list of all rows, and with the same filter column they count the same rows
 pub record Agree (a b : Pair) : Type 0 where
   pub joined : a.joined ≡ b.joined → a.whole ≡ b.whole
   pub filter : a.filter ≡ b.filter → CountTheSame a b
 
--- statistics of a table of the schema
+-- the section of a table of the schema: its number of rows, and pairs in order, any two of which agree
 pub record IsSection (schema : Schema) (section : TableStats) : Type 0 where
   pub table : Table
   pub table_is : slice_get schema.tables section.table ≡ Some table
