@@ -20,7 +20,7 @@ typedef struct DegreeList
 	safebound_run *runs;
 } DegreeList;
 
-/* Of which rows a kept list is, by the filter column. The letters are those in the stored bytes. */
+/* Which rows a kept list stands for, by the filter column. The letters are those in the stored bytes. */
 typedef enum ListKind
 {
 	LIST_ALL = 'w',				/* all rows */
