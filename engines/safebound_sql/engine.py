@@ -29,8 +29,8 @@ class Catalog(ABC):
 
     @abstractmethod
     def view_texts(self, names: set[str]) -> list[tuple[str, str, str]]:
-        """The SQL below those of these table names that have some, of views and row policies: the name, which of the two it
-        is, and the text."""
+        """The views among these names of tables, and the row policies of these tables: for each the name, which of the
+        two it is, and its definition as SQL."""
 
     @abstractmethod
     def takes(self, sql: str) -> None:
@@ -55,7 +55,7 @@ class Catalog(ABC):
         return False
 
     def complaint(self, sql: str) -> str | None:
-        """Why the engine refuses the query, or None where it takes it."""
+        """What the engine says is wrong with the query, or None where it says nothing."""
         try:
             self.takes(sql)
         except EngineFault as fault:
@@ -82,7 +82,7 @@ class Catalog(ABC):
 
     def merged_side(self, left: Column, right: Column) -> int | None:
         """Whose values the merged column of USING has: 0 for the left column's, 1 for the right one's, None where both
-        are converted to another type."""
+        are converted to another type, or it isn't known."""
         return 0
 
     def output_names(self, sql: str) -> list[str] | None:

@@ -104,8 +104,8 @@ fn gather_entry(
     gather_columns(alloc, &table, steps, columns.as_slice())
 }
 
-/// No two texts of a pool have the same characters, so two values of a database are equal exactly if their cells are. The call changes nothing:
-/// proofs need its contract.
+/// No two texts of a pool have the same characters, so two texts are equal exactly if their cells are. The call changes nothing: proofs need
+/// its contract.
 pub fn characters_differ(pool: &Pool)
     ensures { HaveDifferentCharacters pool.now }
 {

@@ -24,7 +24,7 @@ infixr 20 ◌▸◌
 abbrev pub ◌▸◌ : {A B : Type 0} → Language A → Language B → Language (A × B)
 L ▸ M = Then L M
 
--- a text of L, with `f` of its value there as the value here
+-- a text of L; its value here is `f` of its value in L
 abbrev pub made : {A B : Type 0} → (A → B) → Language A → Language B
 made {A} f L text value = (a : A) × (f a ≡ value) × L text a
 

@@ -34,7 +34,7 @@ fn join_named(kind: u64) -> Option<Join>
     }
 }
 
-// How many rows a joined table has at most, where the inner join and both tables have at most so many.
+// How many rows a joined table has at most, where the inner join has at most `inner` rows, and the tables `left` and `right`.
 fn rows_of_kind(kind: u64, inner: u64, left: u64, right: u64) -> Result<u64, Refusal>
     ensures done { IfOk result (IsJoined kind inner left right) }
     ensures never_under { IfOk result (λ rows. (join : Join) → join_of kind ≡ Some join
