@@ -50,8 +50,8 @@ class Catalog(ABC):
         """Whether the engine orders the column's texts by code points."""
 
     def same_when_equal(self, column: Column) -> bool:
-        """Whether every function treats two values alike that GROUP BY puts into one group. 1.0 and 1.00 are one group of
-        a numeric column, and their texts differ."""
+        """Whether every function treats two values alike that GROUP BY puts into one group. 1.0 and 1.00 are one group
+        of a numeric column, and their texts differ."""
         return False
 
     def complaint(self, sql: str) -> str | None:
@@ -72,8 +72,8 @@ class Catalog(ABC):
         return None
 
     def without_snapshot(self, names: set[str]) -> dict[str, str]:
-        """Which of these tables have rows that the transaction's snapshot doesn't hold fixed, so that each statement may see
-        other rows, and why."""
+        """Which of these tables have rows that the transaction's snapshot doesn't hold fixed, so that each statement
+        may see other rows, and why."""
         return {}
 
     def holds_now(self, table: str, column: str) -> bool:
@@ -106,8 +106,8 @@ class Connection(ABC):
         """All rows of an answer, which is short enough for a list."""
 
     def counted(self, sql: str, large: bool) -> list[Row]:
-        """The answer of a statement that counts. Its numbers may be of any size. `large` says that parts of it may have many
-        rows. An error leaves the transaction as it was."""
+        """The answer of a statement that counts. Its numbers may be of any size. `large` says that parts of it may have
+        many rows. An error leaves the transaction as it was."""
         raise NotImplementedError("this engine has no exact numbers of any size")
 
     @abstractmethod
@@ -116,8 +116,8 @@ class Connection(ABC):
 
     @abstractmethod
     def csv(self, sql: str, null: str = "") -> Iterator[str]:
-        """The answer as CSV with a header, part by part. NULL is written as the text `null` without quotes, and no other
-        value is written so."""
+        """The answer as CSV with a header, part by part. NULL is written as the text `null` without quotes, and no
+        other value is written so."""
 
     def prepare_joins(self, tables: Iterable[Table]) -> None:
         """Makes the settings that all following statements over these tables need."""
