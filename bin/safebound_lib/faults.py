@@ -1,11 +1,11 @@
-"""The line of a fault (docs/ERRORS.md), told apart into its words."""
+"""Reads the line of a fault, of the form that docs/ERRORS.md lists, and takes it apart into its words."""
 from __future__ import annotations
 
 import re
 from dataclasses import dataclass
 from typing import Any
 
-# What is wrong with a table's file. Its name has no blank, but that of a file of new rows may have some.
+# What is wrong with a table's file. Its name has no blank; the name of a file of new rows (`append`) may have some.
 OF_TABLES = (
     r"(?P<cause>utf8) (?P<at>\d+)",
     r"(?P<cause>header) (?P<column>.*)",
@@ -35,7 +35,7 @@ NUMBERS = {"at", "record", "found", "earlier", "least"}
 
 @dataclass
 class Fault:
-    """The words of a fault's line. Those that a kind of fault doesn't have are empty, and its numbers 0."""
+    """The words of a fault's line. Where a kind of fault has no such word, it is empty here, or 0 if it is a number."""
     kind: str
     cause: str = ""
     file: str = ""
@@ -48,7 +48,7 @@ class Fault:
 
 
 def fault_of(notes: bytes) -> Fault | None:
-    """The fault that standard error tells, or nothing. It stands alone, but for one of a stream behind the plan."""
+    """The fault that standard error tells, or None. Its line stands alone, or after the plan if a write failed."""
     text = notes.decode("utf-8", "surrogateescape")
     line = text if text.startswith("error ") else text[text.rstrip("\n").rfind("\n") + 1:]
     match = next((match for form in FORMS for match in [form.fullmatch(line.removesuffix("\n"))] if match), None)

@@ -1,6 +1,6 @@
-"""An engine as one query meets it: its dialect, its catalog and a connection.
+"""A database engine, as a query needs it: the dialect of its SQL, its catalog, and a connection to it.
 
-`Dialect` is data. A `Catalog` is asked what a query means: it looks things up, runs no query and changes no setting.
+`Dialect` is data. A `Catalog` tells what the names of a query stand for. It runs no query and changes no setting.
 A `Connection` runs statements, all in one read-only transaction over one snapshot.
 """
 
@@ -17,7 +17,7 @@ from .tokens import Token, written
 
 
 class Catalog(ABC):
-    """What an engine knows of tables, columns and functions, and says of a query without running it."""
+    """What an engine knows of tables, columns and functions, and what it says of a query without running it."""
 
     @abstractmethod
     def table(self, name: list[Token]) -> Table | None:
@@ -25,11 +25,12 @@ class Catalog(ABC):
 
     @abstractmethod
     def volatile(self, names: set[str]) -> dict[str, str]:
-        """Those of the functions and operators that may answer anew at each call, and why."""
+        """Which of these functions and operators may give another result at the next call, and why."""
 
     @abstractmethod
     def view_texts(self, names: set[str]) -> list[tuple[str, str, str]]:
-        """What stands behind names of tables, as SQL writes them: the name, what it is, and a definition."""
+        """The views among these names of tables, and the row policies of these tables: for each the name, which of the
+        two it is, and its definition as SQL."""
 
     @abstractmethod
     def takes(self, sql: str) -> None:
@@ -37,22 +38,24 @@ class Catalog(ABC):
 
     @abstractmethod
     def exports(self, column: Column) -> bool:
-        """Whether the column's values are whole numbers or texts that are equal where their characters are."""
+        """Whether the column can be written to a table file: its values are whole numbers, or texts that are equal only
+        if their characters are."""
 
     @abstractmethod
     def whole_numbers(self, column: Column) -> bool:
-        """Whether a column that is exported has whole numbers; else it has texts."""
+        """Whether a column that can be written has whole numbers. Otherwise it has texts."""
 
     @abstractmethod
     def plain_order(self, column: Column) -> bool:
-        """Whether the column's texts are ordered by code points."""
+        """Whether the engine orders the column's texts by code points."""
 
     def same_when_equal(self, column: Column) -> bool:
-        """Whether values of the column that are grouped as one are one to every function."""
+        """Whether every function treats two values alike that GROUP BY puts into one group. 1.0 and 1.00 are one group
+        of a numeric column, and their texts differ."""
         return False
 
     def complaint(self, sql: str) -> str | None:
-        """What the engine says against the query, or None."""
+        """What the engine says is wrong with the query, or None where it says nothing."""
         try:
             self.takes(sql)
         except EngineFault as fault:
@@ -60,36 +63,38 @@ class Catalog(ABC):
         return None
 
     def stands_alone(self, inner: list[Token]) -> str | None:
-        """None where the subquery runs by itself, so that it names nothing outside; else what the engine says."""
+        """None where the subquery runs on its own, so that it names nothing of the query around it; else why it
+        doesn't."""
         return self.complaint(written(inner))
 
     def expected(self, sql: str) -> int | None:
-        """How many rows the engine expects of the query, or None where it doesn't say."""
+        """How many rows the engine's own planner expects of the query, or None where it doesn't say."""
         return None
 
     def without_snapshot(self, names: set[str]) -> dict[str, str]:
-        """Those of the names that are tables whose rows may be others in each statement, and why."""
+        """Which of these tables have rows that the transaction's snapshot doesn't hold fixed, so that each statement
+        may see other rows, and why."""
         return {}
 
     def holds_now(self, table: str, column: str) -> bool:
-        """Whether a value of the column is the text 'now', by which a function reads the clock."""
+        """Whether the text 'now' is among the column's values: a date function that gets it reads the clock."""
         return False
 
     def merged_side(self, left: Column, right: Column) -> int | None:
-        """Which of two columns is the one into which USING merges both, 0 for the left one; None where it is
-        neither."""
+        """Whose values the merged column of USING has: 0 for the left column's, 1 for the right one's, None where both
+        are converted to another type, or it isn't known."""
         return 0
 
     def output_names(self, sql: str) -> list[str] | None:
-        """The names of a query's outputs, where the engine can be asked."""
+        """The names of a query's output columns, or None where the engine can't be asked for them."""
         return None
 
     def described(self, sql: str) -> list[Column]:
-        """The columns of a query's answer. Those of which it isn't sure how they are compared have no kind."""
+        """The columns of a query's answer. A column has no kind where it isn't known how its values are compared."""
         raise NotImplementedError("this engine isn't asked for the columns of a query")
 
     def returns_sets(self, pieces: list[Token]) -> bool:
-        """Whether a function that is called there returns a set, so that one row may become several."""
+        """Whether these tokens call a function that returns a set, so that one row may become several."""
         return False
 
 
@@ -98,35 +103,36 @@ class Connection(ABC):
 
     @abstractmethod
     def rows(self, sql: str) -> list[Row]:
-        """All rows of a short answer."""
+        """All rows of an answer, which is short enough for a list."""
 
     def counted(self, sql: str, large: bool) -> list[Row]:
-        """The answer of a statement whose numbers may be of any size, and whose parts may be large. An error leaves
-        the transaction as it was."""
+        """The answer of a statement that counts. Its numbers may be of any size. `large` says that parts of it may have
+        many rows. An error leaves the transaction as it was."""
         raise NotImplementedError("this engine has no exact numbers of any size")
 
     @abstractmethod
     def stream(self, sql: str) -> Iterator[Row]:
-        """The rows of an answer of any length, one by one. The first one is the names of its columns."""
+        """The rows of an answer of any length, one by one. Before them comes a row with the names of the columns."""
 
     @abstractmethod
     def csv(self, sql: str, null: str = "") -> Iterator[str]:
-        """The answer as CSV with a header, part by part. NULL is that text without quotes, and no other value is."""
+        """The answer as CSV with a header, part by part. NULL is written as the text `null` without quotes, and no
+        other value is written so."""
 
     def prepare_joins(self, tables: Iterable[Table]) -> None:
-        """Sets what statements that join these tables need, from here on."""
+        """Makes the settings that all following statements over these tables need."""
 
     def keep_order(self) -> None:
-        """Makes the engine keep the order of joins in what follows."""
+        """Makes the engine join in the order in which each following statement is written."""
 
     @abstractmethod
     def close(self) -> None:
-        """Ends the transaction and the connection. Nothing is left of it in the database."""
+        """Ends the transaction and the connection. Neither leaves anything in the database."""
 
 
 @dataclass(frozen=True)
 class Engine:
-    """The three together."""
+    """The dialect, the catalog and the connection of one engine."""
 
     dialect: Dialect
     catalog: Catalog
@@ -134,10 +140,11 @@ class Engine:
 
 
 def one_line(message: object) -> str:
-    """An engine's message without its further lines."""
+    """The first line of an engine's message."""
     return str(message).strip().split("\n")[0]
 
 
 def with_names(rows: Iterable[Row], names: Iterable[str]) -> Iterator[Row]:
+    """The rows, with the names of their columns as a row before them."""
     yield tuple(names)
     yield from rows

@@ -1,4 +1,4 @@
-"""A schema file: CREATE TABLEs of an engine that can't be reached, in its own dialect."""
+"""Reads a schema file: the CREATE TABLE statements of an engine that can't be reached, in that engine's own SQL."""
 
 from __future__ import annotations
 
@@ -23,22 +23,22 @@ EQUAL_AS_GROUPED = re.compile(r"DATE|BOOLEAN|BOOL|UUID|CHAR\(\d+\)|(BIG)?NUMERIC
 
 
 class Keys(Protocol):
-    """How an engine finds names."""
+    """The part of a dialect that reading a schema file needs: how the engine compares names."""
 
     @property
     def rules(self) -> re.Pattern[str]:
-        """What its tokens are."""
+        """Matches one token of the engine's SQL."""
 
     def table_key(self, name: Tokens) -> tuple[str, ...]:
-        """By what a table is found."""
+        """The key by which a table of this name is found. Names of one table have one key."""
 
     def key_of(self, token: Token) -> str:
-        """By what a column is found."""
+        """The key by which a column of this name is found."""
 
 
 def kind_of(declared: str) -> Hashable | None:
-    """By what columns of this type meet. Whole numbers of any width do by their value; what has a floating point or a
-    time zone does by nothing."""
+    """The kind of a column of this type. Columns of one kind are compared as they are grouped. Whole numbers of any
+    width have one kind; floating point numbers and times with a zone have no kind."""
     name = declared.upper().replace(" ", "")
     if WHOLE.fullmatch(name):
         return "a whole number"
@@ -50,7 +50,7 @@ def kind_of(declared: str) -> Hashable | None:
 
 
 def declared(text: str, dialect: Keys) -> dict[tuple[str, ...], Table]:
-    """The tables of the text, by what the engine finds them by."""
+    """The tables that the text declares, by their keys. A table that is declared twice is refused."""
     found: dict[tuple[str, ...], Table] = {}
     for pieces in _statements(tokens(text, dialect.rules)):
         name, columns = _table(text, pieces, dialect)
@@ -78,7 +78,7 @@ def _statements(pieces: Tokens) -> Iterator[Tokens]:
 
 
 def _table(text: str, pieces: Tokens, dialect: Keys) -> tuple[Tokens, Table]:
-    """The name of a CREATE TABLE, and its columns."""
+    """The name and the columns of one CREATE TABLE statement. Any other statement is refused."""
     at = 1
     while at < len(pieces) and pieces[at].says(*BEFORE_TABLE):
         at += 1
@@ -101,7 +101,7 @@ def _table(text: str, pieces: Tokens, dialect: Keys) -> tuple[Tokens, Table]:
 
 
 def _of_unknown_kinds(table: Table) -> Table:
-    """The table where a collation stands behind its columns, for all of them."""
+    """The table with columns of no known kind: a collation after the list of columns holds for all of them."""
     columns = {key: column._replace(kind=None) for key, column in table.by_key.items()}
     return Table(tuple(columns.values()), columns)
 
@@ -121,7 +121,7 @@ def _columns(text: str, pieces: Tokens, dialect: Keys) -> Table:
 
 
 def _items(pieces: Tokens) -> Iterator[Tokens]:
-    """The parts between commas outside parentheses and angle brackets."""
+    """The parts between those commas that are in no parentheses and in no angle brackets."""
     item: Tokens = []
     depth = at = 0
     while at < len(pieces):
@@ -139,7 +139,7 @@ def _items(pieces: Tokens) -> Iterator[Tokens]:
 
 
 def _column(text: str, item: Tokens, dialect: Keys) -> Column:
-    """A column; one with a collation of its own meets nothing, since what it is grouped by isn't known."""
+    """A column. One with a collation of its own has no kind, since it isn't known how its values are grouped."""
     end = next(
         (at for at, token in enumerate(item) if at and token.kind == "word" and token.says(*BEHIND_TYPE)), len(item)
     )

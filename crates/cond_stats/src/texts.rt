@@ -1,4 +1,5 @@
-//! The rows of a column of texts, numbered in the order of the texts. Texts are compared once for the different cells, and never for rows.
+//! Numbers the rows of a text column in the order of their texts. The different cells are sorted by their texts once. A row then looks up the
+//! number of its cell, and no text is compared for it.
 ghost use Rattle.std.specs.Prelude.{◌≡◌, map, All, IfOk};
 ghost use Rattle.degree_sequences.specs.Degrees.{different};
 ghost use Rattle.cond_stats.specs.Texts.{AreByText, IsTextOf, rank_or_zero};
@@ -16,7 +17,7 @@ pub(crate) struct Text<'a> {
     pub text: &'a str,
 }
 
-/// The different cells of a column in the order of their texts: a cell's index is its rank.
+/// The different cells of a column, in the order of their texts by code points. The index of a cell is its rank.
 pub(crate) fn ranks(alloc: Global, pool: &Pool, cells: &[u64]) -> Result<IndexSet<u64>, NoMemory>
     ensures { IfOk result (λ ranks. AreByText pool.now (different cells.now) ranks.keys) }
 {
@@ -36,7 +37,7 @@ fn different_cells(alloc: Global, cells: &[u64]) -> Result<IndexSet<u64>, NoMemo
     Ok(set)
 }
 
-// The cells in the order of their texts.
+// The same cells, in the order of their texts.
 fn by_text(alloc: Global, pool: &Pool, cells: &[u64]) -> Result<Vec<u64>, NoMemory>
     ensures { IfOk result (λ ordered. AreByText pool.now cells.now ordered.items) }
 {
@@ -45,7 +46,7 @@ fn by_text(alloc: Global, pool: &Pool, cells: &[u64]) -> Result<Vec<u64>, NoMemo
     cells_of(alloc, texts.as_slice())
 }
 
-// The cells with their texts.
+// Each cell with its text.
 fn texts_of<'a>(alloc: Global, pool: &'a Pool, cells: &[u64]) -> Result<Vec<Text<'a>>, NoMemory>
     ensures cells { IfOk result (λ texts. map (λ text. text.cell) texts.items ≡ cells.now) }
     ensures texts { IfOk result (λ texts. All (λ text. IsTextOf pool.now text.cell text.text.now) texts.items) }
@@ -60,14 +61,14 @@ fn texts_of<'a>(alloc: Global, pool: &'a Pool, cells: &[u64]) -> Result<Vec<Text
     Ok(texts)
 }
 
-// The cells alone.
+// The cells without their texts.
 fn cells_of(alloc: Global, texts: &[Text<'_>]) -> Result<Vec<u64>, NoMemory>
     ensures { IfOk result (λ cells. cells.items ≡ map (λ text. text.cell) texts.now) }
 {
     Ok(texts.iter().map(|text| text.cell).collect(alloc)?)
 }
 
-/// The ranks of the cells of a column as they stand.
+/// The rank of each cell, in the order of the cells. A cell without a rank gets 0.
 pub(crate) fn numbered_by_rank(
     alloc: Global,
     ranks: &IndexSet<u64>,
@@ -82,6 +83,7 @@ pub(crate) fn numbered_by_rank(
     Ok(numbers)
 }
 
+// The rank of a cell, or 0 where it has none.
 fn rank_of(ranks: &IndexSet<u64>, cell: u64) -> u64
     ensures { result ≡ rank_or_zero ranks.now.keys cell }
 {

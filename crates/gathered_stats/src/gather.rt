@@ -1,4 +1,4 @@
-//! The statistics of each column, of each entry, and of a query.
+//! Makes the statistics that the bounds of a query ask for: of each joined column, then of each FROM entry, then of the query.
 ghost use Rattle.std.specs.Prelude.{◌≡◌, ◌<◌, All, length, map, replicate, true, IfOk};
 ghost use Rattle.join_graph.specs.Conjuncts.{equalities_of, local_of};
 ghost use Rattle.level_bounds.specs.Keys.{HaveDifferentCharacters};
@@ -21,7 +21,7 @@ use predicate_bounds::{ColumnSteps, EntryStats, QueryStats, Step, read_steps};
 use query_types::Query;
 use std::alloc::Global;
 
-// One key for each row of a table.
+// The keys of a column that the table doesn't have: 0 for each row.
 fn one_key(alloc: Global, cells: &Cells) -> Result<Vec<u64>, NoMemory>
     ensures { IfOk result (λ keys. keys.items ≡ replicate cells.now.rows 0) }
 {
@@ -30,7 +30,7 @@ fn one_key(alloc: Global, cells: &Cells) -> Result<Vec<u64>, NoMemory>
     Ok(keys)
 }
 
-// The steps of a column that is asked for. Where the table has no such column, all its rows have one key.
+// The steps of the entry's own conjuncts, each with its list of this column. If the table has no such column, all its rows have the same key.
 fn gather_column(
     alloc: Global,
     table: &EntryTable<'_>,
@@ -52,7 +52,7 @@ fn gather_column(
     table.list_steps(alloc, keys.as_slice(), column, steps)
 }
 
-// The steps of each joined column.
+// The same for each of these columns, in their order.
 fn gather_columns(
     alloc: Global,
     table: &EntryTable<'_>,
@@ -73,7 +73,7 @@ fn gather_columns(
     Ok(EntryStats { columns: gathered })
 }
 
-// The statistics of an entry.
+// The statistics of an entry: of each column that it joins. An entry that joins no column is asked for one that its table doesn't have.
 fn gather_entry(
     alloc: Global,
     query: &Query,
@@ -104,7 +104,8 @@ fn gather_entry(
     gather_columns(alloc, &table, steps, columns.as_slice())
 }
 
-/// What the pool of a database knows of its texts: no two of them have the same characters. So values are equal where their cells are.
+/// No two texts of a pool have the same characters, so two texts are equal exactly if their cells are. The call changes nothing: proofs need
+/// its contract.
 pub fn characters_differ(pool: &Pool)
     ensures { HaveDifferentCharacters pool.now }
 {
@@ -112,8 +113,8 @@ pub fn characters_differ(pool: &Pool)
 }
 
 /// The statistics that the bounds of a query ask for (SafeBound, SIGMOD 2023): for each FROM entry and each column that it joins,
-/// the steps of the entry's own conjuncts, each with its list. The parts are those of `split`. The accuracy is that of compression:
-/// the larger it is, the nearer are the lists and the more runs they have. Where memory is wanting nothing is kept.
+/// the steps of the entry's own conjuncts, each with its list. `parts` is what `split` makes of the query. `accuracy` is that of compression:
+/// if it is larger, the lists are nearer to the degree sequences and have more runs. On `NoMemory` nothing is kept.
 pub fn gather_query(
     alloc: Global,
     query: &Query,

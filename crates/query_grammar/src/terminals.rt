@@ -1,7 +1,8 @@
-//! The terminals that a rule asks for or begins with.
+//! Sets of terminals for the parser of queries. A rule may begin with any one of a set, or takes any one of it as its next token.
 pub use ll_grammars::NAME;
 use ll_grammars::Terminal;
 
+// The first token of `[ AS ] name`: KEY, NO, ACTION and CASCADE are names in a query.
 pub const NEW_NAME: &[Terminal] = &[
     Terminal::As,
     Terminal::Name,

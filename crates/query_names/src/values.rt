@@ -1,4 +1,4 @@
-//! What numbers mean, and what the comparisons of a test make together.
+//! The value of a number literal, and the condition that a test of a query text stands for.
 ghost use Rattle.std.specs.Prelude.{◌≡◌, IfOk, if◌then◌else◌};
 ghost use Rattle.sql_tokens.specs.Words.{IsLexemeOf};
 ghost use Rattle.query_types.specs.declared.types.Cond.TheVariants as cond;
@@ -15,7 +15,7 @@ use std::alloc::Global;
 
 const MINUS: &[Terminal] = &[Terminal::Minus];
 
-/// A number with its sign, cut off at the ends of the range.
+/// The number with its sign. Where that is outside the range of `i64`, the nearer end of the range; a query with such a number is refused.
 fn signed(negative: bool, value: u64) -> i64
     ensures { result ≡ signed negative value }
 {
@@ -32,6 +32,7 @@ fn signed(negative: bool, value: u64) -> i64
     }
 }
 
+/// Whether the sign is a minus. Without a sign the number isn't negative.
 pub fn is_negative(sign: &Option<Lexeme>) -> bool
     ensures { result ≡ is_negative sign.now }
 {
@@ -41,7 +42,7 @@ pub fn is_negative(sign: &Option<Lexeme>) -> bool
     }
 }
 
-/// The value of a number with its sign.
+/// The value of a number literal: of its digits, with the sign before them, if there is one.
 #[tactic(auto, unfolding(crate::specs::Numbers::number_value))]
 pub fn number_value(text: &[u8], sign: &Option<Lexeme>, digits: &Lexeme) -> i64
     requires { IsLexemeOf text.now digits.now }
@@ -50,7 +51,7 @@ pub fn number_value(text: &[u8], sign: &Option<Lexeme>, digits: &Lexeme) -> i64
     signed(is_negative(sign), number(text, digits))
 }
 
-/// One condition, or the OR of several.
+/// The OR of these conditions. Where there is only one, it is the condition itself.
 #[tactic(auto, using(crate::proofs::Meanings::one_of, crate::proofs::Meanings::several_of))]
 fn any_of(mut parts: Seq<Cond>) -> Cond
     ensures { result ≡ (any_of parts).whole }
@@ -65,7 +66,7 @@ fn any_of(mut parts: Seq<Cond>) -> Cond
     }
 }
 
-/// The condition, or NOT of it.
+/// NOT of the condition if `negated` is true, else the condition itself.
 fn negated_if(alloc: Global, negated: bool, condition: Cond) -> Result<Cond, NoMemory>
     ensures { IfOk result (λ found. found ≡ (if negated then cond.Not condition else condition)) }
 {
@@ -76,7 +77,8 @@ fn negated_if(alloc: Global, negated: bool, condition: Cond) -> Result<Cond, NoM
     }
 }
 
-/// The condition that the comparisons of a test make together.
+/// The condition of a test, from its comparisons: BETWEEN is the AND of them, and IN the OR. With NOT before the word it is NOT of that. A test
+/// with one operator is its only comparison.
 pub fn whole_of(alloc: Global, test: &TestText, parts: Seq<Cond>) -> Result<Cond, NoMemory>
     ensures { IfOk result (λ found. found ≡ whole_of test.now parts) }
 {

@@ -1,4 +1,4 @@
--- The bytes of a plan's buffers: of each buffer its capacity times the size of an item, and of each list of buffers its own.
+-- The bytes of a plan's buffers. A buffer takes its capacity times the size of an item. A list of buffers also takes some bytes for each of them.
 use Rattle.std.specs.Prelude.{ℕ, ◌+◌, ◌*◌, max, List, length, map, sum, Vec, vec_capacity}
 use Rattle.row_buf.specs.declared.TheConstants.{BUFFER_BYTES, KEY_BYTES, ROW_NUMBER_BYTES}
 use Rattle.row_buf.specs.Rows.{Rows, capacity}
@@ -7,17 +7,17 @@ use Rattle.reserve_plan.specs.declared.reserved.Reserved.{Reserved}
 use Rattle.reserve_plan.specs.declared.reserved.TheConstants.{CHAINS_BYTES}
 use Rattle.reserve_plan.specs.Rooms.{Rooms, rooms}
 
--- ---- by what is asked for
+-- ---- computed before, from the numbers of rows that are asked for
 
--- of a list of buffers of row numbers, with room for so many rows each
+-- of a list of buffers of row numbers, one for each size, with room for so many rows
 abbrev pub lists_bytes : List ℕ → ℕ
 lists_bytes sizes = BUFFER_BYTES * length sizes + ROW_NUMBER_BYTES * sum sizes
 
--- of chains of so many rows, which have as many buckets, and at least one
+-- of the hash chains over so many rows; they have as many buckets as rows, and at least one
 abbrev pub row_chain_bytes : ℕ → ℕ
 row_chain_bytes rows = chain_bytes rows (max rows 1)
 
--- of a list of chains of so many rows each
+-- of a list of hash chains, one over so many rows for each size
 abbrev pub chain_list_bytes : List ℕ → ℕ
 chain_list_bytes sizes = CHAINS_BYTES * length sizes + sum (map row_chain_bytes sizes)
 
@@ -25,17 +25,17 @@ abbrev pub rooms_bytes : Rooms → ℕ
 rooms_bytes rooms =
     chain_list_bytes rooms.chains + levels_bytes rooms.levels + ROW_NUMBER_BYTES * rooms.row + KEY_BYTES * rooms.keys
 
--- The bytes of a plan: of its lists, one for each entry in FROM order, and of the buffers for its levels.
+-- the bytes of a plan: of the lists of rows, one for each entry in FROM order, and of the buffers for its levels
 abbrev pub plan_bytes : List ℕ → List ℕ → List ℕ → ℕ
 plan_bytes order lists levels = lists_bytes lists + rooms_bytes (rooms order lists levels)
 
--- ---- by what is held
+-- ---- counted afterwards, from the capacities of the buffers
 
--- a list of buffers of row numbers
+-- of a list of buffers of row numbers
 abbrev pub buffers_bytes : {A : Type 0} → Vec (Rows ℕ) A → ℕ
 buffers_bytes buffers = BUFFER_BYTES * vec_capacity buffers + ROW_NUMBER_BYTES * sum (map capacity buffers.items)
 
--- the buffers of a plan
+-- of all buffers that are reserved for the levels of a plan
 abbrev pub reserved_bytes : Reserved → ℕ
 reserved_bytes reserved =
     CHAINS_BYTES * vec_capacity reserved.chains + sum (map chains_bytes reserved.chains.items) + forest_bytes reserved.levels

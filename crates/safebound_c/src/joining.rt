@@ -1,4 +1,4 @@
-//! The call for outer joins, semi-joins and anti-joins.
+//! The call that bounds the rows of outer joins, semi-joins and anti-joins.
 ghost use Rattle.std.specs.Prelude.{◌≡◌, ℕ, [], length, IfErr, IfOk, Some};
 ghost use Rattle.joined_tables.specs.Bounds.{IsWithin};
 ghost use Rattle.joined_tables.specs.Tables.{Condition, Table, inner_join, joined};
@@ -20,7 +20,7 @@ const SEMI: u64 = 4;
 
 const ANTI: u64 = 5;
 
-// The join of a number.
+// The kind of join to which include/safebound.h gives this number.
 fn join_named(kind: u64) -> Option<Join>
     ensures { result ≡ join_of kind }
 {
@@ -34,7 +34,7 @@ fn join_named(kind: u64) -> Option<Join>
     }
 }
 
-// How many rows a joined table has at most, by bounds of the inner join and of both tables.
+// How many rows a joined table has at most, where the inner join has at most `inner` rows, and the tables `left` and `right`.
 fn rows_of_kind(kind: u64, inner: u64, left: u64, right: u64) -> Result<u64, Refusal>
     ensures done { IfOk result (IsJoined kind inner left right) }
     ensures never_under { IfOk result (λ rows. (join : Join) → join_of kind ≡ Some join
@@ -50,10 +50,11 @@ fn rows_of_kind(kind: u64, inner: u64, left: u64, right: u64) -> Result<u64, Ref
     }
 }
 
-/// How many rows an outer join, a semi-join or an anti-join of two tables has at most.
+/// Writes to `detail` how many rows an outer join, a semi-join or an anti-join of two tables has at most. A `kind` that is no number of a join
+/// is refused, and `detail` is then the kind.
 ///
-/// Never under: where the inner join and both tables have at most as many rows as their bounds say, the joined table has at most as many as
-/// the answer says, or the answer is 2^64 - 1. A bound of 2^64 - 1 says nothing.
+/// The bound is never too low. Let the inner join have at most `inner` rows, and the tables at most `left` and `right`. Then the joined table
+/// has at most `detail` rows. The number 2^64 - 1 says that no bound is known, as an argument and as the answer.
 #[unsafe(no_mangle)]
 pub extern "C" fn safebound_joined_rows(
     kind: u64,

@@ -1,4 +1,4 @@
--- The table of commands, options and flags: a new one is one line here.
+-- The table of commands, options and flags, one line for each. A place word is an argument that is no option, no value of one and no flag.
 use Rattle.std.specs.Prelude.{ℕ, ◌^◌, ◌-◌, ◌==◌, ◌&&◌, ◌||◌, not, nat_le, if◌then◌else◌, suc, zero, Bool, true, false, List, [], ◌∷◌, length, Option, Some, None, codes}
 use Rattle.std.specs.Option.{option_map}
 use Rattle.limits.specs.Profile.{least_accuracy, least_budget, most_accuracy, most_budget, usual_accuracy, usual_budget}
@@ -16,7 +16,7 @@ use Rattle.safebound_words.specs.declared.table.FlagName.TheVariants as flag
 use Rattle.safebound_words.specs.declared.table.OptionName.{OptionName}
 use Rattle.safebound_words.specs.declared.table.OptionName.TheVariants as option
 
--- an option: its word, its least and its greatest value, and its value where it doesn't stand
+-- an option: its word, its least and its greatest value, and its default
 pub record OptionRow : Type 0 where
   pub word : Word
   pub least : ℕ
@@ -26,11 +26,11 @@ pub record OptionRow : Type 0 where
 abbrev pub number_option : Word → ℕ → ℕ → ℕ → OptionRow
 number_option word least most otherwise = record { word = word; least = least; most = most; otherwise = otherwise }
 
--- an option whose value is a file's name has no numbers
+-- an option whose value is a file's name: the numbers aren't used
 abbrev pub file_option : Word → OptionRow
 file_option word = number_option word 0 0 0
 
--- a limit of memory, in bytes
+-- the range of a limit of memory, in bytes
 abbrev pub least_memory : ℕ
 least_memory = 1
 
@@ -51,18 +51,18 @@ flag_word flag.Bushy = codes "--bushy"
 flag_word flag.Keys = codes "--keys"
 flag_word flag.Count = codes "--count"
 
--- the words that a line gives to each option, in order, and how often each flag stands in it
+-- what a command line gives: for each option the words of its values, in order, and for each flag how often it stands
 pub record Given : Type 0 where
   pub values : OptionName → List Word
   pub times : FlagName → ℕ
 
--- an option has one value at most: the number of its word, which is in its range, or its default where it isn't given
+-- the value of an option, which is given at most once: the number in its word, which is in its range; the default where it isn't given
 abbrev pub value_of : OptionName → List Word → Option ℕ
 value_of option [] = Some (option_row option).otherwise
 value_of option (word ∷ []) = number_within (option_row option).least (option_row option).most word
 value_of option (word ∷ another ∷ words) = None
 
--- the limit of memory: 0, which no word gives, is none
+-- the limit of memory, if there is one: 0 is the default, and says that there is no limit
 abbrev pub limit_of : ℕ → Option ℕ
 limit_of bytes = if bytes == 0 then None else Some bytes
 
@@ -71,19 +71,19 @@ abbrev pub is_file : Word → Bool
 is_file [] = false
 is_file (first ∷ rest) = not (first == 45)
 
--- such an option has one value at most: the file of its word, where it stands
+-- the file that such an option names, if it is given; it is given at most once
 abbrev pub option_file : List Word → Option (Option Word)
 option_file [] = Some None
 option_file (word ∷ []) = if is_file word then Some (Some word) else None
 option_file (word ∷ another ∷ words) = None
 
--- a flag stands once at most: whether it stands
+-- whether a flag is given; it is given at most once
 abbrev pub is_set : ℕ → Option Bool
 is_set zero = Some false
 is_set (suc zero) = Some true
 is_set (suc (suc more)) = None
 
--- a command: its word, its options, its flags, and what its place words and what is given beside them ask for, if anything
+-- a command: its word, its options, its flags, and what it asks for with these place words and with what is given, if anything
 pub record CommandRow : Type 0 where
   pub word : Word
   pub options : List OptionName
@@ -93,17 +93,17 @@ pub record CommandRow : Type 0 where
 abbrev pub named : Word → List OptionName → List FlagName → (List Word → Given → Option Command) → CommandRow
 named word options flags asks = record { word = word; options = options; flags = flags; asks = asks }
 
--- what is there goes on to the rest
+-- the rest is asked of the value, if there is one
 infixl 10 ◌>>=◌
 abbrev pub ◌>>=◌ : {A B : Type 0} → Option A → (A → Option B) → Option B
 None >>= rest = None
 (Some value) >>= rest = rest value
 
--- beside `--count` stands no other source, and no accuracy, since nothing is compressed
+-- whether neither another source nor an accuracy is given, as `--count` requires: it compresses nothing
 abbrev pub count_alone : Given → Bool → Bool → Bool
 count_alone given reduce keys = not (reduce || (keys || not (length (given.values option.Accuracy) == 0)))
 
--- exactly two place words, SCHEMA and QUERY; `--keys` beside no other flag, and a budget that is at most that of the shape
+-- exactly two place words, SCHEMA and QUERY. With `--keys` no other flag is given. The budget is at most the greatest one for the plan's shape
 abbrev pub over_two : OutText → Option ℕ → List Word → Given → Option Command
 over_two out limit (schema ∷ query ∷ []) given = do
   budget ← value_of option.Budget (given.values option.Budget)
@@ -119,27 +119,27 @@ over_two out limit (schema ∷ query ∷ []) given = do
       else None
 over_two out limit places given = None
 
--- what is asked for with a limit of memory, where one stands
+-- what is asked for with the limit of memory, if one is given
 abbrev pub with_limit : (Option ℕ → List Word → Given → Option Command) → List Word → Given → Option Command
 with_limit asks places given = value_of option.Memory (given.values option.Memory) >>= λ bytes. asks (limit_of bytes) places given
 
 unfoldable pub over_files : OutText → List Word → Given → Option Command
 over_files out places given = with_limit (over_two out) places given
 
--- beside a statistics file stands no accuracy, which is the file's, and no flag; the budget and a limit of memory may
+-- whether neither an accuracy nor a flag is given, as a statistics file requires: it has its accuracy. A budget and a limit of memory may be
 abbrev pub stands_alone : Given → Bool
 stands_alone given =
     length (given.values option.Accuracy) == 0
     && (given.times flag.Reduce == 0 && (given.times flag.Bushy == 0 && (given.times flag.Keys == 0 && given.times flag.Count == 0)))
 
--- a plan from a statistics file: SCHEMA and QUERY, and the budget
+-- a plan from a statistics file, with exactly two place words, SCHEMA and QUERY
 abbrev pub from_file : Word → Option ℕ → List Word → Given → Option Command
 from_file file limit (schema ∷ query ∷ []) given = do
   budget ← value_of option.Budget (given.values option.Budget)
   if stands_alone given then Some (over_query None schema query (works.PlanFromStats file budget limit)) else None
 from_file file limit places given = None
 
--- a plan from a statistics file, if there is one, or from the tables
+-- a plan from a statistics file, if one is given, else from the tables
 abbrev pub plan_from_stats_or_tables : Option Word → List Word → Given → Option Command
 plan_from_stats_or_tables None places given = over_files out_text.Nothing places given
 plan_from_stats_or_tables (Some file) places given = with_limit (from_file file) places given

@@ -1,4 +1,4 @@
--- What a token is to a grammar (its terminal), and what it names or counts.
+-- The terminal of a token, by which grammars know it, and the name, the text or the number that the token stands for.
 use Rattle.std.specs.Prelude.{ℕ, ◌+◌, ◌-◌, ◌*◌, ◌≤◌, Bool, ◌==◌, if◌then◌else◌, List, [], ◌∷◌, ◌++◌, map, length, slice_index, slice_range, codes}
 use denote.Ref.{Bor}
 use Rattle.std.specs.Char.{to_ascii_uppercase}
@@ -11,11 +11,11 @@ use Rattle.sql_tokens.specs.declared.token.Token.{Token}
 use Rattle.sql_tokens.specs.declared.token.TokenKind.{TokenKind}
 use Rattle.sql_tokens.specs.declared.token.TokenKind.TheVariants as kind
 
--- the bytes of a text from one place up to another
+-- the bytes of a text from the place `start` up to the place `end`, without the byte there
 abbrev pub slice : List ℕ → ℕ → ℕ → List ℕ
 slice text start end = slice_range text start end
 
--- a token lies in the text, and its bytes are a text of their own
+-- the token lies within the text, and its bytes are valid UTF-8; IsLexemeOf says the same of a lexeme, which is a token with its terminal
 pub record IsTokenOf (text : List ℕ) (token : Token) : Type 0 where
   pub begins : token.start ≤ token.end
   pub within : token.end ≤ length text
@@ -32,7 +32,7 @@ pub record IsLexemeOf (text : List ℕ) (lexeme : Lexeme) : Type 0 where
 abbrev pub folded : List ℕ → List ℕ
 folded bytes = map to_ascii_uppercase bytes
 
--- the words that a rule of the grammars reads
+-- the words that some rule of the two grammars asks for, each with its terminal
 abbrev pub read_words : List (List ℕ × Terminal)
 read_words =
     (codes "AND", terminal.And) ∷ (codes "AS", terminal.As) ∷ (codes "BETWEEN", terminal.Between)
@@ -46,11 +46,11 @@ read_words =
     ∷ (codes "SET", terminal.Set) ∷ (codes "SMALLINT", terminal.Smallint) ∷ (codes "TABLE", terminal.Table)
     ∷ (codes "UNIQUE", terminal.Unique) ∷ (codes "UPDATE", terminal.Update) ∷ (codes "VARCHAR", terminal.Varchar)
     ∷ (codes "VARYING", terminal.Varying) ∷ (codes "WHERE", terminal.Where)
-    -- these are names where no rule reads them
+    -- these four are names wherever no rule asks for them
     ∷ (codes "KEY", terminal.Key) ∷ (codes "NO", terminal.No) ∷ (codes "ACTION", terminal.Action)
     ∷ (codes "CASCADE", terminal.Cascade) ∷ []
 
--- some further reserved words of SQL-92: no rule reads them, and they are no names. The others, as USER and CURRENT_DATE, are plain names here
+-- further reserved words of SQL-92: no rule asks for them, and they can't be names. Its others, like USER and CURRENT_DATE, are plain names here
 abbrev pub reserved_words : List (List ℕ)
 reserved_words =
     codes "ALL" ∷ codes "ANY" ∷ codes "ASC" ∷ codes "BY" ∷ codes "CASE" ∷ codes "CAST" ∷ codes "CHECK" ∷ codes "CROSS"
@@ -69,7 +69,7 @@ keywords = read_words ++ map reserved reserved_words
 abbrev pub entry_of : Bor (List ℕ) × Terminal → List ℕ × Terminal
 entry_of entry = (entry.0.now, entry.1)
 
--- the terminal of a word in a list of words, where it is there, else that of a name
+-- the terminal that a list gives to a word; a word that isn't in the list is a name
 abbrev pub terminal_in : List (List ℕ × Terminal) → List ℕ → Terminal
 terminal_in [] word = terminal.Name
 terminal_in (entry ∷ rest) word = if bytes_eq entry.0 word then entry.1 else terminal_in rest word
@@ -107,7 +107,7 @@ is_zero_digit b = b == 48
 abbrev pub number_terminal : List ℕ → Terminal
 number_terminal bytes = if list_all is_zero_digit bytes then terminal.Zero else terminal.Number
 
--- what a token of these bytes is to a grammar; a delimited identifier is a name whatever it says
+-- the terminal of a token of these bytes; a delimited identifier is a name, even if its characters are those of a keyword
 unfoldable pub terminal_of : TokenKind → List ℕ → Terminal
 terminal_of kind.Word bytes = terminal_in keywords (folded bytes)
 terminal_of kind.Quoted bytes = terminal.Name
@@ -125,18 +125,18 @@ lexeme_of text token = record {
 
 -- ---- names, text literals and numbers
 
--- up to the quote that closes, each doubled quote single
+-- the characters after an opening quote, up to the closing one; a doubled quote stands for one quote
 abbrev pub single : ℕ → List ℕ → List ℕ
 single quote [] = []
 single quote (b ∷ []) = if b == quote then [] else b ∷ []
 single quote (b ∷ c ∷ rest) = if b == quote then (if c == quote then quote ∷ single quote rest else []) else b ∷ single quote (c ∷ rest)
 
--- a delimited identifier is kept as it is written, without its quotes; a word is folded
+-- the name in a delimited identifier is what stands between its quotes; a word is folded
 abbrev pub name_of_bytes : List ℕ → List ℕ
 name_of_bytes [] = []
 name_of_bytes (b ∷ rest) = if b == 34 then single 34 rest else folded (b ∷ rest)
 
--- the name that a token is (SQL-92 5.2: equal names are equal lists)
+-- the name that a token stands for; names are equal if their lists are (SQL-92 5.2)
 unfoldable pub name_of : List ℕ → Lexeme → List ℕ
 name_of text lexeme = name_of_bytes (slice text lexeme.start lexeme.end)
 
@@ -148,11 +148,11 @@ literal_of_bytes (b ∷ rest) = if b == 39 then single 39 rest else b ∷ rest
 unfoldable pub literal_of : List ℕ → Lexeme → List ℕ
 literal_of text lexeme = literal_of_bytes (slice text lexeme.start lexeme.end)
 
--- the value of digits behind a number
+-- the decimal value of these digits written after those of `value`
 abbrev pub digits_from : ℕ → List ℕ → ℕ
 digits_from value [] = value
 digits_from value (b ∷ rest) = digits_from (value * 10 + (b - 48)) rest
 
--- the value of digits, however many
+-- the decimal value of any number of digits
 unfoldable pub number_of : List ℕ → ℕ
 number_of bytes = digits_from 0 bytes

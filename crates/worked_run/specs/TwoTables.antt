@@ -1,4 +1,4 @@
--- Two tables that are joined by one column: the words of eleven commands, and the files.
+-- Two tables that are joined by one column: their files, and the words of eleven commands over them.
 use Rattle.std.specs.Prelude.{ℕ, List, [], ◌∷◌, ◌++◌, codes, replicate}
 use Rattle.std.specs.List.{concat}
 use Rattle.base_io.specs.Files.{Files}
@@ -16,17 +16,17 @@ r_text = codes "X\r\n1\r\n1\r\n1\r\n2\r\n2\r\n3\r\n"
 unfoldable pub s_text : List ℕ
 s_text = codes "X\r\n1\r\n1\r\n4\r\n5\r\n6\r\n"
 
--- two more rows of R
+-- two rows that `append` adds to R
 unfoldable pub new_text : List ℕ
 new_text = codes "X\r\n1\r\n4\r\n"
 
 -- ---- a statistics file of both tables, as `stats` writes it at the usual accuracy
 
--- lines that stand so often
+-- the same line, `count` times
 abbrev pub times : ℕ → List ℕ → List ℕ
 times count line = concat (replicate count line)
 
--- of R and of S: the cuts, and the nodes by their leaves, from 1 to 32 leaves each
+-- the sections of R and of S. At the end of each are 32 cuts, then the nodes of 1 leaf, of 2 leaves, and so on up to the one of 32
 unfoldable pub r_cuts : List ℕ
 r_cuts = times 16 (codes "cut 1\n") ++ times 11 (codes "cut 2\n") ++ times 5 (codes "cut 3\n")
 
@@ -50,7 +50,8 @@ s_stats = codes "table x53 5\npair x58 x58\nwhole 2*2 1*1\nfrequent 1 2*1\nfrequ
 unfoldable pub stats_text : List ℕ
 stats_text = codes "safebound-stats 1 1\n" ++ r_stats ++ s_stats ++ codes "end\n"
 
--- R with the two rows more: 1 is frequent, and 4 goes to the rest list and to the last leaf
+-- the section of R after the two rows are added. 1 is a frequent value, so its list grows. 4 isn't, so it counts in the rest list; it is above
+-- the last cut, so it counts in the last leaf
 unfoldable pub grown_r_stats : List ℕ
 grown_r_stats = codes "table x52 8\npair x58 x58\nwhole 4*2\nfrequent 1 4*1\nfrequent 2 2*1\nfrequent 3 1*1\nrest 1*1\n" ++ r_cuts
     ++ times 15 (codes "node -\n") ++ codes "node 4*1\n" ++ times 10 (codes "node -\n") ++ codes "node 2*1\n"
@@ -77,11 +78,11 @@ run_words = codes "run" ∷ codes "schema.sql" ∷ codes "query.sql" ∷ []
 abbrev pub audit_words : List (List ℕ)
 audit_words = codes "audit" ∷ codes "schema.sql" ∷ codes "query.sql" ∷ []
 
--- by a join tree
+-- the audit of a join tree
 abbrev pub tree_words : List (List ℕ)
 tree_words = codes "audit" ∷ codes "schema.sql" ∷ codes "query.sql" ∷ codes "--bushy" ∷ []
 
--- with a limit of memory that is enough, and with one that is a byte too small
+-- with a limit of memory that is just enough, and with one that is a byte too small
 abbrev pub limited_words : List (List ℕ)
 limited_words = codes "run" ∷ codes "schema.sql" ∷ codes "query.sql" ∷ codes "--memory" ∷ codes "556" ∷ []
 
@@ -92,14 +93,14 @@ narrow_words = codes "run" ∷ codes "schema.sql" ∷ codes "query.sql" ∷ code
 abbrev pub thrifty_words : List (List ℕ)
 thrifty_words = codes "run" ∷ codes "schema.sql" ∷ codes "query.sql" ∷ codes "--budget" ∷ codes "11" ∷ []
 
--- over the rows that are left by semi-joins
+-- over the rows that semi-joins leave, and then by counting over the same rows
 abbrev pub reduced_words : List (List ℕ)
 reduced_words = codes "run" ∷ codes "schema.sql" ∷ codes "query.sql" ∷ codes "--reduce" ∷ []
 
 abbrev pub counted_words : List (List ℕ)
 counted_words = codes "run" ∷ codes "schema.sql" ∷ codes "query.sql" ∷ codes "--count" ∷ []
 
--- the statistics file, a plan from it, and the file with two rows more
+-- these write the statistics file, plan from it, and add the two rows to it
 abbrev pub stats_words : List (List ℕ)
 stats_words = codes "stats" ∷ codes "schema.sql" ∷ codes "query.sql" ∷ []
 

@@ -1,4 +1,4 @@
-//! What the calls of `run` and `audit` answer. Each function is the law in its contract, and does nothing.
+//! What `run` and `audit` answer over two small tables. Each contract is a theorem about one call; the functions do nothing.
 ghost use Rattle.std.specs.Prelude.{◌≡◌, Ok, Err, None, Some, codes};
 ghost use Rattle.outcomes.specs.declared.refusal.Refusal.TheVariants as refusal;
 ghost use Rattle.outcomes.specs.declared.status.Status.TheVariants as status;
@@ -11,8 +11,8 @@ ghost use Rattle.worked_run.specs.Calls.{EachCallEnds};
 ghost use Rattle.worked_run.specs.TwoTables.{audit_words, counted_words, limited_words, narrow_words, reduced_words, run_words, small_files, thrifty_words, tree_words};
 ghost use Rattle.worked_run.specs.Meaning.{two_tables_reduced, two_tables_run, two_tables_tree};
 
-/// `run schema.sql query.sql`: of 30 pairs of rows six are joined. Both orders cost 12, the bound of both tables; S, R has the
-/// smaller sum.
+/// `run schema.sql query.sql`: six of the 30 pairs of rows are joined. Both orders cost 12, the bound of the join of both tables. The
+/// order S, R is chosen, since the sum of its bounds is smaller.
 pub fn joined()
     ensures verdict { verdict run_words small_files ≡ Ok (Planned (two_tables_run out_text.Rows None)) }
     ensures notes { plan_text (two_tables_run out_text.Rows None) ≡ codes "scan R 6\nscan S 5\nlevel 1 S 5\nlevel 2 R 12\n" }
@@ -21,7 +21,7 @@ pub fn joined()
         (Some (codes "X\r\n1\r\n1\r\n1\r\n1\r\n1\r\n1\r\n")) }
 {}
 
-/// `audit schema.sql query.sql`: the first level has as many rows as its bound, and the second half as many.
+/// `audit schema.sql query.sql`: level 1 has 5 rows, as many as its bound. Level 2 has 6 rows, half of its bound.
 pub fn audited()
     ensures verdict { verdict audit_words small_files ≡ Ok (Planned (two_tables_run out_text.Audit None)) }
     ensures out { out_text_of (two_tables_run out_text.Audit None) ≡ Some (codes "level 1 S 5 5\nlevel 2 R 12 6\n") }
@@ -29,20 +29,20 @@ pub fn audited()
         (Some (codes "level 1 S 5 5\nlevel 2 R 12 6\n")) }
 {}
 
-/// `audit schema.sql query.sql --bushy`: the one inner node joins R and S, and has half as many rows as its bound.
+/// `audit schema.sql query.sql --bushy`: the only inner node joins R and S. It has 6 rows, half of its bound.
 pub fn joined_by_a_tree()
     ensures verdict { verdict tree_words small_files ≡ Ok (Planned (two_tables_tree out_text.Audit None)) }
     ensures out { out_text_of (two_tables_tree out_text.Audit None) ≡ Some (codes "node 2 0 1 12 6\n") }
     ensures call { EachCallEnds small_files tree_words status.Done (Some (codes "scan R 6\nscan S 5\nnode 2 0 1 12\n")) (Some (codes "node 2 0 1 12 6\n")) }
 {}
 
-/// `run schema.sql query.sql --budget 11`: no order costs less than 12.
+/// `run schema.sql query.sql --budget 11`: the query is refused, since no order costs less than 12.
 pub fn refused()
     ensures verdict { verdict thrifty_words small_files ≡ Err (refusal.Budget 12) }
     ensures call { EachCallEnds small_files thrifty_words (status.Refused (refusal.Budget 12)) (Some (codes "error budget 12\n")) None }
 {}
 
-/// `run schema.sql query.sql --memory 556`: the plan takes just so many bytes, and its text tells them.
+/// `run schema.sql query.sql --memory 556`: the plan's buffers take exactly 556 bytes, and the last line of the plan's text says so.
 pub fn joined_within_a_limit()
     ensures verdict { verdict limited_words small_files ≡ Ok (Planned (two_tables_run out_text.Rows (Some 556))) }
     ensures notes { plan_text (two_tables_run out_text.Rows (Some 556)) ≡ codes "scan R 6\nscan S 5\nlevel 1 S 5\nlevel 2 R 12\nmemory 556\n" }
@@ -50,14 +50,14 @@ pub fn joined_within_a_limit()
         (Some (codes "X\r\n1\r\n1\r\n1\r\n1\r\n1\r\n1\r\n")) }
 {}
 
-/// `run schema.sql query.sql --memory 555`: the plan takes a byte more.
+/// `run schema.sql query.sql --memory 555`: the query is refused, since the plan's buffers take one byte more.
 pub fn above_its_limit()
     ensures verdict { verdict narrow_words small_files ≡ Err (refusal.MemoryLimit 556) }
     ensures call { EachCallEnds small_files narrow_words (status.Refused (refusal.MemoryLimit 556)) (Some (codes "error memory-limit 556\n")) None }
 {}
 
-/// `run schema.sql query.sql --reduce`: three rows of R and two of S have a partner. Both orders cost 6, and S, R has the smaller sum; both
-/// bounds are exact.
+/// `run schema.sql query.sql --reduce`: three rows of R and two of S have a partner. Both orders cost 6, and S, R has the smaller sum of bounds.
+/// Both levels have as many rows as their bounds.
 pub fn joined_over_reduced_scans()
     ensures verdict { verdict reduced_words small_files ≡ Ok (Planned (two_tables_reduced sources.Reduced)) }
     ensures notes { plan_text (two_tables_reduced sources.Reduced) ≡ codes "scan R 3\nscan S 2\nlevel 1 S 2\nlevel 2 R 6\n" }
@@ -66,7 +66,7 @@ pub fn joined_over_reduced_scans()
         (Some (codes "X\r\n1\r\n1\r\n1\r\n1\r\n1\r\n1\r\n")) }
 {}
 
-/// `run schema.sql query.sql --count`: two rows of S are left, and two times three choices of a row of both tables satisfy the condition.
+/// `run schema.sql query.sql --count`: two rows of S and three of R are left, and all six pairs of them satisfy the condition.
 pub fn joined_by_counts()
     ensures verdict { verdict counted_words small_files ≡ Ok (Planned (two_tables_reduced sources.Counted)) }
     ensures notes { plan_text (two_tables_reduced sources.Counted) ≡ codes "scan R 3\nscan S 2\nlevel 1 S 2\nlevel 2 R 6\n" }
