@@ -11,7 +11,7 @@ from safebound.sql_texts import LEAST_NUMBER, MOST_NUMBER, MOST_TABLE_BYTES, fol
 
 from .convert import SEPARATORS, encoding_of, packed
 from .decimals import of_decimals
-from .explain.tables import all_differ, closed_late, number_expected, quoted as marked
+from .explain.tables import header_differs, closed_late, number_expected, quoted as marked
 from .near import listed
 from .records import left_open, records
 from .spot import plain
@@ -326,7 +326,7 @@ def fill(sheet: Sheet, found: Iterator[tuple[int, list[str]]], wide: int, data: 
 
 def ragged_records(ragged: int, first: tuple[int, int, int], wide: int, data: bytes) -> str:
     number, line, has = first
-    whole = all_differ(data)
+    whole = header_differs(data)
     if whole:
         return f"{whole} A run will refuse the file until then."
     late = "" if left_open(data, number) is not None else closed_late(data, number)

@@ -10,8 +10,8 @@ from .query import Column, Table
 from .reading import Tokens
 from .tokens import Token, closing, place, tokens, written
 
-NO_COLUMN = ("CONSTRAINT", "PRIMARY", "UNIQUE", "FOREIGN", "CHECK")
-BEHIND_TYPE = (
+TABLE_CONSTRAINTS = ("CONSTRAINT", "PRIMARY", "UNIQUE", "FOREIGN", "CHECK")
+AFTER_TYPE = (
     "NOT", "NULL", "PRIMARY", "UNIQUE", "REFERENCES", "DEFAULT", "CHECK", "CONSTRAINT", "COMMENT", "COLLATE",
     "OPTIONS", "WITH", "GENERATED", "AS", "IDENTITY", "AUTOINCREMENT", "MASKING", "TAG",
 )
@@ -111,7 +111,7 @@ def _columns(text: str, pieces: Tokens, dialect: Keys) -> Table:
     for item in _items(pieces):
         if not item or item[0].says("LIKE"):
             raise _wrong(text, (item or pieces or [Token("mark", "(", 0, "")])[0], "a column has a name and a type")
-        if item[0].kind == "word" and item[0].says(*NO_COLUMN):
+        if item[0].kind == "word" and item[0].says(*TABLE_CONSTRAINTS):
             continue
         column = _column(text, item, dialect)
         if column.name in columns:
@@ -141,7 +141,7 @@ def _items(pieces: Tokens) -> Iterator[Tokens]:
 def _column(text: str, item: Tokens, dialect: Keys) -> Column:
     """A column. One with a collation of its own has no kind, since it isn't known how its values are grouped."""
     end = next(
-        (at for at, token in enumerate(item) if at and token.kind == "word" and token.says(*BEHIND_TYPE)), len(item)
+        (at for at, token in enumerate(item) if at and token.kind == "word" and token.says(*AFTER_TYPE)), len(item)
     )
     if not item[0].names or end < 2:
         raise _wrong(text, item[0], "a column has a name and a type")

@@ -37,7 +37,7 @@ def explain(fault: Fault, run: Run) -> list[str]:
     return says(table, fault, data, run)
 
 
-def all_differ(data: bytes) -> str:
+def header_differs(data: bytes) -> str:
     """A sentence if all rows, two or more, have one number of fields and the header another; else the empty text."""
     found = records(data)
     wide, widths, ends, rows = len(next(found, (0, []))[1]), set(), set(), 0
@@ -149,7 +149,7 @@ def width(table: Table, fault: Fault, data: bytes, run: Run) -> list[str]:
                 ' A " within a field in quotes is written twice.'
             ),
         ]
-    whole = all_differ(data)
+    whole = header_differs(data)
     if whole:
         return [first + shown, whole]
     late = closed_late(data, fault.record)

@@ -22,7 +22,7 @@ use Rattle.sql_meaning.proofs.ColumnFacts.{column_at}
 use Rattle.stats_file.specs.declared.types.Pair.{Pair}
 use Rattle.stats_file.specs.declared.types.StatsFile.{StatsFile}
 use Rattle.stats_file.specs.declared.types.TableStats.{TableStats}
-use Rattle.stats_file.specs.Rules.{Agree, CountTheSame, IsPair, IsSection, KeepsRules, StandsBefore}
+use Rattle.stats_file.specs.Rules.{Agree, HaveSameFilterCounts, IsPair, IsSection, KeepsRules, StandsBefore}
 use Rattle.stats_file_of_query.specs.Files.{no_table, table_at}
 use Rattle.stats_file_of_query.specs.Pairs.{pair_in_cells}
 use Rattle.stats_file_of_query.proofs.PairRules.{pairs_mapped}
@@ -87,7 +87,7 @@ module _ (texts : List (List ℕ)) (differ : HaveDifferentCharacters texts) (utf
             ((columns_are (cells_of_column cells a.filter) (cells_of_column cells a.joined) (as_high a.filter a.joined f_a j_a)).1
             ∙ ap (cells_of_column cells) same
             ∙ sym (columns_are (cells_of_column cells b.filter) (cells_of_column cells b.joined) (as_high b.filter b.joined f_b j_b)).1) (agreed.joined same);
-        filter = λ same. subst (λ f. CountTheSame (grown_by_cells texts cells accuracy a) (grown_pair (value_of_cell texts (kind_of_column cells f)) accuracy (rows_of_pair cells f b.joined) b)) same
+        filter = λ same. subst (λ f. HaveSameFilterCounts (grown_by_cells texts cells accuracy a) (grown_pair (value_of_cell texts (kind_of_column cells f)) accuracy (rows_of_pair cells f b.joined) b)) same
             (counts_grown (value_of_cell texts (kind_of_column cells a.filter)) accuracy (rows_of_pair cells a.filter a.joined) (rows_of_pair cells a.filter b.joined)
             ((columns_are (cells_of_column cells a.filter) (cells_of_column cells a.joined) (as_high a.filter a.joined f_a j_a)).0
             ∙ sym (columns_are (cells_of_column cells a.filter) (cells_of_column cells b.joined) (as_high a.filter b.joined f_a j_b)).0) a b (agreed.filter same));

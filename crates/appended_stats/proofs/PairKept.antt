@@ -21,7 +21,7 @@ use Rattle.schema_types.specs.declared.types.Table.{Table}
 use Rattle.stats_file.specs.declared.types.Datum.{Datum}
 use Rattle.stats_file.specs.declared.types.Datum.TheVariants as datum
 use Rattle.stats_file.specs.declared.types.Pair.{Pair}
-use Rattle.stats_file.specs.Rules.{Agree, AreFrequent, CountTheSame, IsList, IsOfKind, IsPair, IsHistogram, IsHistogramOf}
+use Rattle.stats_file.specs.Rules.{Agree, AreFrequent, HaveSameFilterCounts, IsList, IsOfKind, IsPair, IsHistogram, IsHistogramOf}
 use Rattle.stats_file_of_query.specs.Data.{value_of}
 use Rattle.stats_file_of_query.specs.Standing.{is_value, leaf_of_value}
 use Rattle.stats_file_of_query.proofs.Agreeing.{whole_same}
@@ -122,7 +122,7 @@ any_by_value : (value : Value) (frequent : List (Datum × List ℕ)) → is_freq
 any_by_value value [] = refl
 any_by_value value (f ∷ frequent) = rw (any_by_value value frequent) refl
 
-module _ (of_row : ℕ → Value) (k : ℕ) (rows others : List (ℕ × ℕ)) (same : filter_values rows ≡ filter_values others) (a b : Pair) (agreed : CountTheSame a b) where
+module _ (of_row : ℕ → Value) (k : ℕ) (rows others : List (ℕ × ℕ)) (same : filter_values rows ≡ filter_values others) (a b : Pair) (agreed : HaveSameFilterCounts a b) where
   -- how many new rows have a value, by the filter values alone
   abbrev count_of : List ℕ → Datum → ℕ
   count_of column value = count_by (λ n. is_value (of_row n) value) column
@@ -168,7 +168,7 @@ module _ (of_row : ℕ → Value) (k : ℕ) (rows others : List (ℕ × ℕ)) (s
       sums_of_sums pair.nodes (lists_of_nodes (leaf_by pair.cuts) k pairs)
       ∙ ap (λ (s : List ℕ). map (λ (both : ℕ × ℕ). both.0 + both.1) (zip (map sum pair.nodes) s)) (node_counts k pairs (leaf_by pair.cuts))
 
-  pub counts_grown : CountTheSame (grown_pair of_row k rows a) (grown_pair of_row k others b)
+  pub counts_grown : HaveSameFilterCounts (grown_pair of_row k rows a) (grown_pair of_row k others b)
   counts_grown = record {
     values = values_kept rows a.frequent ∙ agreed.values ∙ sym (values_kept others b.frequent);
     totals = totals_are rows a.frequent ∙ totals_from (count_of (filter_values rows)) a.frequent b.frequent agreed.values agreed.totals

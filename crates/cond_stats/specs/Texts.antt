@@ -21,8 +21,8 @@ pub record AreByText (texts : List (List ℕ)) (cells ordered : List ℕ) : Type
       → text_le texts (slice_index ordered i) (slice_index ordered j) ≡ true
 
 -- the rank of a cell that is one of them, and 0 of others
-abbrev pub rank_or_zero : List ℕ → ℕ → ℕ
-rank_or_zero ordered cell = unwrap_or (position (nat_eq cell) ordered) 0
+abbrev pub number_or_zero : List ℕ → ℕ → ℕ
+number_or_zero ordered cell = unwrap_or (position (nat_eq cell) ordered) 0
 
 -- a text is the one of a cell, and is UTF-8
 pub record IsTextOf (texts : List (List ℕ)) (cell : ℕ) (text : List ℕ) : Type 0 where

@@ -2,7 +2,7 @@
 //! number of its cell, and no text is compared for it.
 ghost use Rattle.std.specs.Prelude.{◌≡◌, map, All, IfOk};
 ghost use Rattle.degree_sequences.specs.Degrees.{different};
-ghost use Rattle.cond_stats.specs.Texts.{AreByText, IsTextOf, rank_or_zero};
+ghost use Rattle.cond_stats.specs.Texts.{AreByText, IsTextOf, number_or_zero};
 
 use crate::cut_leaves::text_at;
 use base_io::NoMemory;
@@ -18,8 +18,12 @@ pub(crate) struct Text<'a> {
 }
 
 /// The different cells of a column, in the order of their texts by code points. The index of a cell is its rank.
-pub(crate) fn ranks(alloc: Global, pool: &Pool, cells: &[u64]) -> Result<IndexSet<u64>, NoMemory>
-    ensures { IfOk result (λ ranks. AreByText pool.now (different cells.now) ranks.keys) }
+pub(crate) fn text_numbers(
+    alloc: Global,
+    pool: &Pool,
+    cells: &[u64],
+) -> Result<IndexSet<u64>, NoMemory>
+    ensures { IfOk result (λ text_numbers. AreByText pool.now (different cells.now) text_numbers.keys) }
 {
     let first_seen = different_cells(alloc, cells)?;
     let ordered = by_text(alloc, pool, first_seen.as_slice())?;
@@ -71,23 +75,23 @@ fn cells_of(alloc: Global, texts: &[Text<'_>]) -> Result<Vec<u64>, NoMemory>
 /// The rank of each cell, in the order of the cells. A cell without a rank gets 0.
 pub(crate) fn numbered_by_rank(
     alloc: Global,
-    ranks: &IndexSet<u64>,
+    text_numbers: &IndexSet<u64>,
     cells: &[u64],
 ) -> Result<Vec<u64>, NoMemory>
-    ensures { IfOk result (λ numbers. numbers.items ≡ map (rank_or_zero ranks.now.keys) cells.now) }
+    ensures { IfOk result (λ numbers. numbers.items ≡ map (number_or_zero text_numbers.now.keys) cells.now) }
 {
     let mut numbers = Vec::with_capacity(alloc, cells.len())?;
     for cell in cells {
-        numbers.push(rank_of(ranks, *cell))?;
+        numbers.push(rank_of(text_numbers, *cell))?;
     }
     Ok(numbers)
 }
 
 // The rank of a cell, or 0 where it has none.
-fn rank_of(ranks: &IndexSet<u64>, cell: u64) -> u64
-    ensures { result ≡ rank_or_zero ranks.now.keys cell }
+fn rank_of(text_numbers: &IndexSet<u64>, cell: u64) -> u64
+    ensures { result ≡ number_or_zero text_numbers.now.keys cell }
 {
-    match ranks.get_index_of(&cell) {
+    match text_numbers.get_index_of(&cell) {
         Some(rank) => rank as u64,
         None => 0,
     }

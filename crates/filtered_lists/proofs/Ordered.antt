@@ -11,7 +11,7 @@ use Rattle.query_grammar.specs.declared.tree.Op.{Op}
 use Rattle.query_grammar.specs.declared.tree.Op.TheVariants as op
 use Rattle.sql_meaning.specs.Conditions.{compares}
 use Rattle.filtered_lists.specs.Comparisons.{opposite, mirrored}
-use Rattle.filtered_lists.specs.Ranges.{greater_of, lower_of, greatest_value, least}
+use Rattle.filtered_lists.specs.Ranges.{greater_of, lesser_of, greatest_value, least}
 use Rattle.filtered_lists.specs.Standing.{is_from, is_up_to}
 
 -- ---- comparisons
@@ -80,7 +80,7 @@ pub from_greatest : (value : Value) (lows : List Value) → AllByRecursion (λ l
 from_greatest value [] h = refl
 from_greatest value (low ∷ lows) h = from_greater value low (greatest_value lows) h.0 (from_greatest value lows h.1)
 
-up_to_lower : (value high : Value) (other : Option Value) → is_up_to (Some high) value ≡ true → is_up_to other value ≡ true → is_up_to (Some (lower_of high other)) value ≡ true
+up_to_lower : (value high : Value) (other : Option Value) → is_up_to (Some high) value ≡ true → is_up_to other value ≡ true → is_up_to (Some (lesser_of high other)) value ≡ true
 up_to_lower value high None h k = h
 up_to_lower value high (Some other) h k = either_end (is_gt (value_cmp high other))
   where

@@ -22,7 +22,7 @@ use Rattle.sql_meaning.specs.Tables.{Tables}
 use Rattle.degree_sequences.specs.Degrees.{different}
 use Rattle.filtered_lists.specs.Comparisons.{comparison_of, opposite, mirrored}
 use Rattle.filtered_lists.specs.Filters.{ComparisonAnswers, Conjunction, of_range, of_answer, one_conjunction, and_more, or_more, all_of, and_answer, or_answer, of_comparison, of_comparison_or_whole, conjunction_step, conjunction_of}
-use Rattle.filtered_lists.specs.Ranges.{Range, from_value, up_to_value, ranges_of, one_range, range_for_each_column, greatest_value, least}
+use Rattle.filtered_lists.specs.Ranges.{Range, from_value, up_to_value, ranges_of, intersection_of, intersection_for_each_column, greatest_value, least}
 use Rattle.filtered_lists.specs.Standing.{value_in_row, is_from, is_up_to, has_value, is_in_range}
 use Rattle.filtered_lists.proofs.Ordered.{opposite_compares, turned_compares, from_greatest, up_to_least}
 
@@ -122,7 +122,7 @@ module _ (tables : Tables) (entry row : ℕ) where
     highs column ranges h.1,
   )
 
-  in_one_range : (ranges : List Range) (column : ℕ) → AllByRecursion IsIn ranges → IsIn (one_range ranges column)
+  in_one_range : (ranges : List Range) (column : ℕ) → AllByRecursion IsIn ranges → IsIn (intersection_of ranges column)
   in_one_range ranges column h =
       let low : Option Value = greatest_value (filter_map (λ range. range.low) (ranges_of column ranges)) in
       let high : Option Value = least (filter_map (λ range. range.high) (ranges_of column ranges)) in
@@ -146,10 +146,10 @@ module _ (tables : Tables) (entry row : ℕ) where
   still_passes t (u ∷ ts) h = still_passes (λ row. t row || u row) ts (or_left (t row) (u row) h)
 
   pub and_passes : (c : Conjunction (ℕ → Bool)) → Passes c → and_answer tests c row ≡ true
-  and_passes c h = all_pass (c.others ++ map tests.range (range_for_each_column c.ranges))
-      (joined_parts Holds c.others (map tests.range (range_for_each_column c.ranges)) h.others (each (different (map (λ range. range.column) c.ranges))))
+  and_passes c h = all_pass (c.others ++ map tests.range (intersection_for_each_column c.ranges))
+      (joined_parts Holds c.others (map tests.range (intersection_for_each_column c.ranges)) h.others (each (different (map (λ range. range.column) c.ranges))))
     where
-      each : (columns : List ℕ) → AllByRecursion Holds (map tests.range (map (one_range c.ranges) columns))
+      each : (columns : List ℕ) → AllByRecursion Holds (map tests.range (map (intersection_of c.ranges) columns))
       each [] = tt
       each (column ∷ columns) = (in_one_range c.ranges column h.ranges, each columns)
 

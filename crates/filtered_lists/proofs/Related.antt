@@ -10,7 +10,7 @@ use Rattle.query_types.specs.declared.types.Cond.TheOpen.{Cond-F}
 use Rattle.query_types.specs.declared.types.Cond.TheOpen as layer
 use Rattle.filtered_lists.specs.Comparisons.{Comparison, comparison_of, opposite}
 use Rattle.filtered_lists.specs.Filters.{ComparisonAnswers, Conjunction, of_answer, one_conjunction, and_more, all_of, or_more, and_answer, or_answer, of_comparison, of_comparison_or_whole, conjunction_step, conjunction_of, own_conjuncts, filtered}
-use Rattle.filtered_lists.specs.Ranges.{Range, from_value, up_to_value, range_for_each_column}
+use Rattle.filtered_lists.specs.Ranges.{Range, from_value, up_to_value, intersection_for_each_column}
 
 -- answers to each comparison are related, and stay so when they are put together
 pub record AreRelated (A B : Type 0) (R : A → B → Type 0) (a : ComparisonAnswers A) (b : ComparisonAnswers B) : Type 0 where
@@ -56,9 +56,9 @@ module _ (A B : Type 0) (R : A → B → Type 0) (a : ComparisonAnswers A) (b : 
   any_related x y (x' ∷ xs) (y' ∷ ys) r h = any_related (a.either x x') (b.either y y') xs ys (related.either x x' y y' r h.0) h.1
 
   pub and_related : (x : Conjunction A) (y : Conjunction B) → Alike x y → R (and_answer a x) (and_answer b y)
-  and_related x y h = all_related (x.others ++ map a.range (range_for_each_column x.ranges)) (y.others ++ map b.range (range_for_each_column y.ranges))
-      (zipped_append x.others (map a.range (range_for_each_column x.ranges)) y.others (map b.range (range_for_each_column y.ranges)) h.others
-      (subst (λ ranges. AllZip R (map a.range (range_for_each_column x.ranges)) (map b.range (range_for_each_column ranges))) h.ranges (zipped_ranges (range_for_each_column x.ranges))))
+  and_related x y h = all_related (x.others ++ map a.range (intersection_for_each_column x.ranges)) (y.others ++ map b.range (intersection_for_each_column y.ranges))
+      (zipped_append x.others (map a.range (intersection_for_each_column x.ranges)) y.others (map b.range (intersection_for_each_column y.ranges)) h.others
+      (subst (λ ranges. AllZip R (map a.range (intersection_for_each_column x.ranges)) (map b.range (intersection_for_each_column ranges))) h.ranges (zipped_ranges (intersection_for_each_column x.ranges))))
 
   or_related : (xs : List (Conjunction A)) (ys : List (Conjunction B)) → AllZip Alike xs ys → R (or_answer a xs) (or_answer b ys)
   or_related xs ys h = any_related a.none b.none (map (and_answer a) xs) (map (and_answer b) ys) related.none (each xs ys h)

@@ -10,7 +10,7 @@ use Rattle.query_types.specs.declared.types.Cond.TheOpen.{Cond-F}
 use Rattle.query_types.specs.declared.types.Cond.TheOpen as layer
 use Rattle.join_graph.specs.Conjuncts.{names_just}
 use Rattle.filtered_lists.specs.Comparisons.{Comparison, comparison_of, opposite}
-use Rattle.filtered_lists.specs.Ranges.{Range, from_value, up_to_value, range_for_each_column}
+use Rattle.filtered_lists.specs.Ranges.{Range, from_value, up_to_value, intersection_for_each_column}
 
 -- an answer for all rows of an entry, for the rows that have a value in a column, and for those in a range of a column;
 -- and how answers are put together
@@ -57,7 +57,7 @@ any_of answers xs = or_more answers answers.none xs
 
 -- AND: all of the answers of its members, in which the ranges of one column are one
 abbrev pub and_answer : {A : Type 0} → ComparisonAnswers A → Conjunction A → A
-and_answer answers members = all_of answers (members.others ++ map answers.range (range_for_each_column members.ranges))
+and_answer answers members = all_of answers (members.others ++ map answers.range (intersection_for_each_column members.ranges))
 
 -- OR: any of the answers of its members
 abbrev pub or_answer : {A : Type 0} → ComparisonAnswers A → List (Conjunction A) → A

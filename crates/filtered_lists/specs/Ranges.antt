@@ -23,9 +23,9 @@ abbrev pub greater_of : Value → Option Value → Value
 greater_of value None = value
 greater_of value (Some other) = if is_lt (value_cmp value other) then other else value
 
-abbrev pub lower_of : Value → Option Value → Value
-lower_of value None = value
-lower_of value (Some other) = if is_gt (value_cmp value other) then other else value
+abbrev pub lesser_of : Value → Option Value → Value
+lesser_of value None = value
+lesser_of value (Some other) = if is_gt (value_cmp value other) then other else value
 
 -- the greatest of values, if there is one
 abbrev pub greatest_value : List Value → Option Value
@@ -35,20 +35,20 @@ greatest_value (value ∷ values) = Some (greater_of value (greatest_value value
 -- the least of values, if there is one
 abbrev pub least : List Value → Option Value
 least [] = None
-least (value ∷ values) = Some (lower_of value (least values))
+least (value ∷ values) = Some (lesser_of value (least values))
 
 -- those of the ranges that are of this column
 abbrev pub ranges_of : ℕ → List Range → List Range
 ranges_of column ranges = filter (λ range. range.column == column) ranges
 
 -- the intersection of a column's ranges: from the greatest of their low ends to the least of their high ends
-abbrev pub one_range : List Range → ℕ → Range
-one_range ranges column = record {
+abbrev pub intersection_of : List Range → ℕ → Range
+intersection_of ranges column = record {
   column = column;
   low = greatest_value (filter_map (λ range. range.low) (ranges_of column ranges));
   high = least (filter_map (λ range. range.high) (ranges_of column ranges));
 }
 
 -- for each column that has ranges among these, their intersection
-abbrev pub range_for_each_column : List Range → List Range
-range_for_each_column ranges = map (one_range ranges) (different (map (λ range. range.column) ranges))
+abbrev pub intersection_for_each_column : List Range → List Range
+intersection_for_each_column ranges = map (intersection_of ranges) (different (map (λ range. range.column) ranges))

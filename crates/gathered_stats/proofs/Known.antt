@@ -27,7 +27,7 @@ use Rattle.sql_meaning.specs.Databases.{IsAskable, IsColumnOf, IsColumnOfKind}
 use Rattle.sql_meaning.specs.Tables.{cells_of}
 use Rattle.filtered_lists.specs.Comparisons.{comparison_of, opposite}
 use Rattle.filtered_lists.specs.Filters.{Conjunction, all_of, and_answer, and_more, conjunction_of, conjunction_step, one_conjunction, of_answer, of_comparison, of_comparison_or_whole, or_answer, or_more, own_conjuncts}
-use Rattle.filtered_lists.specs.Ranges.{Range, from_value, one_range, range_for_each_column, up_to_value}
+use Rattle.filtered_lists.specs.Ranges.{Range, from_value, intersection_of, intersection_for_each_column, up_to_value}
 use Rattle.predicate_bounds.specs.declared.steps.Step.{Step}
 use Rattle.predicate_bounds.specs.declared.steps.Step.TheVariants as step
 use Rattle.predicate_bounds.specs.Steps.{step_answers, steps_of}
@@ -76,14 +76,14 @@ module _ (cells : Cells) where
   different_exist (column ∷ columns) h = (h.0, All-filter Exists (λ other. not (eqb other column)) (different columns) (different_exist columns h.1))
 
   ranges_within : (ranges : List Range) (columns : List ℕ) → AllByRecursion Exists columns
-      → AllByRecursion AskWithin (map step_answers.range (map (one_range ranges) columns))
+      → AllByRecursion AskWithin (map step_answers.range (map (intersection_of ranges) columns))
   ranges_within ranges [] h = tt
   ranges_within ranges (column ∷ columns) h = ((h.0, tt), ranges_within ranges columns h.1)
 
   and_within : (c : Conjunction (List Step)) → IsWithin c → AskWithin (and_answer step_answers c)
   and_within c h =
-      all_within (c.others ++ map step_answers.range (range_for_each_column c.ranges))
-      (joined_parts AskWithin c.others (map step_answers.range (range_for_each_column c.ranges)) h.others
+      all_within (c.others ++ map step_answers.range (intersection_for_each_column c.ranges))
+      (joined_parts AskWithin c.others (map step_answers.range (intersection_for_each_column c.ranges)) h.others
       (ranges_within c.ranges (different (map (λ range. range.column) c.ranges)) (different_exist (map (λ range. range.column) c.ranges) (columns_exist c.ranges h.ranges))))
 
   each_within : (cs : List (Conjunction (List Step))) → AllByRecursion IsWithin cs → AllByRecursion AskWithin (map (and_answer step_answers) cs)

@@ -4,7 +4,7 @@ ghost use Rattle.std.specs.List.{AllByRecursion, IsDistinct};
 ghost use Rattle.base_io.specs.Devices.{growth};
 ghost use Rattle.base_io.specs.Writes.{Put, Wrote};
 ghost use Rattle.plans.specs.LeftDeep.{IsPlan};
-ghost use Rattle.printed_texts.specs.Plans.{audit_line, audit_lines, level_audits, row_count};
+ghost use Rattle.printed_texts.specs.Plans.{audit_line, audit_lines, level_audits, rows_and_line_end};
 ghost use Rattle.joined_texts.specs.Printed.{level_counts};
 
 use base_io::{Buffer, Failed, Sink};
@@ -23,7 +23,7 @@ pub(crate) fn put_row_count<N: Sink>(
     buffer: &mut Buffer,
     sink: &mut N,
 ) -> Result<(), Failed>
-    ensures { Put (growth N.taken N.faults sink.old sink.new) buffer.old buffer.new (row_count rows) result }
+    ensures { Put (growth N.taken N.faults sink.old sink.new) buffer.old buffer.new (rows_and_line_end rows) result }
 {
     let mut digits = itoa::Buffer::new();
     let rows = digits.format(rows).as_bytes();

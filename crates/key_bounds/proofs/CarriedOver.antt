@@ -30,7 +30,7 @@ use Rattle.predicate_bounds.specs.declared.columns.EntryStats.{EntryStats}
 use Rattle.predicate_bounds.specs.declared.columns.QueryStats.{QueryStats}
 use Rattle.predicate_bounds.specs.declared.running.ListStep.{ListStep}
 use Rattle.predicate_bounds.specs.ListRuns.{after_list_steps, top_of}
-use Rattle.predicate_bounds.specs.Told.{asked_lists, columns_of, first_steps, list_left, list_told, rows_told}
+use Rattle.predicate_bounds.specs.Told.{asked_lists, columns_of, first_steps, list_left, list_in_stats, row_bound_in_stats}
 use Rattle.predicate_bounds.proofs.Answering.{lists_answer}
 use Rattle.gathered_stats.specs.Asked.{joined_columns}
 use Rattle.gathered_stats.specs.Beside.{IsGatheredBeside}
@@ -146,7 +146,7 @@ module _ (query : Query) (db : Database) (of : IsDatabaseOf query db) (e : Edge)
     left_of steps column are =
         ap (λ (s : List ListStep). top_of (after_list_steps s [])) are ∙ ap top_of (lists_answer (lists_at column) e.right.entry query.conjuncts)
 
-    list_is : (column : ℕ) → Contains numbers column → list_told stats 0 column ≡ list_at column
+    list_is : (column : ℕ) → Contains numbers column → list_in_stats stats 0 column ≡ list_at column
     list_is column has =
         let one = found_one IsCarried gathered.columns column has all_carried in
         ap (λ (o : Option ColumnSteps). list_left (option_map (λ (g : ColumnSteps). g.steps) o)) one.1
@@ -162,7 +162,7 @@ module _ (query : Query) (db : Database) (of : IsDatabaseOf query db) (e : Edge)
         below _ (row_counts (tables_at (tables_of db) (referred (tables_of db) e)) e.right.entry) in
         omega (arith, least, length-map (referred (tables_of db) e) row_of, as_many (tables_of db) e, few_referring (tables_of db) e, few_rows)
 
-    rows_is : rows_told stats 0 ≡ carried_rows query (tables_of db) e
+    rows_is : row_bound_in_stats stats 0 ≡ carried_rows query (tables_of db) e
     rows_is =
         let first = first_one IsCarried gathered.columns some all_carried in
         let list : list_left (first_steps stats 0) ≡ list_at first.0.column =
@@ -181,8 +181,8 @@ module _ (query : Query) (db : Database) (of : IsDatabaseOf query db) (e : Edge)
           ∙ carried_sum query (tables_of db) e accuracy g.column ∙ sym rows_is;
     }
 
-    pub told : (made : EntryLists) → rows_of made e.left.entry ≡ Some (rows_told stats 0)
-        → All (λ g. list_of made e.left.entry g.column ≡ Some (list_told stats 0 g.column)) gathered.columns
+    pub told : (made : EntryLists) → rows_of made e.left.entry ≡ Some (row_bound_in_stats stats 0)
+        → All (λ g. list_of made e.left.entry g.column ≡ Some (list_in_stats stats 0 g.column)) gathered.columns
         → TellsCarried query (tables_of db) accuracy (record { edge = e; lists = made })
     told made rows lists = record {
       rows = rows ∙ ap Some rows_is;
@@ -191,8 +191,8 @@ module _ (query : Query) (db : Database) (of : IsDatabaseOf query db) (e : Edge)
           (subst (λ (n : ℕ). Contains (joined_columns n (equalities_of query)) p.column) same (place_joined (equalities_of query) p has)) in
           let at = from_map (λ (g : ColumnSteps). g.column) gathered.columns p.column there in
           ap (λ (n : ℕ). list_of made n p.column) same ∙ ap (list_of made e.left.entry) at.2
-          ∙ All-contains (λ (g : ColumnSteps). list_of made e.left.entry g.column ≡ Some (list_told stats 0 g.column)) gathered.columns at.0 lists at.1
-          ∙ ap (λ (c : ℕ). Some (list_told stats 0 c)) (sym at.2) ∙ ap Some (list_is p.column there));
+          ∙ All-contains (λ (g : ColumnSteps). list_of made e.left.entry g.column ≡ Some (list_in_stats stats 0 g.column)) gathered.columns at.0 lists at.1
+          ∙ ap (λ (c : ℕ). Some (list_in_stats stats 0 c)) (sym at.2) ∙ ap Some (list_is p.column there));
     }
 
     module _ (entries : List EntryStats) (only : entries ≡ gathered ∷ []) where
@@ -202,12 +202,12 @@ module _ (query : Query) (db : Database) (of : IsDatabaseOf query db) (e : Edge)
       pub entries_add_up : AddUp (of_entries entries)
       entries_add_up = subst (λ (s : List EntryStats). AddUp (of_entries s)) (sym only) add_up
 
-      pub entries_told : (made : EntryLists) → rows_of made e.left.entry ≡ Some (rows_told (of_entries entries) 0)
-          → All (λ g. list_of made e.left.entry g.column ≡ Some (list_told (of_entries entries) 0 g.column)) (columns_of (of_entries entries) 0)
+      pub entries_told : (made : EntryLists) → rows_of made e.left.entry ≡ Some (row_bound_in_stats (of_entries entries) 0)
+          → All (λ g. list_of made e.left.entry g.column ≡ Some (list_in_stats (of_entries entries) 0 g.column)) (columns_of (of_entries entries) 0)
           → TellsCarried query (tables_of db) accuracy (record { edge = e; lists = made })
       entries_told made rows lists =
-          told made (rows ∙ ap (λ (s : List EntryStats). Some (rows_told (of_entries s) 0)) only)
-          (subst (λ (s : List EntryStats). All (λ g. list_of made e.left.entry g.column ≡ Some (list_told (of_entries s) 0 g.column)) (columns_of (of_entries s) 0)) only lists)
+          told made (rows ∙ ap (λ (s : List EntryStats). Some (row_bound_in_stats (of_entries s) 0)) only)
+          (subst (λ (s : List EntryStats). All (λ g. list_of made e.left.entry g.column ≡ Some (list_in_stats (of_entries s) 0 g.column)) (columns_of (of_entries s) 0)) only lists)
 
 -- rows that were found are those of the widened table
 pub as_widened : (query : Query) (db : Database) (accuracy : ℕ) (e : Edge) (others rows : List ℕ) (gathered : EntryStats) → others ≡ referred (tables_of db) e → rows ≡ referring (tables_of db) e

@@ -14,7 +14,7 @@ use Rattle.bound_fold.specs.Lists.{list_of, rows_of}
 use Rattle.predicate_bounds.specs.declared.columns.ColumnSteps.{ColumnSteps}
 use Rattle.predicate_bounds.specs.declared.columns.EntryStats.{EntryStats}
 use Rattle.predicate_bounds.specs.declared.columns.QueryStats.{QueryStats}
-use Rattle.predicate_bounds.specs.Told.{column_steps, columns_of, first_steps, list_told, no_columns, rows_told}
+use Rattle.predicate_bounds.specs.Told.{column_steps, columns_of, first_steps, list_in_stats, no_columns, row_bound_in_stats}
 use Rattle.gathered_stats.proofs.Telling.{first_one, found_one}
 use Rattle.key_bounds.specs.Carrying.{AddUp}
 use Rattle.key_bounds.proofs.Made.{is_some}
@@ -28,8 +28,8 @@ number_of stats k = get_or (map (λ g. g.column) (columns_of stats 0)) k 0
 
 -- the lists of the first so many columns are there, and no other one
 pub record AreAdded (stats : QueryStats) (entry i : ℕ) (made : EntryLists) : Type 0 where
-  pub rows : rows_of made entry ≡ Some (rows_told stats 0)
-  pub there : (k : ℕ) → k < i → list_of made entry (number_of stats k) ≡ Some (list_told stats 0 (number_of stats k))
+  pub rows : rows_of made entry ≡ Some (row_bound_in_stats stats 0)
+  pub there : (k : ℕ) → k < i → list_of made entry (number_of stats k) ≡ Some (list_in_stats stats 0 (number_of stats k))
   pub later : (k : ℕ) → i ≤ k → k < length (columns_of stats 0) → list_of made entry (number_of stats k) ≡ None
 
 module _ (stats : QueryStats) (adds : AddUp stats) where
@@ -56,7 +56,7 @@ module _ (stats : QueryStats) (adds : AddUp stats) where
       is_some (column_steps stats 0 (get_or columns i d).column) one.0.steps (ap (option_map (λ (g : ColumnSteps). g.steps)) one.1)
 
   module _ (entry : ℕ) where
-    pub none_added : (made : EntryLists) → rows_of made entry ≡ Some (rows_told stats 0) → ((column : ℕ) → list_of made entry column ≡ None) → AreAdded stats entry 0 made
+    pub none_added : (made : EntryLists) → rows_of made entry ≡ Some (row_bound_in_stats stats 0) → ((column : ℕ) → list_of made entry column ≡ None) → AreAdded stats entry 0 made
     none_added made rows none = record {
       rows = rows;
       there = λ k low. absurd (omega (arith, low));
@@ -70,16 +70,16 @@ module _ (stats : QueryStats) (adds : AddUp stats) where
     pub not_there : (i : ℕ) (one : ColumnSteps) (made : EntryLists) → i < length columns → one ≡ get_or columns i one → AreAdded stats entry i made → list_of made entry one.column ≡ None
     not_there i one made low at before = ap (list_of made entry) (number_is i one low at) ∙ before.later i (omega arith) low
 
-    pub as_many_rows : (i : ℕ) (one : ColumnSteps) (list : List ℕ) (made : EntryLists) → i < length columns → one ≡ get_or columns i one → AreAdded stats entry i made → list ≡ list_told stats 0 one.column
+    pub as_many_rows : (i : ℕ) (one : ColumnSteps) (list : List ℕ) (made : EntryLists) → i < length columns → one ≡ get_or columns i one → AreAdded stats entry i made → list ≡ list_in_stats stats 0 one.column
         → rows_of made entry ≡ Some (sum list)
     as_many_rows i one list made low at before is =
-        before.rows ∙ ap Some (sym (ap sum (is ∙ ap (λ (g : ColumnSteps). list_told stats 0 g.column) at) ∙ adds.sums i one low))
+        before.rows ∙ ap Some (sym (ap sum (is ∙ ap (λ (g : ColumnSteps). list_in_stats stats 0 g.column) at) ∙ adds.sums i one low))
 
     apart : (i k : ℕ) → i < k → k < length columns → number_at i ≢ number_at k
     apart i k less low =
         AllPairs-from_IsDistinct Decides-eqb (map (λ (g : ColumnSteps). g.column) columns) adds.apart i k 0 less (omega (arith, low, length-map columns (λ (g : ColumnSteps). g.column)))
 
-    pub one_added : (i : ℕ) (one : ColumnSteps) (list : List ℕ) (old new : EntryLists) → i < length columns → one ≡ get_or columns i one → AreAdded stats entry i old → list ≡ list_told stats 0 one.column
+    pub one_added : (i : ℕ) (one : ColumnSteps) (list : List ℕ) (old new : EntryLists) → i < length columns → one ≡ get_or columns i one → AreAdded stats entry i old → list ≡ list_in_stats stats 0 one.column
         → list_of new entry one.column ≡ Some list → ((e c : ℕ) → ((e ≢ entry) ⊎ (c ≢ one.column)) → list_of new e c ≡ list_of old e c)
         → ((other : ℕ) → rows_of new other ≡ rows_of old other) → AreAdded stats entry (i + 1) new
     one_added i one list old new low at before is set others rows =
@@ -87,14 +87,14 @@ module _ (stats : QueryStats) (adds : AddUp stats) where
         record {
           rows = rows entry ∙ before.rows;
           there = λ k less. elim (cases_eq k i) [
-            | inl same ↦ subst (λ (n : ℕ). list_of new entry (number_at n) ≡ Some (list_told stats 0 (number_at n))) (sym same)
-                (subst (λ (c : ℕ). list_of new entry c ≡ Some (list_told stats 0 c)) number (set ∙ ap Some is))
+            | inl same ↦ subst (λ (n : ℕ). list_of new entry (number_at n) ≡ Some (list_in_stats stats 0 (number_at n))) (sym same)
+                (subst (λ (c : ℕ). list_of new entry c ≡ Some (list_in_stats stats 0 c)) number (set ∙ ap Some is))
             | inr differs ↦ (let earlier : k < i = omega (arith, less, differs) in
                 others entry (number_at k) (inr (λ like. apart k i earlier low (like ∙ number))) ∙ before.there k earlier)
           ];
           later = λ k past within. others entry (number_at k) (inr (λ like. apart i k (omega (arith, past)) within (sym (like ∙ number)))) ∙ before.later k (omega (arith, past)) within;
         }
 
-    pub all_added : (i : ℕ) (made : EntryLists) → length columns ≤ i → AreAdded stats entry i made → All (λ g. list_of made entry g.column ≡ Some (list_told stats 0 g.column)) columns
+    pub all_added : (i : ℕ) (made : EntryLists) → length columns ≤ i → AreAdded stats entry i made → All (λ g. list_of made entry g.column ≡ Some (list_in_stats stats 0 g.column)) columns
     all_added i made past added k d low =
-        subst (λ (c : ℕ). list_of made entry c ≡ Some (list_told stats 0 c)) (get_or-map (λ (g : ColumnSteps). g.column) columns k d 0 low) (added.there k (omega (arith, low, past)))
+        subst (λ (c : ℕ). list_of made entry c ≡ Some (list_in_stats stats 0 c)) (get_or-map (λ (g : ColumnSteps). g.column) columns k d 0 low) (added.there k (omega (arith, low, past)))

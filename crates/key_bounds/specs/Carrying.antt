@@ -5,7 +5,7 @@ use Rattle.berge_tree.specs.declared.edges.Edge.{Edge}
 use Rattle.query_types.specs.declared.types.Query.{Query}
 use Rattle.join_graph.specs.Conjuncts.{equalities_of}
 use Rattle.predicate_bounds.specs.declared.columns.QueryStats.{QueryStats}
-use Rattle.predicate_bounds.specs.Told.{columns_of, list_told, rows_told}
+use Rattle.predicate_bounds.specs.Told.{columns_of, list_in_stats, row_bound_in_stats}
 use Rattle.key_carriers.specs.Carriers.{both_ways}
 
 -- the equality is one of the query's, or one of these with its sides exchanged
@@ -17,4 +17,4 @@ pub record AddUp (stats : QueryStats) : Type 0 where
   pub there : 0 < length stats.entries
   pub some : 0 < length (columns_of stats 0)
   pub apart : IsDistinct ◌==◌ (map (λ joined. joined.column) (columns_of stats 0))
-  pub sums : All (λ joined. sum (list_told stats 0 joined.column) ≡ rows_told stats 0) (columns_of stats 0)
+  pub sums : All (λ joined. sum (list_in_stats stats 0 joined.column) ≡ row_bound_in_stats stats 0) (columns_of stats 0)

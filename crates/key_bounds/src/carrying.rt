@@ -2,7 +2,7 @@
 ghost use Rattle.std.specs.Prelude.{◌≡◌, All, IfOk, Some, length};
 ghost use Rattle.bound_fold.specs.Lists.{list_of, rows_of};
 ghost use Rattle.join_graph.specs.Conjuncts.{equalities_of, local_of};
-ghost use Rattle.predicate_bounds.specs.Told.{columns_of, list_told, rows_told};
+ghost use Rattle.predicate_bounds.specs.Told.{columns_of, list_in_stats, row_bound_in_stats};
 ghost use Rattle.sql_meaning.specs.Databases.{IsDatabaseOf};
 ghost use Rattle.sql_meaning.specs.Tables.{tables_of};
 ghost use Rattle.gathered_stats.specs.Asked.{AreGathered};
@@ -25,8 +25,8 @@ use std::alloc::Global;
 // The row bound of an entry and its lists, as statistics tell them of their first entry.
 fn first_lists(alloc: Global, stats: &QueryStats, entry: u8) -> Result<EntryLists, NoMemory>
     requires { AddUp stats.now }
-    ensures rows { IfOk result (λ made. rows_of made entry ≡ Some (rows_told stats.now 0)) }
-    ensures lists { IfOk result (λ made. All (λ joined. list_of made entry joined.column ≡ Some (list_told stats.now 0 joined.column)) (columns_of stats.now 0)) }
+    ensures rows { IfOk result (λ made. rows_of made entry ≡ Some (row_bound_in_stats stats.now 0)) }
+    ensures lists { IfOk result (λ made. All (λ joined. list_of made entry joined.column ≡ Some (list_in_stats stats.now 0 joined.column)) (columns_of stats.now 0)) }
 {
     let mut made = EntryLists::new(alloc);
     let rows = stats.row_bound(alloc, 0)?;

@@ -5,12 +5,12 @@ use Rattle.std.proofs.Math.Bool.{or-true, or-false}
 use Rattle.query_types.specs.declared.types.Cond.{Cond}
 use Rattle.filtered_lists.specs.Filters.{Conjunction, and_answer, and_more, all_of, or_more, or_answer, one_conjunction, of_answer}
 use Rattle.filtered_lists.specs.Ranges as ranges
-use Rattle.filtered_lists.specs.Ranges.{range_for_each_column}
+use Rattle.filtered_lists.specs.Ranges.{intersection_for_each_column}
 use Rattle.predicate_bounds.specs.declared.steps.Range.{Range}
 use Rattle.predicate_bounds.specs.declared.steps.Step.{Step}
 use Rattle.predicate_bounds.specs.declared.steps.Step.TheVariants as step
 use Rattle.predicate_bounds.specs.declared.reading.Members.{Members}
-use Rattle.predicate_bounds.specs.Added.{AreAdded, closing, ending, is_some_of, last_steps, more_steps}
+use Rattle.predicate_bounds.specs.Added.{IsConjunctionAdded, closing, ending, is_some_of, last_steps, more_steps}
 use Rattle.predicate_bounds.specs.Steps.{range_in, range_of, step_answers}
 use Rattle.predicate_bounds.proofs.Literals.{ranges_again}
 
@@ -60,7 +60,7 @@ abbrev pub two : Conjunction (List Step) → Conjunction (List Step) → Conjunc
 two x y = record { ranges = x.ranges ++ y.ranges; others = x.others ++ y.others }
 
 pub both_added : (before between after : Members) (old mid new : List Step) (x y : Conjunction (List Step))
-    → AreAdded before old between mid x → AreAdded between mid after new y → AreAdded before old after new (two x y)
+    → IsConjunctionAdded before old between mid x → IsConjunctionAdded between mid after new y → IsConjunctionAdded before old after new (two x y)
 both_added before between after old mid new x y h k = record {
   steps = k.steps ∙ ap (λ (s : List Step). s ++ more_steps between.some y.others) h.steps ∙ append_assoc old (more_steps before.some x.others) (more_steps between.some y.others)
       ∙ ap (λ (b : Bool). old ++ (more_steps before.some x.others ++ more_steps b y.others)) h.some ∙ ap (λ (s : List Step). old ++ s) (sym (more_steps-append before.some x.others y.others));
@@ -87,16 +87,16 @@ joined_more (d ∷ cs) c =
 -- one condition more
 pub each_more : (f : Cond → Conjunction (List Step)) (conds : List Cond) (i : ℕ) (cond : Cond) (before between after : Members) (old mid new : List Step)
     → i < length conds → cond ≡ get_or conds i cond
-    → AreAdded before old between mid (one_conjunction (map f (take i conds))) → AreAdded between mid after new (f cond) → AreAdded before old after new (one_conjunction (map f (take (i + 1) conds)))
+    → IsConjunctionAdded before old between mid (one_conjunction (map f (take i conds))) → IsConjunctionAdded between mid after new (f cond) → IsConjunctionAdded before old after new (one_conjunction (map f (take (i + 1) conds)))
 each_more f conds i cond before between after old mid new low is h k =
     let front : take (i + 1) conds ≡ take i conds ++ cond ∷ [] = take_more conds i cond low ∙ ap (λ (c : Cond). take i conds ++ c ∷ []) (sym is) in
-    subst (AreAdded before old after new)
+    subst (IsConjunctionAdded before old after new)
     (sym (joined_more (map f (take i conds)) (f cond)) ∙ ap one_conjunction (sym (map-append f (take i conds) (cond ∷ [])) ∙ ap (map f) (sym front)))
     (both_added before between after old mid new (one_conjunction (map f (take i conds))) (f cond) h k)
 
 -- one answer more
 pub answer_added : (before after : Members) (old mid new x : List Step) → mid ≡ old ++ x → new ≡ mid ++ closing before.some → after.some ≡ true → after.ranges ≡ before.ranges
-    → AreAdded before old after new (of_answer x)
+    → IsConjunctionAdded before old after new (of_answer x)
 answer_added before after old mid new x is closed some same = record {
   steps = closed ∙ ap (λ (s : List Step). s ++ closing before.some) is ∙ append_assoc old x (closing before.some) ∙ ap (λ (s : List Step). old ++ (x ++ s)) (sym (append_nil (closing before.some)));
   ranges = same ∙ sym (nil before.ranges);
@@ -110,16 +110,16 @@ answer_added before after old mid new x is closed some same = record {
 -- ---- the end of an AND
 
 pub answer_steps : (none after : Members) (old mid new : List Step) (c : Conjunction (List Step)) → none.some ≡ false → none.ranges ≡ []
-    → AreAdded none old after mid c → new ≡ mid ++ ending after.some after.ranges → new ≡ old ++ and_answer step_answers c
+    → IsConjunctionAdded none old after mid c → new ≡ mid ++ ending after.some after.ranges → new ≡ old ++ and_answer step_answers c
 answer_steps none after old mid new c fresh empty h closed =
     let some : after.some ≡ is_some_of c.others = h.some ∙ ap (λ (b : Bool). b || is_some_of c.others) fresh in
     let same_ranges : map range_of after.ranges ≡ c.ranges = ap (map range_of) (h.ranges ∙ ap (λ (s : List Range). s ++ map range_in c.ranges) empty) ∙ ranges_again c.ranges in
     let steps : mid ≡ old ++ more_steps false c.others = h.steps ∙ ap (λ (b : Bool). old ++ more_steps b c.others) fresh in
     closed ∙ ap (λ (s : List Step). s ++ ending after.some after.ranges) steps
     ∙ ap (λ (b : Bool). (old ++ more_steps false c.others) ++ ending b after.ranges) some
-    ∙ ap (λ (rs : List ranges.Range). (old ++ more_steps false c.others) ++ last_steps (is_some_of c.others) (map step_answers.range (range_for_each_column rs))) same_ranges
-    ∙ append_assoc old (more_steps false c.others) (last_steps (is_some_of c.others) (map step_answers.range (range_for_each_column c.ranges)))
-    ∙ ap (λ (s : List Step). old ++ s) (sym (all_steps c.others (map step_answers.range (range_for_each_column c.ranges))))
+    ∙ ap (λ (rs : List ranges.Range). (old ++ more_steps false c.others) ++ last_steps (is_some_of c.others) (map step_answers.range (intersection_for_each_column rs))) same_ranges
+    ∙ append_assoc old (more_steps false c.others) (last_steps (is_some_of c.others) (map step_answers.range (intersection_for_each_column c.ranges)))
+    ∙ ap (λ (s : List Step). old ++ s) (sym (all_steps c.others (map step_answers.range (intersection_for_each_column c.ranges))))
 
 -- ---- OR
 

@@ -3,7 +3,7 @@ use Rattle.std.proofs.Common.{◌≡◌, ℕ, ◌+◌, ◌<◌, Bool, true, fals
 use Rattle.std.specs.List.{list_any}
 use Rattle.std.proofs.lemmas.List.{append-nil}
 use Rattle.std.proofs.Math.Bool.{or-true}
-use Rattle.filtered_lists.specs.Ranges.{one_range}
+use Rattle.filtered_lists.specs.Ranges.{intersection_of}
 use Rattle.predicate_bounds.specs.declared.steps.Range.{Range}
 use Rattle.predicate_bounds.specs.declared.steps.Step.{Step}
 use Rattle.predicate_bounds.specs.declared.steps.Step.TheVariants as step
@@ -33,15 +33,15 @@ finished_old before now old new len i r h low is there =
     }
 
 pub finished_new : (before now after : Members) (old new mid last : List Step) (len i : ℕ) (r range : Range) → AreFinished before old now new len i → i < len → r ≡ get_or now.ranges i r
-    → list_any (λ range. eqb range.column r.column) (take i now.ranges) ≡ false → range ≡ range_in (one_range (map range_of now.ranges) r.column)
+    → list_any (λ range. eqb range.column r.column) (take i now.ranges) ≡ false → range ≡ range_in (intersection_of (map range_of now.ranges) r.column)
     → mid ≡ new ++ step.Within range ∷ [] → last ≡ mid ++ closing now.some → after.some ≡ true → after.ranges ≡ now.ranges
     → AreFinished before old after last len (i + 1)
 finished_new before now after old new mid last len i r range h low is there one more closed some same =
-    let x : List Step = step_answers.range (one_range (map range_of before.ranges) r.column) in
+    let x : List Step = step_answers.range (intersection_of (map range_of before.ranges) r.column) in
     let xs : List (List Step) = first_steps before.ranges i in
     let added : first_steps before.ranges (i + 1) ≡ xs ++ x ∷ [] =
     new_column before.ranges i r (omega (arith, h.len)) (is ∙ ap (λ (rs : List Range). get_or rs i r) h.ranges) (ap (λ (rs : List Range). list_any (λ range. eqb range.column r.column) (take i rs)) (sym h.ranges) ∙ there) in
-    let within : step.Within range ∷ [] ≡ x = ap (λ (y : Range). step.Within y ∷ []) (one ∙ ap (λ (rs : List Range). range_in (one_range (map range_of rs) r.column)) h.ranges) in
+    let within : step.Within range ∷ [] ≡ x = ap (λ (y : Range). step.Within y ∷ []) (one ∙ ap (λ (rs : List Range). range_in (intersection_of (map range_of rs) r.column)) h.ranges) in
     record {
       ranges = same ∙ h.ranges;
       len = h.len;
@@ -71,9 +71,9 @@ loop_old before now now' old new new' len i r items found h low same is tests te
 
 pub loop_new : (before now after now' : Members) (old new mid last new' : List Step) (len i : ℕ) (r range : Range) (items : List Range) (found : Bool) → AreFinished before old now new len i → i < len
     → items ≡ now.ranges → r ≡ get_or items i r → found ≡ list_any (λ range. eqb range.column (get_or items i r).column) (take i items) → found ≡ false
-    → range ≡ range_in (one_range (map range_of items) (get_or items i r).column)
+    → range ≡ range_in (intersection_of (map range_of items) (get_or items i r).column)
     → mid ≡ new ++ step.Within range ∷ [] → last ≡ mid ++ closing now.some → after.some ≡ true → after.ranges ≡ now.ranges
     → now' ≡ after → new' ≡ last → AreFinished before old now' new' len (i + 1)
 loop_new before now after now' old new mid last new' len i r range items found h low same is tests tells one more closed some kept self steps =
     rw (self, steps) (finished_new before now after old new mid last len i r range h low (is ∙ ap (λ (s : List Range). get_or s i r) same) (there_is items i r found false is tests tells now.ranges same)
-    (one ∙ ap (λ (x : Range). range_in (one_range (map range_of items) x.column)) (sym is) ∙ ap (λ (s : List Range). range_in (one_range (map range_of s) r.column)) same) more closed some kept)
+    (one ∙ ap (λ (x : Range). range_in (intersection_of (map range_of items) x.column)) (sym is) ∙ ap (λ (s : List Range). range_in (intersection_of (map range_of s) r.column)) same) more closed some kept)

@@ -9,7 +9,7 @@ use Rattle.std.proofs.lemmas.List.Elements.{filter-append}
 use Rattle.csv_tables.specs.Values.{Value}
 use Rattle.degree_sequences.specs.Degrees.{different}
 use Rattle.filtered_lists.specs.Ranges as ranges
-use Rattle.filtered_lists.specs.Ranges.{greatest_value, least, one_range, ranges_of, range_for_each_column}
+use Rattle.filtered_lists.specs.Ranges.{greatest_value, least, intersection_of, ranges_of, intersection_for_each_column}
 use Rattle.predicate_bounds.specs.declared.steps.Range.{Range}
 use Rattle.predicate_bounds.specs.declared.steps.Step.{Step}
 use Rattle.predicate_bounds.specs.Narrowing.{more_high, more_low, narrowed}
@@ -25,12 +25,12 @@ high_more : (high : Option Value) (highs : List Value) → least (cons_option hi
 high_more None highs = refl
 high_more (Some v) highs = refl
 
-range_more : (r : ranges.Range) (rs : List ranges.Range) (column : ℕ) → eqb r.column column ≡ true → one_range (r ∷ rs) column ≡ narrowed r (one_range rs column)
+range_more : (r : ranges.Range) (rs : List ranges.Range) (column : ℕ) → eqb r.column column ≡ true → intersection_of (r ∷ rs) column ≡ narrowed r (intersection_of rs column)
 range_more r rs column t =
     rw t (ap (λ (low : Option Value). record { column = column; low = low; high = least (cons_option r.high (filter_map (λ range. range.high) (ranges_of column rs))) }) (low_more r.low (filter_map (λ range. range.low) (ranges_of column rs)))
     ∙ ap (λ (high : Option Value). record { column = column; low = more_low r.low (greatest_value (filter_map (λ range. range.low) (ranges_of column rs))); high = high }) (high_more r.high (filter_map (λ range. range.high) (ranges_of column rs))))
 
-range_other : (r : ranges.Range) (rs : List ranges.Range) (column : ℕ) → eqb r.column column ≡ false → one_range (r ∷ rs) column ≡ one_range rs column
+range_other : (r : ranges.Range) (rs : List ranges.Range) (column : ℕ) → eqb r.column column ≡ false → intersection_of (r ∷ rs) column ≡ intersection_of rs column
 range_other r rs column n = rw n refl
 
 front : (rs : List Range) (j : ℕ) (r : Range) → j < length rs → r ≡ get_or rs j r → drop j (map range_of rs) ≡ range_of r ∷ drop (suc j) (map range_of rs)
@@ -40,20 +40,20 @@ front rs j r low is =
 
 -- going down, a range of the column narrows, and another one does nothing
 pub narrowed_more : (rs : List Range) (i : ℕ) (r : Range) (column : ℕ) (one more : ranges.Range) → 0 < i → i ≤ length rs → r ≡ get_or rs (i - 1) r → r.column ≡ column
-    → one ≡ one_range (drop i (map range_of rs)) column → more ≡ narrowed (range_of r) one → more ≡ one_range (drop (i - 1) (map range_of rs)) column
+    → one ≡ intersection_of (drop i (map range_of rs)) column → more ≡ narrowed (range_of r) one → more ≡ intersection_of (drop (i - 1) (map range_of rs)) column
 narrowed_more rs i r column one more some low is same so_far narrow =
     let here : i ≡ suc (i - 1) = omega arith in
-    narrow ∙ ap (narrowed (range_of r)) (so_far ∙ ap (λ (n : ℕ). one_range (drop n (map range_of rs)) column) here)
+    narrow ∙ ap (narrowed (range_of r)) (so_far ∙ ap (λ (n : ℕ). intersection_of (drop n (map range_of rs)) column) here)
     ∙ sym (range_more (range_of r) (drop (suc (i - 1)) (map range_of rs)) column (eq-eqb r.column column same))
-    ∙ ap (λ (s : List ranges.Range). one_range s column) (sym (front rs (i - 1) r (omega arith) is))
+    ∙ ap (λ (s : List ranges.Range). intersection_of s column) (sym (front rs (i - 1) r (omega arith) is))
 
 pub other_more : (rs : List Range) (i : ℕ) (r : Range) (column : ℕ) (one : ranges.Range) → 0 < i → i ≤ length rs → r ≡ get_or rs (i - 1) r → ¬ (r.column ≡ column)
-    → one ≡ one_range (drop i (map range_of rs)) column → one ≡ one_range (drop (i - 1) (map range_of rs)) column
+    → one ≡ intersection_of (drop i (map range_of rs)) column → one ≡ intersection_of (drop (i - 1) (map range_of rs)) column
 other_more rs i r column one some low is apart so_far =
     let here : i ≡ suc (i - 1) = omega arith in
-    so_far ∙ ap (λ (n : ℕ). one_range (drop n (map range_of rs)) column) here
+    so_far ∙ ap (λ (n : ℕ). intersection_of (drop n (map range_of rs)) column) here
     ∙ sym (range_other (range_of r) (drop (suc (i - 1)) (map range_of rs)) column (ne_eqb r.column column apart))
-    ∙ ap (λ (s : List ranges.Range). one_range s column) (sym (front rs (i - 1) r (omega arith) is))
+    ∙ ap (λ (s : List ranges.Range). intersection_of s column) (sym (front rs (i - 1) r (omega arith) is))
 
 -- ---- different columns
 
@@ -95,7 +95,7 @@ columns rs = map (λ range. range.column) (map range_of rs)
 
 -- the steps of the ranges of the columns that the first i ranges are of
 abbrev pub first_steps : List Range → ℕ → List (List Step)
-first_steps rs i = map step_answers.range (map (one_range (map range_of rs)) (different (take i (columns rs))))
+first_steps rs i = map step_answers.range (map (intersection_of (map range_of rs)) (different (take i (columns rs))))
 
 next_column : (rs : List Range) (i : ℕ) (r : Range) → i < length rs → r ≡ get_or rs i r → take (i + 1) (columns rs) ≡ take i (columns rs) ++ r.column ∷ []
 next_column rs i r low is =
@@ -116,15 +116,15 @@ is_there rs i column =
 pub old_column : (rs : List Range) (i : ℕ) (r : Range) → i < length rs → r ≡ get_or rs i r → list_any (λ range. eqb range.column r.column) (take i rs) ≡ true
     → first_steps rs (i + 1) ≡ first_steps rs i
 old_column rs i r low is there =
-    ap (λ (cs : List ℕ). map step_answers.range (map (one_range (map range_of rs)) cs))
+    ap (λ (cs : List ℕ). map step_answers.range (map (intersection_of (map range_of rs)) cs))
     (ap different (next_column rs i r low is) ∙ different_old (take i (columns rs)) r.column (is_there rs i r.column ∙ there))
 
 -- the first range of a column
 pub new_column : (rs : List Range) (i : ℕ) (r : Range) → i < length rs → r ≡ get_or rs i r → list_any (λ range. eqb range.column r.column) (take i rs) ≡ false
-    → first_steps rs (i + 1) ≡ first_steps rs i ++ step_answers.range (one_range (map range_of rs) r.column) ∷ []
+    → first_steps rs (i + 1) ≡ first_steps rs i ++ step_answers.range (intersection_of (map range_of rs) r.column) ∷ []
 new_column rs i r low is there =
-    let f : ℕ → List Step = λ column. step_answers.range (one_range (map range_of rs) column) in
-    ap (λ (cs : List ℕ). map step_answers.range (map (one_range (map range_of rs)) cs))
+    let f : ℕ → List Step = λ column. step_answers.range (intersection_of (map range_of rs) column) in
+    ap (λ (cs : List ℕ). map step_answers.range (map (intersection_of (map range_of rs)) cs))
     (ap different (next_column rs i r low is) ∙ different_new (take i (columns rs)) r.column (is_there rs i r.column ∙ there))
-    ∙ ap (map step_answers.range) (map-append (one_range (map range_of rs)) (different (take i (columns rs))) (r.column ∷ []))
-    ∙ map-append step_answers.range (map (one_range (map range_of rs)) (different (take i (columns rs)))) (one_range (map range_of rs) r.column ∷ [])
+    ∙ ap (map step_answers.range) (map-append (intersection_of (map range_of rs)) (different (take i (columns rs))) (r.column ∷ []))
+    ∙ map-append step_answers.range (map (intersection_of (map range_of rs)) (different (take i (columns rs)))) (intersection_of (map range_of rs) r.column ∷ [])

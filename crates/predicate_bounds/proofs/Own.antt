@@ -12,7 +12,7 @@ use Rattle.join_graph.specs.Conjuncts.{local_of, names_just, numbers_where}
 use Rattle.predicate_bounds.specs.declared.steps.Step.{Step}
 use Rattle.predicate_bounds.specs.declared.steps.Step.TheVariants as step
 use Rattle.predicate_bounds.specs.declared.reading.Members.{Members}
-use Rattle.predicate_bounds.specs.Added.{AreAdded, ending}
+use Rattle.predicate_bounds.specs.Added.{IsConjunctionAdded, ending}
 use Rattle.predicate_bounds.specs.Steps.{step_answers, steps_of}
 use Rattle.predicate_bounds.proofs.Adding.{both_added, joined_more, answer_steps}
 use Rattle.predicate_bounds.proofs.Conditions.{read}
@@ -64,16 +64,16 @@ abbrev pub conds_at : List Cond → List ℕ → List Cond
 conds_at conds numbers = filter_map (slice_get conds) numbers
 
 abbrev pub AreRead : List Cond → List ℕ → Members → List Step → Members → List Step → Type 0
-AreRead conds numbers before old now new = AreAdded before old now new (one_conjunction (map (λ cond. read cond true) (conds_at conds numbers)))
+AreRead conds numbers before old now new = IsConjunctionAdded before old now new (one_conjunction (map (λ cond. read cond true) (conds_at conds numbers)))
 
 pub one_read : (conds : List Cond) (numbers : List ℕ) (i n : ℕ) (c : Cond) (before now after : Members) (old mid new : List Step) → i < length numbers → n ≡ get_or numbers i 0 → slice_get conds n ≡ Some c
-    → AreRead conds (take i numbers) before old now mid → AreAdded now mid after new (read c true) → AreRead conds (take (i + 1) numbers) before old after new
+    → AreRead conds (take i numbers) before old now mid → IsConjunctionAdded now mid after new (read c true) → AreRead conds (take (i + 1) numbers) before old after new
 one_read conds numbers i n c before now after old mid new low at is h k =
     let front : take (i + 1) numbers ≡ take i numbers ++ n ∷ [] = take_more numbers i 0 low ∙ ap (λ (m : ℕ). take i numbers ++ m ∷ []) (sym at) in
     let one : conds_at conds (n ∷ []) ≡ c ∷ [] = rw is refl in
     let more : conds_at conds (take (i + 1) numbers) ≡ conds_at conds (take i numbers) ++ c ∷ [] =
     ap (conds_at conds) front ∙ filter_map-append (slice_get conds) (take i numbers) (n ∷ []) ∙ ap (λ (s : List Cond). conds_at conds (take i numbers) ++ s) one in
-    subst (AreAdded before old after new)
+    subst (IsConjunctionAdded before old after new)
     (sym (joined_more (map (λ cond. read cond true) (conds_at conds (take i numbers))) (read c true))
     ∙ ap one_conjunction (sym (map_more (conds_at conds (take i numbers)))) ∙ ap (λ (s : List Cond). one_conjunction (map (λ cond. read cond true) s)) (sym more))
     (both_added before now after old mid new (one_conjunction (map (λ cond. read cond true) (conds_at conds (take i numbers)))) (read c true) h k)
@@ -89,7 +89,7 @@ pub all_read : (from : ℕ) (conds : List Cond) (numbers : List ℕ) (i : ℕ) (
 all_read from conds numbers i before now old mid ended whole last same end fresh empty nothing h closed first second =
     let own : conds_at conds (take i numbers) ≡ own_conjuncts from conds = ap (conds_at conds) (take_all i numbers end ∙ same) ∙ numbers_give (names_just from) conds in
     let c : Conjunction (List Step) = one_conjunction (map (λ cond. read cond true) (own_conjuncts from conds)) in
-    let added : AreAdded before old now mid c = subst (λ (s : List Cond). AreAdded before old now mid (one_conjunction (map (λ cond. read cond true) s))) own h in
+    let added : IsConjunctionAdded before old now mid c = subst (λ (s : List Cond). IsConjunctionAdded before old now mid (one_conjunction (map (λ cond. read cond true) s))) own h in
     let all : ended ≡ old ++ and_answer step_answers c = answer_steps before now old mid ended c fresh empty added closed in
     second ∙ ap (λ (s : List Step). s ++ step.And ∷ []) (first ∙ ap (λ (s : List Step). s ++ step.Whole ∷ []) (all ∙ ap (λ (s : List Step). s ++ and_answer step_answers c) nothing))
     ∙ append_assoc (and_answer step_answers c) (step.Whole ∷ []) (step.And ∷ [])

@@ -19,7 +19,7 @@ use Rattle.predicate_bounds.specs.declared.steps.Step.{Step}
 use Rattle.predicate_bounds.specs.declared.steps.Step.TheVariants as step
 use Rattle.predicate_bounds.specs.ListRuns.{after_list_steps, is_small, listed, top_of}
 use Rattle.predicate_bounds.specs.Steps.{step_answers}
-use Rattle.predicate_bounds.specs.Told.{TellsList, TellsRows, asked_lists, column_steps, columns_of, first_steps, list_left, list_told}
+use Rattle.predicate_bounds.specs.Told.{HasLists, HasRowLists, asked_lists, column_steps, columns_of, first_steps, list_left, list_in_stats}
 use Rattle.predicate_bounds.proofs.Answering.{lists_answer}
 
 -- ---- a column among columns
@@ -49,16 +49,16 @@ some_one : (steps asked : List ListStep) (o : Option (List ListStep)) → o ≡ 
 some_one steps asked o h k = cc
 
 pub list_answer : {E : Type 0} (query : Query) (stats : QueryStats) (from column : ℕ) (lists : ColumnLists) (steps : List ListStep) (r : Result (List ℕ) E)
-    → column_steps stats from column ≡ Some steps → TellsList query stats from column lists
+    → column_steps stats from column ≡ Some steps → HasLists query stats from column lists
     → IfOk r (λ list. list ≡ top_of (after_list_steps steps [])) → IfOk r (λ list. list ≡ filtered_list lists from query.conjuncts)
 list_answer query stats from column lists steps r here tells h =
     told_list query from lists steps r (some_one steps (asked_lists query from lists) (column_steps stats from column) here tells) h
 
 -- the list of a column is what its steps leave
 pub list_here : {E : Type 0} (stats : QueryStats) (from column : ℕ) (steps : List ListStep) (r : Result (List ℕ) E) → column_steps stats from column ≡ Some steps
-    → IfOk r (λ list. list ≡ top_of (after_list_steps steps [])) → IfOk r (λ list. list ≡ list_told stats from column)
+    → IfOk r (λ list. list ≡ top_of (after_list_steps steps [])) → IfOk r (λ list. list ≡ list_in_stats stats from column)
 list_here stats from column steps r here h =
-    IfOk-weaker r (λ list. list ≡ top_of (after_list_steps steps [])) (λ list. list ≡ list_told stats from column)
+    IfOk-weaker r (λ list. list ≡ top_of (after_list_steps steps [])) (λ list. list ≡ list_in_stats stats from column)
     (λ list e. e ∙ sym (ap list_left here)) h
 
 -- ---- the row bound
@@ -77,7 +77,7 @@ rows_fit : (query : Query) (from : ℕ) (lists : ColumnLists) (steps : List List
 rows_fit query from lists steps is small =
     omega (arith, whole_is_small query from lists steps is small, sum-lesser (and_answer (list_answers lists) (one_conjunction (map (λ c. conjunction_of (list_answers lists) c true) (own_conjuncts from query.conjuncts)))) lists.whole)
 
-pub told_rows : (query : Query) (stats : QueryStats) (from : ℕ) (lists : ColumnLists) (steps : List ListStep) (list : List ℕ) (rows : ℕ) → first_steps stats from ≡ Some steps → TellsRows query stats from lists
+pub told_rows : (query : Query) (stats : QueryStats) (from : ℕ) (lists : ColumnLists) (steps : List ListStep) (list : List ℕ) (rows : ℕ) → first_steps stats from ≡ Some steps → HasRowLists query stats from lists
     → list_all is_small steps ≡ true → list ≡ top_of (after_list_steps steps []) → rows ≡ min (sum list) (2 ^ 64 - 1) → rows ≡ sum (filtered_list lists from query.conjuncts)
 told_rows query stats from lists steps list rows here tells small left is =
     let asked : steps ≡ asked_lists query from lists = some_one steps (asked_lists query from lists) (first_steps stats from) here tells in

@@ -1,7 +1,7 @@
 -- The steps that the members of an AND add, one member after another.
 use Rattle.std.specs.Prelude.{◌≡◌, Bool, true, false, ◌||◌, List, [], ◌∷◌, ◌++◌, map}
 use Rattle.filtered_lists.specs.Filters.{Conjunction}
-use Rattle.filtered_lists.specs.Ranges.{range_for_each_column}
+use Rattle.filtered_lists.specs.Ranges.{intersection_for_each_column}
 use Rattle.predicate_bounds.specs.declared.steps.Range.{Range}
 use Rattle.predicate_bounds.specs.declared.steps.Step.{Step}
 use Rattle.predicate_bounds.specs.declared.steps.Step.TheVariants as step
@@ -24,7 +24,7 @@ is_some_of (x ∷ xs) = true
 
 -- conjunction `c` was added to the members of an AND: its ranges stand behind the ranges before, and the steps of its other members behind
 -- the old steps
-pub record AreAdded (before : Members) (old : List Step) (after : Members) (new : List Step) (c : Conjunction (List Step)) : Type 0 where
+pub record IsConjunctionAdded (before : Members) (old : List Step) (after : Members) (new : List Step) (c : Conjunction (List Step)) : Type 0 where
   pub steps : new ≡ old ++ more_steps before.some c.others
   pub ranges : after.ranges ≡ before.ranges ++ map range_in c.ranges
   pub some : after.some ≡ (before.some || is_some_of c.others)
@@ -38,4 +38,4 @@ last_steps some (steps ∷ members) = more_steps some (steps ∷ members)
 
 -- the same, made of the ranges
 abbrev pub ending : Bool → List Range → List Step
-ending some ranges = last_steps some (map (λ range. step.Within (range_in range) ∷ []) (range_for_each_column (map range_of ranges)))
+ending some ranges = last_steps some (map (λ range. step.Within (range_in range) ∷ []) (intersection_for_each_column (map range_of ranges)))

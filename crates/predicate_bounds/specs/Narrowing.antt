@@ -2,7 +2,7 @@
 use Rattle.std.specs.Prelude.{Bool, false, Option, None, Some}
 use Rattle.std.specs.Ordering.{is_lt, is_gt}
 use Rattle.csv_tables.specs.Values.{Value, value_cmp}
-use Rattle.filtered_lists.specs.Ranges.{Range, greater_of, lower_of}
+use Rattle.filtered_lists.specs.Ranges.{Range, greater_of, lesser_of}
 
 -- an end is there, and stands above a value or below it
 abbrev pub is_above : Option Value → Value → Bool
@@ -20,7 +20,7 @@ more_low (Some value) other = Some (greater_of value other)
 
 abbrev pub more_high : Option Value → Option Value → Option Value
 more_high None other = other
-more_high (Some value) other = Some (lower_of value other)
+more_high (Some value) other = Some (lesser_of value other)
 
 -- a range narrowed by another one of its column
 abbrev pub narrowed : Range → Range → Range

@@ -31,21 +31,21 @@ list_left None = []
 list_left (Some steps) = top_of (after_list_steps steps [])
 
 -- the list that the steps of a joined column leave
-abbrev pub list_told : QueryStats → ℕ → ℕ → List ℕ
-list_told stats from column = list_left (column_steps stats from column)
+abbrev pub list_in_stats : QueryStats → ℕ → ℕ → List ℕ
+list_in_stats stats from column = list_left (column_steps stats from column)
 
 -- the row bound of an entry: the sum of the list that the steps of its first column leave, but at most 2^64 - 1
-abbrev pub rows_told : QueryStats → ℕ → ℕ
-rows_told stats from = min (sum (list_left (first_steps stats from))) (2 ^ 64 - 1)
+abbrev pub row_bound_in_stats : QueryStats → ℕ → ℕ
+row_bound_in_stats stats from = min (sum (list_left (first_steps stats from))) (2 ^ 64 - 1)
 
 -- the steps of an entry's own conjuncts, each with the list of these that it asks for
 abbrev pub asked_lists : Query → ℕ → ColumnLists → List ListStep
 asked_lists query from lists = map (listed lists) (steps_of from query.conjuncts)
 
 -- the statistics of a joined column are these lists, as far as the entry's own conjuncts ask for them
-abbrev pub TellsList : Query → QueryStats → ℕ → ℕ → ColumnLists → Type 0
-TellsList query stats from column lists = column_steps stats from column ≡ Some (asked_lists query from lists)
+abbrev pub HasLists : Query → QueryStats → ℕ → ℕ → ColumnLists → Type 0
+HasLists query stats from column lists = column_steps stats from column ≡ Some (asked_lists query from lists)
 
 -- the statistics for an entry's row bound are these lists, again as far as its own conjuncts ask for them
-abbrev pub TellsRows : Query → QueryStats → ℕ → ColumnLists → Type 0
-TellsRows query stats from lists = first_steps stats from ≡ Some (asked_lists query from lists)
+abbrev pub HasRowLists : Query → QueryStats → ℕ → ColumnLists → Type 0
+HasRowLists query stats from lists = first_steps stats from ≡ Some (asked_lists query from lists)

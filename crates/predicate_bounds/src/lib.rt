@@ -6,7 +6,7 @@
 //! one range of all comparisons of a column in an AND. `QueryStats` holds these steps, each with its list, for each joined column.
 //! `bound_list` and `row_bound` run them. Nothing here knows where the lists come from.
 //!
-//! Callers cite `steps_of` (in `specs/Steps.antt`) for what is asked, `TellsList` and `TellsRows` (in `specs/Told.antt`) for
+//! Callers cite `steps_of` (in `specs/Steps.antt`) for what is asked, `HasLists` and `HasRowLists` (in `specs/Told.antt`) for
 //! what statistics hold, and `filtered_list` and `row_bound` of `filtered_lists` for the answers.
 //!
 //! ```text

@@ -1,7 +1,7 @@
 //! The one range that the ranges of a column make together.
 ghost use Rattle.std.specs.Prelude.{◌≡◌, ◌==◌, map, option_map, IfOk};
 ghost use Rattle.std.specs.List.{list_any};
-ghost use Rattle.filtered_lists.specs.Ranges.{one_range};
+ghost use Rattle.filtered_lists.specs.Ranges.{intersection_of};
 ghost use Rattle.predicate_bounds.specs.Narrowing.{is_below, is_above, more_high, more_low, narrowed};
 ghost use Rattle.predicate_bounds.specs.Steps.{range_in, range_of, value_of};
 
@@ -74,8 +74,12 @@ fn narrowed(alloc: Global, range: &Range, one: Range) -> Result<Range, NoMemory>
 }
 
 /// The one range of a column: from the greatest of the low ends to the least of the high ends.
-pub(crate) fn one_range(alloc: Global, ranges: &[Range], column: u32) -> Result<Range, NoMemory>
-    ensures { IfOk result (λ range. range ≡ range_in (one_range (map range_of ranges.now) column)) }
+pub(crate) fn intersection_of(
+    alloc: Global,
+    ranges: &[Range],
+    column: u32,
+) -> Result<Range, NoMemory>
+    ensures { IfOk result (λ range. range ≡ range_in (intersection_of (map range_of ranges.now) column)) }
 {
     let mut one = Range {
         column,

@@ -4,7 +4,7 @@ ghost use Rattle.std.specs.Prelude.{◌≡◌, ◌<◌, ◌++◌, ◌∷◌, [],
 ghost use Rattle.filtered_lists.specs.Comparisons.{comparison_of};
 ghost use Rattle.filtered_lists.specs.Filters.{and_answer, conjunction_of, one_conjunction, or_answer};
 ghost use Rattle.filtered_lists.specs.Filters.{of_answer, of_comparison, of_comparison_or_whole};
-ghost use Rattle.predicate_bounds.specs.Added.{AreAdded, closing, ending};
+ghost use Rattle.predicate_bounds.specs.Added.{IsConjunctionAdded, closing, ending};
 ghost use Rattle.predicate_bounds.specs.Steps.{range_of, step_answers, steps_of, value_of};
 ghost use Rattle.join_graph.specs.Conjuncts.{local_of, names_just, numbers_where};
 
@@ -75,7 +75,7 @@ impl Members {
         compared: Compared,
         steps: &mut Seq<Step>,
     ) -> Result<(), NoMemory>
-        ensures { OnOk result (AreAdded self.old steps.old self.new steps.new
+        ensures { OnOk result (IsConjunctionAdded self.old steps.old self.new steps.new
             (of_comparison step_answers compared.op compared.column (value_of compared.literal))) }
     {
         let Compared {
@@ -126,7 +126,7 @@ impl Members {
         right: &Operand,
         steps: &mut Seq<Step>,
     ) -> Result<(), NoMemory>
-        ensures { OnOk result (AreAdded self.old steps.old self.new steps.new
+        ensures { OnOk result (IsConjunctionAdded self.old steps.old self.new steps.new
             (of_comparison_or_whole step_answers (comparison_of op left.now right.now))) }
     {
         match compared_of(alloc, op, left, right)? {
@@ -147,7 +147,7 @@ impl Members {
         holds: bool,
         steps: &mut Seq<Step>,
     ) -> Result<(), NoMemory>
-        ensures { OnOk result (AreAdded self.old steps.old self.new steps.new (conjunction_of step_answers cond.now holds)) }
+        ensures { OnOk result (IsConjunctionAdded self.old steps.old self.new steps.new (conjunction_of step_answers cond.now holds)) }
     {
         match cond {
             Cond::And(all) => {
@@ -181,7 +181,7 @@ impl Members {
         holds: bool,
         steps: &mut Seq<Step>,
     ) -> Result<(), NoMemory>
-        ensures { OnOk result (AreAdded self.old steps.old self.new steps.new
+        ensures { OnOk result (IsConjunctionAdded self.old steps.old self.new steps.new
             (one_conjunction (map (λ cond. conjunction_of step_answers cond holds) conds.now))) }
     {
         for cond in conds {
@@ -199,7 +199,7 @@ impl Members {
         holds: bool,
         steps: &mut Seq<Step>,
     ) -> Result<(), NoMemory>
-        ensures { OnOk result (AreAdded self.old steps.old self.new steps.new
+        ensures { OnOk result (IsConjunctionAdded self.old steps.old self.new steps.new
             (of_answer (or_answer step_answers (map (λ cond. conjunction_of step_answers cond holds) conds.now)))) }
     {
         steps.push(Step::Nothing)?;

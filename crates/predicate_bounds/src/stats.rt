@@ -5,7 +5,7 @@ ghost use Rattle.query_types.specs.declared.types.Query.{Query};
 ghost use Rattle.sql_meaning.specs.Tables.{Tables};
 ghost use Rattle.filtered_lists.specs.Lists.{ColumnLists, RowCounts, filtered_list, row_bound};
 ghost use Rattle.filtered_lists.specs.Standing.{ListsStandFor, SumTo, scan_of};
-ghost use Rattle.predicate_bounds.specs.Told.{TellsList, TellsRows, column_steps, columns_of, first_steps, list_told, rows_told};
+ghost use Rattle.predicate_bounds.specs.Told.{HasLists, HasRowLists, column_steps, columns_of, first_steps, list_in_stats, row_bound_in_stats};
 
 use crate::columns::{ColumnSteps, QueryStats};
 use crate::running::run;
@@ -27,11 +27,11 @@ impl QueryStats {
     pub fn bound_list(&self, alloc: Global, from: u8, column: u32) -> Result<Pieces, NoMemory>
         requires entry { from < length self.now.entries }
         requires known { IsSome (column_steps self.now from column) }
-        ensures exact { IfOk result (λ list. list ≡ list_told self.now from column) }
-        ensures list { (query : Query) (lists : ColumnLists) → TellsList query self.now from column lists
+        ensures exact { IfOk result (λ list. list ≡ list_in_stats self.now from column) }
+        ensures list { (query : Query) (lists : ColumnLists) → HasLists query self.now from column lists
             → IfOk result (λ list. list ≡ filtered_list lists from query.conjuncts) }
         ensures never_under { (query : Query) (lists : ColumnLists) (tables : Tables) (key : ℕ → ℕ)
-            → TellsList query self.now from column lists → ListsStandFor lists tables from key
+            → HasLists query self.now from column lists → ListsStandFor lists tables from key
             → IfOk result (λ list. DominatesKeys list (map key (scan_of tables from query.conjuncts))) }
     {
         for joined in self.columns(from) {
@@ -47,11 +47,11 @@ impl QueryStats {
     pub fn row_bound(&self, alloc: Global, from: u8) -> Result<u64, NoMemory>
         requires entry { from < length self.now.entries }
         requires known { IsSome (first_steps self.now from) }
-        ensures exact { IfOk result (λ rows. rows ≡ rows_told self.now from) }
-        ensures rows { (query : Query) (lists : ColumnLists) (counts : RowCounts) → TellsRows query self.now from lists → SumTo lists counts
+        ensures exact { IfOk result (λ rows. rows ≡ row_bound_in_stats self.now from) }
+        ensures rows { (query : Query) (lists : ColumnLists) (counts : RowCounts) → HasRowLists query self.now from lists → SumTo lists counts
             → IfOk result (λ rows. rows ≡ row_bound counts from query.conjuncts) }
         ensures never_under { (query : Query) (lists : ColumnLists) (tables : Tables) (key : ℕ → ℕ)
-            → TellsRows query self.now from lists → ListsStandFor lists tables from key
+            → HasRowLists query self.now from lists → ListsStandFor lists tables from key
             → IfOk result (λ rows. length (scan_of tables from query.conjuncts) ≤ rows) }
     {
         let columns = self.columns(from);

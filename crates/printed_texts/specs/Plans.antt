@@ -8,11 +8,11 @@ abbrev pub scan_line : List ℕ → ℕ → List ℕ
 scan_line alias bound = codes "scan " ++ (alias ++ (codes " " ++ (decimal bound ++ codes "\n")))
 
 -- `level K ALIAS BOUND` without a line end, and below with one. The alias may hold blanks here too; the bound stands behind the last one
-abbrev pub level_bound : ℕ → List ℕ → ℕ → List ℕ
-level_bound k alias bound = codes "level " ++ (decimal k ++ (codes " " ++ (alias ++ (codes " " ++ decimal bound))))
+abbrev pub level_text : ℕ → List ℕ → ℕ → List ℕ
+level_text k alias bound = codes "level " ++ (decimal k ++ (codes " " ++ (alias ++ (codes " " ++ decimal bound))))
 
 abbrev pub level_line : ℕ → List ℕ → ℕ → List ℕ
-level_line k alias bound = level_bound k alias bound ++ codes "\n"
+level_line k alias bound = level_text k alias bound ++ codes "\n"
 
 -- a line for each entry, with the bound of its scan
 abbrev pub scan_lines : List Source → List ℕ → List ℕ
@@ -36,12 +36,12 @@ abbrev pub plan_lines : List Source → Plan → List ℕ
 plan_lines sources plan = scan_lines sources plan.scans ++ level_lines 1 sources plan.order plan.levels
 
 -- how an audit's line ends, behind the bound: a blank, the number of rows, and a line end
-abbrev pub row_count : ℕ → List ℕ
-row_count rows = codes " " ++ (decimal rows ++ codes "\n")
+abbrev pub rows_and_line_end : ℕ → List ℕ
+rows_and_line_end rows = codes " " ++ (decimal rows ++ codes "\n")
 
 -- the line `level K ALIAS BOUND ROWS`. The alias may hold blanks, and the bound stands between the last two
 abbrev pub audit_line : ℕ → List ℕ → ℕ → ℕ → List ℕ
-audit_line k alias bound rows = level_bound k alias bound ++ row_count rows
+audit_line k alias bound rows = level_text k alias bound ++ rows_and_line_end rows
 
 -- a line for each entry of the order, with the bound of its level and the level's number of rows. The first of these levels has the number k
 abbrev pub level_audits : ℕ → List Source → List ℕ → List ℕ → List ℕ → List ℕ

@@ -4,7 +4,7 @@ use Rattle.std.specs.Prelude.{ℕ, ◌+◌, List, [], ◌∷◌, ◌++◌, lengt
 use Rattle.query_types.specs.declared.types.Source.{Source}
 use Rattle.tree_plans.specs.declared.bushy.BushyPlan.{BushyPlan}
 use Rattle.tree_plans.specs.declared.bushy.Join.{Join}
-use Rattle.printed_texts.specs.Plans.{row_count, scan_lines}
+use Rattle.printed_texts.specs.Plans.{rows_and_line_end, scan_lines}
 
 -- node K LEFT RIGHT BOUND, and the line of it
 abbrev pub node_bound : ℕ → Join → List ℕ
@@ -25,7 +25,7 @@ tree_lines sources plan = scan_lines sources plan.scans ++ node_lines (length pl
 
 -- node K LEFT RIGHT BOUND ROWS
 abbrev pub node_audit : ℕ → Join → ℕ → List ℕ
-node_audit k join rows = node_bound k join ++ row_count rows
+node_audit k join rows = node_bound k join ++ rows_and_line_end rows
 
 -- a line for each inner node with the number of its rows; the first node has number k
 abbrev pub node_audits : ℕ → List Join → List ℕ → List ℕ

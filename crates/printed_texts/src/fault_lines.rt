@@ -5,7 +5,7 @@ ghost use Rattle.base_io.specs.Writes.{Wrote};
 ghost use Rattle.printed_texts.specs.Faults.{column_in, error_line, fault_line, file_name, file_of_rows, file_of_table, is_of_file as of_file, limit_word as word_of_limit, limit_words, query_cause, read_words, refusal_words, schema_cause, sink_name, stats_cause, table_cause, table_in, table_words};
 ghost use Rattle.printed_texts.specs.Words.{file_text, named};
 
-use crate::lines::{FileWord, write_words, write_words_about};
+use crate::lines::{FileWord, write_error_line, write_words_about};
 use base_io::{Failed, Sink};
 use outcomes::{FileId, QueryCause, Refusal, SchemaCause, SinkId, StatsCause, Status, TableCause};
 use schema_types::{LimitKind, Schema, Table};
@@ -180,7 +180,7 @@ fn write_place<N: Sink>(text: &[u8], cause: &[u8], at: u32, sink: &mut N) -> Res
     ensures { Wrote (growth N.taken N.faults sink.old sink.new) (error_line (text.now ∷ (cause.now ∷ (decimal at ∷ [])))) result }
 {
     let mut digits = itoa::Buffer::new();
-    write_words(&[text, cause, digits.format(at).as_bytes()], sink)
+    write_error_line(&[text, cause, digits.format(at).as_bytes()], sink)
 }
 
 // A cause in a table's file, with two numbers.
@@ -241,7 +241,7 @@ fn write_limit<N: Sink>(
     if is_of_file(which) {
         write_words_about(&[LIMIT, limit_word(which)], file, &[found], sink)
     } else {
-        write_words(&[LIMIT, limit_word(which), found], sink)
+        write_error_line(&[LIMIT, limit_word(which), found], sink)
     }
 }
 
@@ -249,14 +249,14 @@ fn write_budget<N: Sink>(least: u128, sink: &mut N) -> Result<(), Failed>
     ensures { Wrote (growth N.taken N.faults sink.old sink.new) (error_line (codes "budget" ∷ (decimal least ∷ []))) result }
 {
     let mut digits = itoa::Buffer::new();
-    write_words(&[BUDGET, digits.format(least).as_bytes()], sink)
+    write_error_line(&[BUDGET, digits.format(least).as_bytes()], sink)
 }
 
 fn write_memory_limit<N: Sink>(bytes: u128, sink: &mut N) -> Result<(), Failed>
     ensures { Wrote (growth N.taken N.faults sink.old sink.new) (error_line (codes "memory-limit" ∷ (decimal bytes ∷ []))) result }
 {
     let mut digits = itoa::Buffer::new();
-    write_words(&[MEMORY_LIMIT, digits.format(bytes).as_bytes()], sink)
+    write_error_line(&[MEMORY_LIMIT, digits.format(bytes).as_bytes()], sink)
 }
 
 // The line of an absent file, and of a read that failed.
@@ -271,7 +271,7 @@ fn write_refusal<N: Sink>(refusal: Refusal, names: Named, sink: &mut N) -> Resul
     ensures { Wrote (growth N.taken N.faults sink.old sink.new) (error_line (refusal_words refusal (named names.entry))) result }
 {
     match refusal {
-        Refusal::Usage => write_words(&[USAGE], sink),
+        Refusal::Usage => write_error_line(&[USAGE], sink),
         Refusal::Missing { file } => write_read(file, names, sink),
         Refusal::Schema { cause, at } => write_place(SCHEMA, schema_word(cause), at, sink),
         Refusal::Query { cause, at } => write_place(QUERY, query_word(cause), at, sink),
@@ -285,7 +285,7 @@ fn write_refusal<N: Sink>(refusal: Refusal, names: Named, sink: &mut N) -> Resul
         }
         Refusal::Budget { least } => write_budget(least, sink),
         Refusal::MemoryLimit { bytes } => write_memory_limit(bytes, sink),
-        Refusal::PastBits => write_words(&[PAST_BITS], sink),
+        Refusal::PastBits => write_error_line(&[PAST_BITS], sink),
     }
 }
 
@@ -298,7 +298,7 @@ pub fn write_line<N: Sink>(status: Status, names: Named, sink: &mut N) -> Result
         Status::Done => Ok(()),
         Status::Refused(refusal) => write_refusal(refusal, names, sink),
         Status::ReadFault { file } => write_read(file, names, sink),
-        Status::WriteFault { sink: cut } => write_words(&[WRITE, sink_word(cut)], sink),
-        Status::NoMemory => write_words(&[MEMORY], sink),
+        Status::WriteFault { sink: cut } => write_error_line(&[WRITE, sink_word(cut)], sink),
+        Status::NoMemory => write_error_line(&[MEMORY], sink),
     }
 }

@@ -93,7 +93,7 @@ fn put_words_about<N: Sink>(
 }
 
 /// Writes the line `error` with these words. Fails where the sink does; then a prefix of the line is written.
-pub fn write_words<N: Sink>(words: &[&[u8]], sink: &mut N) -> Result<(), Failed>
+pub fn write_error_line<N: Sink>(words: &[&[u8]], sink: &mut N) -> Result<(), Failed>
     ensures { Wrote (growth N.taken N.faults sink.old sink.new) (error_line (map (λ w. w.now) words.now)) result }
 {
     let mut buffer = Buffer::new();

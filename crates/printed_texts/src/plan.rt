@@ -4,7 +4,7 @@ ghost use Rattle.std.specs.List.{AllByRecursion};
 ghost use Rattle.base_io.specs.Devices.{growth};
 ghost use Rattle.base_io.specs.Writes.{Put, Wrote};
 ghost use Rattle.plans.specs.LeftDeep.{IsPlan};
-ghost use Rattle.printed_texts.specs.Plans.{alias_of, level_bound, level_line, level_lines, plan_lines, scan_line, scan_lines};
+ghost use Rattle.printed_texts.specs.Plans.{alias_of, level_text, level_line, level_lines, plan_lines, scan_line, scan_lines};
 
 use base_io::{Buffer, Failed, Sink};
 use plans::Plan;
@@ -55,7 +55,7 @@ pub fn put_level_bound<N: Sink>(
     buffer: &mut Buffer,
     sink: &mut N,
 ) -> Result<(), Failed>
-    ensures { Put (growth N.taken N.faults sink.old sink.new) buffer.old buffer.new (level_bound k alias.now bound) result }
+    ensures { Put (growth N.taken N.faults sink.old sink.new) buffer.old buffer.new (level_text k alias.now bound) result }
 {
     let (mut place, mut digits) = (itoa::Buffer::new(), itoa::Buffer::new());
     let place = place.format(k).as_bytes();

@@ -21,7 +21,7 @@ use Rattle.filtered_lists.proofs.Lists.{sum-filtered}
 use Rattle.predicate_bounds.specs.declared.columns.ColumnSteps.{ColumnSteps}
 use Rattle.predicate_bounds.specs.declared.columns.EntryStats.{EntryStats}
 use Rattle.predicate_bounds.specs.declared.columns.QueryStats.{QueryStats}
-use Rattle.predicate_bounds.specs.Told.{TellsList, TellsRows, asked_lists, column_steps, first_steps, no_columns}
+use Rattle.predicate_bounds.specs.Told.{HasLists, HasRowLists, asked_lists, column_steps, first_steps, no_columns}
 use Rattle.query_bounds.specs.Adding.{MayAdd}
 use Rattle.query_bounds.specs.Bounds.{HoldsKnown, entry_bounds, is_among, is_at, scan_list, scan_rows}
 use Rattle.query_bounds.specs.Statistics.{Statistics, Tells, TellsColumn, TellsEntry}
@@ -34,7 +34,7 @@ is_some_of o x e = rw e refl
 pub no_more : {X : Type 0} (o : Option X) (x : X) → o ≡ None → o ≡ Some x → ⊥
 no_more o x e f = cc
 
-pub known_entry : (query : Query) (stats : QueryStats) (entry column : ℕ) (lists : ColumnLists) → TellsList query stats entry column lists → entry < length stats.entries
+pub known_entry : (query : Query) (stats : QueryStats) (entry column : ℕ) (lists : ColumnLists) → HasLists query stats entry column lists → entry < length stats.entries
 known_entry query stats entry column lists tells = elim (cases_lt entry (length stats.entries)) [
   | inl below ↦ below
   | inr above ↦ absurd (no_more (column_steps stats entry column) (asked_lists query entry lists) (gone above) tells)
@@ -81,7 +81,7 @@ rows_more query known i rows old new held is set others lists = record {
 
 -- the row bound that a call answers, and that it may be called
 pub rows_told : (query : Query) (stats : QueryStats) (known : Statistics) (entry rows : ℕ) → Tells query stats known → entry < length query.from
-    → ((q : Query) (lists : ColumnLists) (counts : RowCounts) → TellsRows q stats entry lists → SumTo lists counts → rows ≡ row_bound counts entry q.conjuncts)
+    → ((q : Query) (lists : ColumnLists) (counts : RowCounts) → HasRowLists q stats entry lists → SumTo lists counts → rows ≡ row_bound counts entry q.conjuncts)
     → rows ≡ scan_rows query known entry
 rows_told query stats known entry rows tells low told =
     let here : TellsEntry query stats known entry = tells.entries entry low in
@@ -179,7 +179,7 @@ pair_told query stats known items tells is i d low =
 -- what one call adds
 pub added : (query : Query) (stats : QueryStats) (known : Statistics) (n : ℕ) (places : List Place) (place : Place) (old new : EntryLists) → TellsColumn query stats known place.entry place.column
     → HoldsKnown query known n places old
-    → ((q : Query) (lists : ColumnLists) → TellsList q stats place.entry place.column lists
+    → ((q : Query) (lists : ColumnLists) → HasLists q stats place.entry place.column lists
     → list_of new place.entry place.column ≡ Some (unwrap_or (list_of old place.entry place.column) (filtered_list lists place.entry q.conjuncts)))
     → ((entry column : ℕ) → ((entry ≢ place.entry) ⊎ (column ≢ place.column)) → list_of new entry column ≡ list_of old entry column)
     → ((entry : ℕ) → rows_of new entry ≡ rows_of old entry) → HoldsKnown query known n (places ++ place ∷ []) new

@@ -7,12 +7,12 @@ use Rattle.bound_fold.specs.declared.lists.EntryLists.{EntryLists}
 use Rattle.bound_fold.specs.Lists.{rows_of}
 use Rattle.filtered_lists.specs.Lists.{ColumnLists, filtered_list}
 use Rattle.predicate_bounds.specs.declared.columns.QueryStats.{QueryStats}
-use Rattle.predicate_bounds.specs.Told.{TellsList}
+use Rattle.predicate_bounds.specs.Told.{HasLists}
 
 -- statistics tell the column's lists for some query, and the sum of its filtered list is the row bound that its entry has
 pub record MayAdd (stats : QueryStats) (place : Place) (lists : EntryLists) : Type 0 where
   pub query : Query
   pub known : ColumnLists
   pub entry : place.entry < length stats.entries
-  pub tells : TellsList query stats place.entry place.column known
+  pub tells : HasLists query stats place.entry place.column known
   pub rows : rows_of lists place.entry ≡ Some (sum (filtered_list known place.entry query.conjuncts))

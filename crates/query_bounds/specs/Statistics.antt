@@ -12,7 +12,7 @@ use Rattle.filtered_lists.specs.Filters.{own_conjuncts}
 use Rattle.filtered_lists.specs.Lists.{ColumnLists, RowCounts}
 use Rattle.filtered_lists.specs.Standing.{CountsStandFor, ListsStandFor, SumTo}
 use Rattle.predicate_bounds.specs.declared.columns.QueryStats.{QueryStats}
-use Rattle.predicate_bounds.specs.Told.{TellsList, TellsRows}
+use Rattle.predicate_bounds.specs.Told.{HasLists, HasRowLists}
 
 -- for each FROM entry numbers of its rows, and for each of its columns lists
 pub record Statistics : Type 0 where
@@ -24,13 +24,13 @@ pub record Statistics : Type 0 where
 -- for the row bound of an entry the lists of one of its columns are told, and its table has at most 2^32 rows
 pub record TellsEntry (query : Query) (stats : QueryStats) (known : Statistics) (entry : ℕ) : Type 0 where
   pub column : ℕ
-  pub lists : TellsRows query stats entry (known.lists entry column)
+  pub lists : HasRowLists query stats entry (known.lists entry column)
   pub sums : SumTo (known.lists entry column) (known.counts entry)
   pub small : (known.counts entry).whole ≤ 2 ^ 32
 
 -- the lists of a column of an entry are told
 pub record TellsColumn (query : Query) (stats : QueryStats) (known : Statistics) (entry column : ℕ) : Type 0 where
-  pub lists : TellsList query stats entry column (known.lists entry column)
+  pub lists : HasLists query stats entry column (known.lists entry column)
   pub sums : SumTo (known.lists entry column) (known.counts entry)
 
 -- all FROM entries are told, and all columns that an equality joins

@@ -5,7 +5,7 @@ ghost use Rattle.join_graph.specs.Conjuncts.{equalities_of};
 ghost use Rattle.bound_fold.specs.Lists.{bounds_of, list_of, rows_of};
 ghost use Rattle.query_types.specs.declared.types.Query.{Query};
 ghost use Rattle.filtered_lists.specs.Lists.{ColumnLists, filtered_list};
-ghost use Rattle.predicate_bounds.specs.Told.{TellsList};
+ghost use Rattle.predicate_bounds.specs.Told.{HasLists};
 ghost use Rattle.query_bounds.specs.Adding.{MayAdd};
 ghost use Rattle.query_bounds.specs.Bounds.{HoldsKnown, entry_bounds, joined_columns};
 ghost use Rattle.query_bounds.specs.Statistics.{StatsAreTold, Statistics, Tells};
@@ -41,7 +41,7 @@ fn add_list(
     lists: &mut EntryLists,
 ) -> Result<(), NoMemory>
     requires { MayAdd stats.now place lists.old }
-    ensures set { OnOk result ((query : Query) (known : ColumnLists) → TellsList query stats.now place.entry place.column known
+    ensures set { OnOk result ((query : Query) (known : ColumnLists) → HasLists query stats.now place.entry place.column known
         → list_of lists.new place.entry place.column
         ≡ Some (unwrap_or (list_of lists.old place.entry place.column) (filtered_list known place.entry query.conjuncts))) }
     ensures others { (entry column : ℕ) → ((entry ≢ place.entry) ⊎ (column ≢ place.column))

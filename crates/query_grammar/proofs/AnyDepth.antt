@@ -5,7 +5,7 @@ use Rattle.ll_grammars.specs.declared.terminal.Terminal.TheVariants as terminal
 use Rattle.ll_grammars.specs.Language.{Language}
 use Rattle.ll_grammars.specs.Reads.{Reads, Stops, SameHead, Splits}
 use Rattle.ll_grammars.proofs.Growing.{IsIn, itself_grows, then_grows, made_grows, either_grows, listed_grows, parentheses_grow}
-use Rattle.query_grammar.specs.declared.tree.CondText.{CondText}
+use Rattle.query_grammar.specs.declared.tree.CondNode.{CondNode}
 use Rattle.query_grammar.specs.Nesting.{nesting}
 use Rattle.query_grammar.specs.Grammar.{BooleanTest, ConditionOf, Nothing, TestWithin, SearchCondition}
 use Rattle.query_grammar.specs.Readers.{read_within, read_condition}
@@ -14,13 +14,13 @@ use Rattle.query_grammar.proofs.EnoughDepth.{within_alike}
 
 -- ---- what is spelled with some parentheses is spelled with more
 
-conds_grow : (T T' : Language CondText) → IsIn T T' → IsIn (ConditionOf T) (ConditionOf T')
+conds_grow : (T T' : Language CondNode) → IsIn T T' → IsIn (ConditionOf T) (ConditionOf T')
 conds_grow T T' h = made_grows _ _ _ (listed_grows terminal.Or _ _ (made_grows _ _ _ (listed_grows terminal.And _ _ (made_grows _ _ _ (then_grows _ _ _ _ (itself_grows _) h)))))
 
-nothing_grows : (C : Language CondText) → IsIn Nothing C
+nothing_grows : (C : Language CondNode) → IsIn Nothing C
 nothing_grows C text value l = absurd l
 
-tests_of_grow : (C C' : Language CondText) → IsIn C C' → IsIn (BooleanTest C) (BooleanTest C')
+tests_of_grow : (C C' : Language CondNode) → IsIn C C' → IsIn (BooleanTest C) (BooleanTest C')
 tests_of_grow C C' h = either_grows _ _ _ _ (parentheses_grow C C' h) (itself_grows _)
 
 tests_grow : (n m : ℕ) → n ≤ m → IsIn (TestWithin n) (TestWithin m)
@@ -38,7 +38,7 @@ enough : (n : ℕ) (text : List Lexeme) → nesting text ≤ n → read_conditio
 unfolding read_condition
 enough n text le = within_alike (nesting text) n text (omega arith) le
 
-to_conditions : (n : ℕ) (text : List Lexeme) (o : Option CondText) (rest : List Lexeme) → Splits (ConditionOf (TestWithin n)) text o rest → Splits SearchCondition text o rest
+to_conditions : (n : ℕ) (text : List Lexeme) (o : Option CondNode) (rest : List Lexeme) → Splits (ConditionOf (TestWithin n)) text o rest → Splits SearchCondition text o rest
 unfolding SearchCondition
 to_conditions n text None rest d = record { front = d.front; whole = d.whole; spelled = record { more = d.spelled.more; value = d.spelled.value; spelled = (n, d.spelled.spelled) } }
 to_conditions n text (Some c) rest d = record { front = d.front; whole = d.whole; spelled = (n, d.spelled) }
@@ -47,7 +47,7 @@ splits : (text : List Lexeme) → Splits SearchCondition text (read_condition te
 unfolding read_condition
 splits text = let n = nesting text in to_conditions n text (read_within n text).0 (read_within n text).1 ((reads_within n).splits text)
 
-complete : (front rest : List Lexeme) (value : CondText) → SearchCondition front value → Stops cond_shape.more rest → read_condition (front ++ rest) ≡ (Some value, rest)
+complete : (front rest : List Lexeme) (value : CondNode) → SearchCondition front value → Stops cond_shape.more rest → read_condition (front ++ rest) ≡ (Some value, rest)
 unfolding SearchCondition
 complete front rest value l stop =
     let n = l.0 + nesting (front ++ rest) in

@@ -8,7 +8,7 @@ use Rattle.ll_grammars.specs.Terminals.{apart}
 use Rattle.ll_grammars.specs.Language.{Language, one, ◌▸◌, made, ◌∪◌, maybe, many}
 use Rattle.ll_grammars.specs.Rules.{all, second, word, listed, in_parentheses}
 use Rattle.ll_grammars.proofs.Sets.{apart_false}
-use Rattle.query_grammar.specs.declared.tree.CondText.{CondText}
+use Rattle.query_grammar.specs.declared.tree.CondNode.{CondNode}
 use Rattle.query_grammar.specs.declared.tree.Op.TheVariants as op
 use Rattle.query_grammar.specs.Nesting.{nesting_from}
 use Rattle.query_grammar.specs.Values.{stands, meaning, column, number, text, of_column, of_literal, comparison, between, among_values, tested, negate, all_of, any_of}
@@ -125,7 +125,7 @@ predicates_balanced =
     (either_balanced (made_balanced between (then_balanced operands_balanced (then_balanced negations_balanced between_)))
     (made_balanced among_values (then_balanced operands_balanced (then_balanced negations_balanced in_))))
 
-module _ {T : Language CondText} (h : IsBalanced T) where
+module _ {T : Language CondNode} (h : IsBalanced T) where
   pub factors_balanced : IsBalanced (BooleanFactor T)
   factors_balanced = made_balanced negate (then_balanced negations_balanced h)
 
@@ -135,10 +135,10 @@ module _ {T : Language CondText} (h : IsBalanced T) where
   pub conds_balanced : IsBalanced (ConditionOf T)
   conds_balanced = made_balanced any_of (listed_balanced terminal.Or refl terms_balanced)
 
-tests_balanced_of : {C : Language CondText} → IsBalanced C → IsBalanced (BooleanTest C)
+tests_balanced_of : {C : Language CondNode} → IsBalanced C → IsBalanced (BooleanTest C)
 tests_balanced_of h = either_balanced (parentheses_balanced h) (made_balanced tested predicates_balanced)
 
-nothing_balanced : IsBalanced {A = CondText} Nothing
+nothing_balanced : IsBalanced {A = CondNode} Nothing
 nothing_balanced = record { closes = λ front value l. absurd l }
 
 pub tests_balanced : (n : ℕ) → IsBalanced (TestWithin n)

@@ -8,7 +8,7 @@ use Rattle.ll_grammars.specs.Rules.{all, second, word, listed}
 use Rattle.ll_grammars.proofs.Steps.{then_shape, maybe_shape}
 use Rattle.ll_grammars.proofs.Repeats.{many_shape}
 use Rattle.ll_grammars.proofs.Combined.{row, value, option, repeat, a_word, word_shape, next_shape, listed_shape}
-use Rattle.query_grammar.specs.declared.tree.CondText.{CondText}
+use Rattle.query_grammar.specs.declared.tree.CondNode.{CondNode}
 use Rattle.query_grammar.specs.Values.{source, join, part, query}
 use Rattle.query_grammar.specs.Grammar.{TableReference, QualifiedJoin, FromPart, WhereClause, QueryOf}
 use Rattle.query_grammar.specs.Readers.{read_source, read_join, read_joins, read_part, read_next_part, read_parts, read_condition_behind_where, read_filter, read_query}
@@ -38,7 +38,7 @@ where_shape = next_shape terminal.Where cond_shape
 abbrev pub query_shape : FirstAndFollow
 query_shape = then_shape (word_shape terminal.Select) (then_shape outs_shape (then_shape (word_shape terminal.From) (then_shape parts_shape (then_shape (maybe_shape where_shape) (maybe_shape (word_shape terminal.Semicolon))))))
 
-module _ {C : Language CondText} {c : Parser CondText} (reads : Reads C cond_shape c) where
+module _ {C : Language CondNode} {c : Parser CondNode} (reads : Reads C cond_shape c) where
   pub reads_join : Reads (QualifiedJoin C) join_shape (read_join c)
   unfolding read_join
   reads_join = value join (row (option (a_word terminal.Inner refl) refl) (row (a_word terminal.Join refl) (row reads_source (row (a_word terminal.On refl) reads refl) refl) refl) refl)

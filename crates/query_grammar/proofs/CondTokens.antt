@@ -2,40 +2,40 @@
 use Rattle.std.proofs.Common.{◌≡◌, All, List, [], ◌∷◌, map, refl, sym, ap, subst, ◌∙◌}
 use Rattle.std.proofs.lemmas.List.Elements.{All-nil, All-cons, All-head, All-tail}
 use Rattle.ll_grammars.specs.declared.lexeme.Lexeme.{Lexeme}
-use Rattle.query_grammar.specs.declared.tree.TestText.{TestText}
-use Rattle.query_grammar.specs.declared.tree.CondText.{CondText, every_made-CondText, every_here-CondText, every_held-CondText, out-CondText, out-roll-CondText, map-CondText}
-use Rattle.query_grammar.specs.declared.tree.CondText.TheVariants as cond
-use Rattle.query_grammar.specs.declared.tree.CondText.TheVariants.{rolls-And, rolls-Or, rolls-Not, rolls-Test}
-use Rattle.query_grammar.specs.declared.tree.CondText.TheOpen.{CondText-F}
-use Rattle.query_grammar.specs.declared.tree.CondText.TheOpen as layer
+use Rattle.query_grammar.specs.declared.tree.TestNode.{TestNode}
+use Rattle.query_grammar.specs.declared.tree.CondNode.{CondNode, every_made-CondNode, every_here-CondNode, every_held-CondNode, out-CondNode, out-roll-CondNode, map-CondNode}
+use Rattle.query_grammar.specs.declared.tree.CondNode.TheVariants as cond
+use Rattle.query_grammar.specs.declared.tree.CondNode.TheVariants.{rolls-And, rolls-Or, rolls-Not, rolls-Test}
+use Rattle.query_grammar.specs.declared.tree.CondNode.TheOpen.{CondNode-F}
+use Rattle.query_grammar.specs.declared.tree.CondNode.TheOpen as layer
 use Rattle.query_grammar.specs.Lexemes.{IsTestOf, IsLayerOf, IsCondOf}
 
 -- members and the facts of them, in pairs
 abbrev Held : (Lexeme → Type 0) → Type 0
-Held P = (c : CondText) × IsCondOf P c
+Held P = (c : CondNode) × IsCondOf P c
 
-paired : (P : Lexeme → Type 0) (cs : List CondText) → All (IsCondOf P) cs → (held : List (Held P)) × (map (λ (e : Held P). e.0) held ≡ cs)
+paired : (P : Lexeme → Type 0) (cs : List CondNode) → All (IsCondOf P) cs → (held : List (Held P)) × (map (λ (e : Held P). e.0) held ≡ cs)
 paired P [] h = ([], refl)
 paired P (c ∷ cs) h =
     let others = paired P cs (All-tail (IsCondOf P) c cs h) in
     ((c, All-head (IsCondOf P) c cs h) ∷ others.0, ap (λ x. c ∷ x) others.1)
 
 module _ (P : Lexeme → Type 0) where
-  pub test_of : (t : TestText) → IsTestOf P t → IsCondOf P (cond.Test t)
-  test_of t h = subst (IsCondOf P) (rolls-Test t) (every_made-CondText (IsLayerOf P) (layer.Test t) (layer.Test t) refl h)
+  pub test_of : (t : TestNode) → IsTestOf P t → IsCondOf P (cond.Test t)
+  test_of t h = subst (IsCondOf P) (rolls-Test t) (every_made-CondNode (IsLayerOf P) (layer.Test t) (layer.Test t) refl h)
 
-  pub not_of : (c : CondText) → IsCondOf P c → IsCondOf P (cond.Not c)
-  not_of c h = subst (IsCondOf P) (rolls-Not c) (every_made-CondText (IsLayerOf P) (layer.Not c) (layer.Not (c, h)) refl tt)
+  pub not_of : (c : CondNode) → IsCondOf P c → IsCondOf P (cond.Not c)
+  not_of c h = subst (IsCondOf P) (rolls-Not c) (every_made-CondNode (IsLayerOf P) (layer.Not c) (layer.Not (c, h)) refl tt)
 
-  pub and_of : (cs : List CondText) → All (IsCondOf P) cs → IsCondOf P (cond.And cs)
+  pub and_of : (cs : List CondNode) → All (IsCondOf P) cs → IsCondOf P (cond.And cs)
   and_of cs h =
       let pairs = paired P cs h in
-      subst (IsCondOf P) (rolls-And cs) (every_made-CondText (IsLayerOf P) (layer.And cs) (layer.And pairs.0) (ap (λ (x : List CondText). layer.And x) pairs.1) tt)
+      subst (IsCondOf P) (rolls-And cs) (every_made-CondNode (IsLayerOf P) (layer.And cs) (layer.And pairs.0) (ap (λ (x : List CondNode). layer.And x) pairs.1) tt)
 
-  pub or_of : (cs : List CondText) → All (IsCondOf P) cs → IsCondOf P (cond.Or cs)
+  pub or_of : (cs : List CondNode) → All (IsCondOf P) cs → IsCondOf P (cond.Or cs)
   or_of cs h =
       let pairs = paired P cs h in
-      subst (IsCondOf P) (rolls-Or cs) (every_made-CondText (IsLayerOf P) (layer.Or cs) (layer.Or pairs.0) (ap (λ (x : List CondText). layer.Or x) pairs.1) tt)
+      subst (IsCondOf P) (rolls-Or cs) (every_made-CondNode (IsLayerOf P) (layer.Or cs) (layer.Or pairs.0) (ap (λ (x : List CondNode). layer.Or x) pairs.1) tt)
 
 -- ---- and back
 
@@ -44,41 +44,41 @@ unpaired P [] = All-nil (IsCondOf P)
 unpaired P (e ∷ held) = All-cons (IsCondOf P) e.0 (map (λ (e : Held P). e.0) held) e.1 (unpaired P held)
 
 module _ (P : Lexeme → Type 0) where
-  abbrev shown : CondText-F (Held P) → CondText-F CondText
-  shown x = map-CondText (Held P) CondText (λ e. e.0) x
+  abbrev shown : CondNode-F (Held P) → CondNode-F CondNode
+  shown x = map-CondNode (Held P) CondNode (λ e. e.0) x
 
-  out_and : (cs : List CondText) → out-CondText (cond.And cs) ≡ layer.And cs
-  out_and cs = ap out-CondText (sym (rolls-And cs)) ∙ out-roll-CondText (layer.And cs)
+  out_and : (cs : List CondNode) → out-CondNode (cond.And cs) ≡ layer.And cs
+  out_and cs = ap out-CondNode (sym (rolls-And cs)) ∙ out-roll-CondNode (layer.And cs)
 
-  pub members_of_and : (cs : List CondText) → IsCondOf P (cond.And cs) → All (IsCondOf P) cs
-  members_of_and cs h = let k = every_held-CondText (IsLayerOf P) (cond.And cs) h in at k.0 (k.1 ∙ out_and cs) where
-    at : (x : CondText-F (Held P)) → shown x ≡ layer.And cs → All (IsCondOf P) cs
+  pub members_of_and : (cs : List CondNode) → IsCondOf P (cond.And cs) → All (IsCondOf P) cs
+  members_of_and cs h = let k = every_held-CondNode (IsLayerOf P) (cond.And cs) h in at k.0 (k.1 ∙ out_and cs) where
+    at : (x : CondNode-F (Held P)) → shown x ≡ layer.And cs → All (IsCondOf P) cs
     at (layer.And held) e = subst (All (IsCondOf P)) (let k : map (λ (e : Held P). e.0) held ≡ cs = cc in k) (unpaired P held)
     at (layer.Or held) e = absurd cc
     at (layer.Not c) e = absurd cc
     at (layer.Test t) e = absurd cc
 
-  out_or : (cs : List CondText) → out-CondText (cond.Or cs) ≡ layer.Or cs
-  out_or cs = ap out-CondText (sym (rolls-Or cs)) ∙ out-roll-CondText (layer.Or cs)
+  out_or : (cs : List CondNode) → out-CondNode (cond.Or cs) ≡ layer.Or cs
+  out_or cs = ap out-CondNode (sym (rolls-Or cs)) ∙ out-roll-CondNode (layer.Or cs)
 
-  pub members_of_or : (cs : List CondText) → IsCondOf P (cond.Or cs) → All (IsCondOf P) cs
-  members_of_or cs h = let k = every_held-CondText (IsLayerOf P) (cond.Or cs) h in at k.0 (k.1 ∙ out_or cs) where
-    at : (x : CondText-F (Held P)) → shown x ≡ layer.Or cs → All (IsCondOf P) cs
+  pub members_of_or : (cs : List CondNode) → IsCondOf P (cond.Or cs) → All (IsCondOf P) cs
+  members_of_or cs h = let k = every_held-CondNode (IsLayerOf P) (cond.Or cs) h in at k.0 (k.1 ∙ out_or cs) where
+    at : (x : CondNode-F (Held P)) → shown x ≡ layer.Or cs → All (IsCondOf P) cs
     at (layer.And held) e = absurd cc
     at (layer.Or held) e = subst (All (IsCondOf P)) (let k : map (λ (e : Held P). e.0) held ≡ cs = cc in k) (unpaired P held)
     at (layer.Not c) e = absurd cc
     at (layer.Test t) e = absurd cc
 
-  out_not : (c : CondText) → out-CondText (cond.Not c) ≡ layer.Not c
-  out_not c = ap out-CondText (sym (rolls-Not c)) ∙ out-roll-CondText (layer.Not c)
+  out_not : (c : CondNode) → out-CondNode (cond.Not c) ≡ layer.Not c
+  out_not c = ap out-CondNode (sym (rolls-Not c)) ∙ out-roll-CondNode (layer.Not c)
 
-  pub inner_of_not : (c : CondText) → IsCondOf P (cond.Not c) → IsCondOf P c
-  inner_of_not c h = let k = every_held-CondText (IsLayerOf P) (cond.Not c) h in at k.0 (k.1 ∙ out_not c) where
-    at : (x : CondText-F (Held P)) → shown x ≡ layer.Not c → IsCondOf P c
+  pub inner_of_not : (c : CondNode) → IsCondOf P (cond.Not c) → IsCondOf P c
+  inner_of_not c h = let k = every_held-CondNode (IsLayerOf P) (cond.Not c) h in at k.0 (k.1 ∙ out_not c) where
+    at : (x : CondNode-F (Held P)) → shown x ≡ layer.Not c → IsCondOf P c
     at (layer.And held) e = absurd cc
     at (layer.Or held) e = absurd cc
     at (layer.Not held) e = subst (IsCondOf P) (let k : held.0 ≡ c = cc in k) held.1
     at (layer.Test t) e = absurd cc
 
-  pub test_in : (t : TestText) → IsCondOf P (cond.Test t) → IsTestOf P t
-  test_in t h = subst (IsLayerOf P) (ap out-CondText (sym (rolls-Test t)) ∙ out-roll-CondText (layer.Test t)) (every_here-CondText (IsLayerOf P) (cond.Test t) h)
+  pub test_in : (t : TestNode) → IsCondOf P (cond.Test t) → IsTestOf P t
+  test_in t h = subst (IsLayerOf P) (ap out-CondNode (sym (rolls-Test t)) ∙ out-roll-CondNode (layer.Test t)) (every_here-CondNode (IsLayerOf P) (cond.Test t) h)

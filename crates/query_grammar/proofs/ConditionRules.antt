@@ -8,7 +8,7 @@ use Rattle.ll_grammars.specs.Reads.{FirstAndFollow, Reads}
 use Rattle.ll_grammars.specs.Rules.{all, second, word, listed, in_parentheses}
 use Rattle.ll_grammars.proofs.Steps.{then_shape, either_shape}
 use Rattle.ll_grammars.proofs.Combined.{row, value, choice, repeat, a_word, inside, word_shape, next_shape, listed_shape, right_only}
-use Rattle.query_grammar.specs.declared.tree.CondText.{CondText}
+use Rattle.query_grammar.specs.declared.tree.CondNode.{CondNode}
 use Rattle.query_grammar.specs.Values.{negate, all_of, any_of}
 use Rattle.query_grammar.specs.Grammar.{BooleanFactor, BooleanTerm, ConditionOf, Nothing, TestWithin}
 use Rattle.query_grammar.specs.Readers.{read_factor, read_next_factor, read_factors, read_term, read_next_term, read_terms, read_cond, read_inside, read_test, read_within}
@@ -27,7 +27,7 @@ term_shape = listed_shape terminal.And factor_shape
 abbrev pub cond_shape : FirstAndFollow
 cond_shape = listed_shape terminal.Or term_shape
 
-module _ {T : Language CondText} {t : Parser CondText} (reads : Reads T test_shape t) where
+module _ {T : Language CondNode} {t : Parser CondNode} (reads : Reads T test_shape t) where
   pub reads_factor : Reads (BooleanFactor T) factor_shape (read_factor t)
   unfolding read_factor
   reads_factor = value negate (row reads_negation reads refl)
@@ -60,7 +60,7 @@ module _ {T : Language CondText} {t : Parser CondText} (reads : Reads T test_sha
   unfolding read_inside
   reads_inside = inside reads_cond refl
 
-none_inside : (text : List Lexeme) (c : CondText) → in_parentheses Nothing text c → ⊥
+none_inside : (text : List Lexeme) (c : CondNode) → in_parentheses Nothing text c → ⊥
 none_inside text c l = l.2.second.first
 
 pub reads_test : (n : ℕ) → Reads (TestWithin n) test_shape (read_test n)

@@ -9,7 +9,7 @@ use Rattle.ll_grammars.specs.Reads.{FirstAndFollow, Reads}
 use Rattle.ll_grammars.specs.Rules.{all, second, middle, read_word, read_in_parentheses}
 use Rattle.ll_grammars.proofs.Combined.{a_word}
 use Rattle.ll_grammars.proofs.Alike.{AreAlikeOn, StaysIn, itself_alike, stays, then_alike, made_alike, many_alike}
-use Rattle.query_grammar.specs.declared.tree.CondText.{CondText}
+use Rattle.query_grammar.specs.declared.tree.CondNode.{CondNode}
 use Rattle.query_grammar.specs.Values.{negate, all_of, any_of}
 use Rattle.query_grammar.specs.Nesting.{nesting_from, nesting}
 use Rattle.query_grammar.specs.Readers.{read_flat, read_factor, read_next_factor, read_factors, read_term, read_next_term, read_terms, read_cond, read_inside, read_test, read_within}
@@ -46,7 +46,7 @@ Within n limit text = nesting_from n text ≤ limit
 stays_within : {A : Type 0} {L : Language A} {s : FirstAndFollow} {p : Parser A} (n limit : ℕ) → Reads L s p → IsBalanced L → StaysIn (Within n limit) p
 stays_within n limit reads balanced = stays (Within n limit) reads (λ front rest value l h. let less = balanced.closes front value l n rest in omega arith)
 
-module _ {T : Language CondText} {t : Parser CondText} (t' : Parser CondText) (reads : Reads T test_shape t) (balanced : IsBalanced T) (n limit : ℕ) (same : AreAlikeOn (Within n limit) t t') where
+module _ {T : Language CondNode} {t : Parser CondNode} (t' : Parser CondNode) (reads : Reads T test_shape t) (balanced : IsBalanced T) (n limit : ℕ) (same : AreAlikeOn (Within n limit) t t') where
   abbrev P : List Lexeme → Type 0
   P = Within n limit
 
@@ -80,14 +80,14 @@ module _ {T : Language CondText} {t : Parser CondText} (t' : Parser CondText) (r
   unfolding read_cond
   cond_alike = made_alike P any_of _ _ terms_alike
 
-inside_alike : (n limit : ℕ) (c c' : Parser CondText) → StaysIn (Within (suc n) limit) c → AreAlikeOn (Within (suc n) limit) c c' → (x : Lexeme) (rest : List Lexeme) → among (terminal.Open ∷ []) x.terminal ≡ true → Within n limit (x ∷ rest)
+inside_alike : (n limit : ℕ) (c c' : Parser CondNode) → StaysIn (Within (suc n) limit) c → AreAlikeOn (Within (suc n) limit) c c' → (x : Lexeme) (rest : List Lexeme) → among (terminal.Open ∷ []) x.terminal ≡ true → Within n limit (x ∷ rest)
     → read_in_parentheses c (x ∷ rest) ≡ read_in_parentheses c' (x ∷ rest)
 inside_alike n limit c c' stay same x rest h within =
     let behind : nesting_from (suc n) rest ≤ nesting_from n (x ∷ rest) = subst (λ k. nesting_from k rest ≤ nesting_from n (x ∷ rest)) (opens_one n x h) (nesting-behind n x rest) in
     let deeper : Within (suc n) limit rest = omega arith in
     let e : read_then c (read_word terminal.Close) rest ≡ read_then c' (read_word terminal.Close) rest =
     then_alike (Within (suc n) limit) c c' (read_word terminal.Close) (read_word terminal.Close) stay same (itself_alike (Within (suc n) limit) (read_word terminal.Close)) rest deeper in
-    rw h (ap (λ (y : Answer (CondText × Lexeme)). (y >>= λ b. give (x, b)) >>= λ parts. give (middle parts)) e)
+    rw h (ap (λ (y : Answer (CondNode × Lexeme)). (y >>= λ b. give (x, b)) >>= λ parts. give (middle parts)) e)
 
 -- a test one parenthesis deeper
 deeper_alike : (a b n limit : ℕ) → AreAlikeOn (Within (suc n) limit) (read_test a) (read_test b) → (text : List Lexeme) → Within n limit text → (opens : Bool) → starts (terminal.Open ∷ []) text ≡ opens → read_test (suc a) text ≡ read_test (suc b) text

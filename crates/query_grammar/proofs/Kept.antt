@@ -7,8 +7,8 @@ use Rattle.ll_grammars.specs.Language.{Language}
 use Rattle.ll_grammars.specs.Keeping.{Keeps}
 use Rattle.ll_grammars.proofs.Keeping.{keeps_one, keeps_then, keeps_made, keeps_union, keeps_maybe, keeps_many, kept_of_text}
 use Rattle.ll_grammars.proofs.KeepingRules.{keeps_any, keeps_word, keeps_behind, keeps_listed, keeps_inside}
-use Rattle.query_grammar.specs.declared.tree.CondText.{CondText}
-use Rattle.query_grammar.specs.declared.tree.QueryText.{QueryText}
+use Rattle.query_grammar.specs.declared.tree.CondNode.{CondNode}
+use Rattle.query_grammar.specs.declared.tree.QueryNode.{QueryNode}
 use Rattle.query_grammar.specs.Values.{column, number, text, of_column, of_literal, comparison, between, among_values, tested, negate, all_of, any_of, source, join, part, all_columns, one_column, everything, these_outs, query}
 use Rattle.query_grammar.specs.Grammar.{name_terminals, sign_terminals, digit_terminals, Name, NewName, ColumnReference, Literal, Operand, ComparisonOperator, Negation, Predicate, BooleanTest, ConditionOf, Nothing, TestWithin, SearchCondition, TableReference, QualifiedJoin, FromPart, SelectSublist, SelectList, QuerySpecification}
 use Rattle.query_grammar.specs.Lexemes.{IsNameOf, IsColumnOf, IsLiteralOf, IsOperandOf, IsTestOf, IsCondOf, IsSourceOf, IsJoinOf, IsPartOf, IsOutOf, IsOutListOf, IsQueryOf}
@@ -44,24 +44,24 @@ module _ (P : Lexeme → Type 0) where
 
   -- ---- conditions
 
-  negate_keeps : (negated : Bool) (c : CondText) → IsCondOf P c → IsCondOf P (negate (negated, c))
+  negate_keeps : (negated : Bool) (c : CondNode) → IsCondOf P c → IsCondOf P (negate (negated, c))
   negate_keeps false c h = h
   negate_keeps true c h = not_of P c h
 
-  all_of_keeps : (cs : List CondText) → All (IsCondOf P) cs → IsCondOf P (all_of cs)
+  all_of_keeps : (cs : List CondNode) → All (IsCondOf P) cs → IsCondOf P (all_of cs)
   all_of_keeps [] h = and_of P [] h
   all_of_keeps (c ∷ []) h = All-head (IsCondOf P) c [] h
   all_of_keeps (c ∷ d ∷ cs) h = and_of P (c ∷ d ∷ cs) h
 
-  any_of_keeps : (cs : List CondText) → All (IsCondOf P) cs → IsCondOf P (any_of cs)
+  any_of_keeps : (cs : List CondNode) → All (IsCondOf P) cs → IsCondOf P (any_of cs)
   any_of_keeps [] h = or_of P [] h
   any_of_keeps (c ∷ []) h = All-head (IsCondOf P) c [] h
   any_of_keeps (c ∷ d ∷ cs) h = or_of P (c ∷ d ∷ cs) h
 
-  boolean_test : {C : Language CondText} → Keeps P C (IsCondOf P) → Keeps P (BooleanTest C) (IsCondOf P)
+  boolean_test : {C : Language CondNode} → Keeps P C (IsCondOf P) → Keeps P (BooleanTest C) (IsCondOf P)
   boolean_test inner = keeps_union (keeps_inside inner) (keeps_made tested (IsCondOf P) predicate_of (λ t q. test_of P t q))
 
-  condition_of : {T : Language CondText} → Keeps P T (IsCondOf P) → Keeps P (ConditionOf T) (IsCondOf P)
+  condition_of : {T : Language CondNode} → Keeps P T (IsCondOf P) → Keeps P (ConditionOf T) (IsCondOf P)
   condition_of test =
       let factor = keeps_made negate (IsCondOf P) (keeps_then (keeps_any {L = Negation}) test) (λ parts q. negate_keeps parts.0 parts.1 q.1) in
       let term = keeps_made all_of (IsCondOf P) (keeps_listed terminal.And factor) all_of_keeps in
@@ -113,8 +113,8 @@ module _ (P : Lexeme → Type 0) where
       (keeps_then (keeps_maybe (keeps_behind terminal.Where search_condition)) (keeps_maybe (keeps_word P terminal.Semicolon)))))))
       (λ parts q. (q.1.0, q.1.1.1.0, q.1.1.1.1.0))
 
-pub from_text : (tokens : List Lexeme) (tree : QueryText) → QuerySpecification tokens tree → IsQueryOf (Contains tokens) tree
+pub from_text : (tokens : List Lexeme) (tree : QueryNode) → QuerySpecification tokens tree → IsQueryOf (Contains tokens) tree
 from_text tokens tree l = kept_of_text IsQueryOf query_of tokens tree l
 
-pub is_query_of : (P : Lexeme → Type 0) (tokens : List Lexeme) (tree : QueryText) → QuerySpecification tokens tree → All P tokens → IsQueryOf P tree
+pub is_query_of : (P : Lexeme → Type 0) (tokens : List Lexeme) (tree : QueryNode) → QuerySpecification tokens tree → All P tokens → IsQueryOf P tree
 is_query_of P tokens tree l h = (query_of P).kept tokens tree l h

@@ -9,38 +9,38 @@ use Rattle.ll_grammars.specs.Rules.{all, second, word, listed}
 use Rattle.ll_grammars.proofs.Steps.{then_shape, either_shape}
 use Rattle.ll_grammars.proofs.Otherwise.{otherwise_shape, otherwise}
 use Rattle.ll_grammars.proofs.Combined.{row, value, choice, repeat, a_word, word_shape, next_shape, listed_shape, reads_same}
-use Rattle.query_grammar.specs.declared.tree.ColumnText.{ColumnText}
-use Rattle.query_grammar.specs.declared.tree.OutText.{OutText}
-use Rattle.query_grammar.specs.declared.tree.OutText.TheVariants as out
+use Rattle.query_grammar.specs.declared.tree.ColumnNode.{ColumnNode}
+use Rattle.query_grammar.specs.declared.tree.OutNode.{OutNode}
+use Rattle.query_grammar.specs.declared.tree.OutNode.TheVariants as out
 use Rattle.query_grammar.specs.Values.{column, one_column, everything, these_outs}
 use Rattle.query_grammar.specs.Grammar.{Name, NewName, SelectSublist, SelectList}
 use Rattle.query_grammar.specs.Readers.{applied, star_of, qualified, plain, read_dotted_out, read_out, read_next_out, read_listed_outs, read_outs}
 use Rattle.query_grammar.proofs.OperandRules.{name_shape, new_name_shape, reads_name, reads_new_name}
 
-abbrev BehindDot : Language (Lexeme → OutText)
+abbrev BehindDot : Language (Lexeme → OutNode)
 BehindDot = made star_of (word terminal.Star)
     ∪ made qualified (Name ▸ NewName)
 
-abbrev Dotted : Language (Lexeme → OutText)
+abbrev Dotted : Language (Lexeme → OutNode)
 Dotted = made second (word terminal.Dot ▸ BehindDot)
 
-abbrev Behind : Language (Lexeme → OutText)
+abbrev Behind : Language (Lexeme → OutNode)
 Behind = Dotted ∪ made plain NewName
 
-abbrev Factored : Language OutText
+abbrev Factored : Language OutNode
 Factored = made applied (Name ▸ Behind)
 
-to_outs : (text : List Lexeme) (v : OutText) → Factored text v → SelectSublist text v
+to_outs : (text : List Lexeme) (v : OutNode) → Factored text v → SelectSublist text v
 to_outs text v l = at l.2.second where
-  behind_dot : (parts : Lexeme × (Lexeme → OutText)) → parts.1 ≡ l.0.1 → (t : Then (word terminal.Dot) BehindDot l.2.rest parts) → BehindDot t.rest parts.1 → SelectSublist text v
+  behind_dot : (parts : Lexeme × (Lexeme → OutNode)) → parts.1 ≡ l.0.1 → (t : Then (word terminal.Dot) BehindDot l.2.rest parts) → BehindDot t.rest parts.1 → SelectSublist text v
   behind_dot parts e t (inl s) = inl (
     (l.0.0, (parts.0, s.0)),
-    ap (λ (f : Lexeme → OutText). f l.0.0) (s.1 ∙ e) ∙ l.1,
+    ap (λ (f : Lexeme → OutNode). f l.0.0) (s.1 ∙ e) ∙ l.1,
     record { front = l.2.front; rest = l.2.rest; whole = l.2.whole; first = l.2.first; second = record { front = t.front; rest = t.rest; whole = t.whole; first = t.first; second = s.2 } },
   )
   behind_dot parts e t (inr m) = let u = m.2 in inr (
     (record { table = Some l.0.0; column = m.0.0 }, m.0.1),
-    ap (λ (f : Lexeme → OutText). f l.0.0) (m.1 ∙ e) ∙ l.1,
+    ap (λ (f : Lexeme → OutNode). f l.0.0) (m.1 ∙ e) ∙ l.1,
     record {
       front = l.2.front ++ (t.front ++ u.front);
       rest = u.rest;
@@ -58,7 +58,7 @@ to_outs text v l = at l.2.second where
   at (inl m) = behind_dot m.0 m.1 m.2 m.2.second
   at (inr m) = inr (
     (record { table = None; column = l.0.0 }, m.0),
-    ap (λ (f : Lexeme → OutText). f l.0.0) m.1 ∙ l.1,
+    ap (λ (f : Lexeme → OutNode). f l.0.0) m.1 ∙ l.1,
     record {
       front = l.2.front;
       rest = l.2.rest;
@@ -69,7 +69,7 @@ to_outs text v l = at l.2.second where
   )
 
 -- a column and its new name
-from_column : (text front rest : List Lexeme) (c : ColumnText) (new : Option Lexeme) (v : OutText) → one_column (c, new) ≡ v → text ≡ front ++ rest → NewName rest new
+from_column : (text front rest : List Lexeme) (c : ColumnNode) (new : Option Lexeme) (v : OutNode) → one_column (c, new) ≡ v → text ≡ front ++ rest → NewName rest new
     → (name : Lexeme) (other : Option Lexeme) → column (name, other) ≡ c → Then Name (maybe (made second (word terminal.Dot ▸ Name))) front (name, other) → Factored text v
 from_column text front rest c new v e whole l name None made_ t = (
   (name, plain new),
@@ -107,7 +107,7 @@ from_column text front rest c new v e whole l name (Some other) made_ t =
       },
     )
 
-from_outs : (text : List Lexeme) (v : OutText) → SelectSublist text v → Factored text v
+from_outs : (text : List Lexeme) (v : OutNode) → SelectSublist text v → Factored text v
 from_outs text v (inl l) =
     let t = l.2.second in (
       (l.0.0, star_of l.0.1.1),

@@ -8,47 +8,47 @@ use Rattle.ll_grammars.specs.Reads.{FirstAndFollow, Reads}
 use Rattle.ll_grammars.specs.Rules.{word}
 use Rattle.ll_grammars.proofs.Steps.{then_shape, either_shape}
 use Rattle.ll_grammars.proofs.Combined.{row, value, choice, a_word, word_shape, reads_same}
-use Rattle.query_grammar.specs.declared.tree.OperandText.{OperandText}
-use Rattle.query_grammar.specs.declared.tree.TestText.{TestText}
+use Rattle.query_grammar.specs.declared.tree.OperandNode.{OperandNode}
+use Rattle.query_grammar.specs.declared.tree.TestNode.{TestNode}
 use Rattle.query_grammar.specs.Values.{tested}
 use Rattle.query_grammar.specs.Grammar.{Operand, ComparisonOperator, Negation, InValueList, Predicate}
 use Rattle.query_grammar.specs.Readers.{applied, compare, ranged, listed_in, read_predicate, read_flat}
 use Rattle.query_grammar.proofs.OperandRules.{operand_shape, operator_shape, negation_shape, value_list_shape, reads_operand, reads_operator, reads_negation, reads_value_list}
 
-abbrev BehindNot : Language (Bool → OperandText → TestText)
+abbrev BehindNot : Language (Bool → OperandNode → TestNode)
 BehindNot = made ranged (word terminal.Between ▸ Operand ▸ word terminal.And ▸ Operand)
     ∪ made listed_in (word terminal.In ▸ InValueList)
 
-abbrev Behind : Language (OperandText → TestText)
+abbrev Behind : Language (OperandNode → TestNode)
 Behind = made compare (ComparisonOperator ▸ Operand)
     ∪ made applied (Negation ▸ BehindNot)
 
-abbrev Factored : Language TestText
+abbrev Factored : Language TestNode
 Factored = made applied (Operand ▸ Behind)
 
-to_predicates : (text : List Lexeme) (v : TestText) → Factored text v → Predicate text v
+to_predicates : (text : List Lexeme) (v : TestNode) → Factored text v → Predicate text v
 to_predicates text v l = at l.2.second where
-  behind_not : (parts : Bool × (Bool → OperandText → TestText)) → applied parts ≡ l.0.1 → (t : Then Negation BehindNot l.2.rest parts) → BehindNot t.rest parts.1 → Predicate text v
+  behind_not : (parts : Bool × (Bool → OperandNode → TestNode)) → applied parts ≡ l.0.1 → (t : Then Negation BehindNot l.2.rest parts) → BehindNot t.rest parts.1 → Predicate text v
   behind_not parts e t (inl b) = inr (inl (
     (l.0.0, (parts.0, b.0)),
-    ap (λ (g : Bool → OperandText → TestText). g parts.0 l.0.0) b.1 ∙ ap (λ (f : OperandText → TestText). f l.0.0) e ∙ l.1,
+    ap (λ (g : Bool → OperandNode → TestNode). g parts.0 l.0.0) b.1 ∙ ap (λ (f : OperandNode → TestNode). f l.0.0) e ∙ l.1,
     record { front = l.2.front; rest = l.2.rest; whole = l.2.whole; first = l.2.first; second = record { front = t.front; rest = t.rest; whole = t.whole; first = t.first; second = b.2 } },
   ))
   behind_not parts e t (inr b) = inr (inr (
     (l.0.0, (parts.0, b.0)),
-    ap (λ (g : Bool → OperandText → TestText). g parts.0 l.0.0) b.1 ∙ ap (λ (f : OperandText → TestText). f l.0.0) e ∙ l.1,
+    ap (λ (g : Bool → OperandNode → TestNode). g parts.0 l.0.0) b.1 ∙ ap (λ (f : OperandNode → TestNode). f l.0.0) e ∙ l.1,
     record { front = l.2.front; rest = l.2.rest; whole = l.2.whole; first = l.2.first; second = record { front = t.front; rest = t.rest; whole = t.whole; first = t.first; second = b.2 } },
   ))
 
   at : Behind l.2.rest l.0.1 → Predicate text v
-  at (inl m) = inl ((l.0.0, m.0), ap (λ (f : OperandText → TestText). f l.0.0) m.1 ∙ l.1, record { front = l.2.front; rest = l.2.rest; whole = l.2.whole; first = l.2.first; second = m.2 })
+  at (inl m) = inl ((l.0.0, m.0), ap (λ (f : OperandNode → TestNode). f l.0.0) m.1 ∙ l.1, record { front = l.2.front; rest = l.2.rest; whole = l.2.whole; first = l.2.first; second = m.2 })
   at (inr m) = behind_not m.0 m.1 m.2 m.2.second
 
-from_predicates : (text : List Lexeme) (v : TestText) → Predicate text v → Factored text v
+from_predicates : (text : List Lexeme) (v : TestNode) → Predicate text v → Factored text v
 from_predicates text v (inl l) = ((l.0.0, compare l.0.1), l.1, record { front = l.2.front; rest = l.2.rest; whole = l.2.whole; first = l.2.first; second = inl (l.0.1, refl, l.2.second) })
 from_predicates text v (inr (inl l)) =
     let t = l.2.second in
-    let parts : Bool × (Bool → OperandText → TestText) = (l.0.1.0, ranged l.0.1.1) in (
+    let parts : Bool × (Bool → OperandNode → TestNode) = (l.0.1.0, ranged l.0.1.1) in (
       (l.0.0, applied parts),
       l.1,
       record {
@@ -61,7 +61,7 @@ from_predicates text v (inr (inl l)) =
     )
 from_predicates text v (inr (inr l)) =
     let t = l.2.second in
-    let parts : Bool × (Bool → OperandText → TestText) = (l.0.1.0, listed_in l.0.1.1) in (
+    let parts : Bool × (Bool → OperandNode → TestNode) = (l.0.1.0, listed_in l.0.1.1) in (
       (l.0.0, applied parts),
       l.1,
       record {

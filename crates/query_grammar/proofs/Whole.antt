@@ -10,8 +10,8 @@ use Rattle.ll_grammars.specs.Places.{IsSyntaxPlace}
 use Rattle.ll_grammars.proofs.Combined.{a_word, option}
 use Rattle.ll_grammars.proofs.Alike.{AreAlikeOn, StaysIn, itself_alike, stays, then_alike, made_alike, maybe_alike, many_alike}
 use Rattle.ll_grammars.proofs.Ends as ends
-use Rattle.query_grammar.specs.declared.tree.CondText.{CondText}
-use Rattle.query_grammar.specs.declared.tree.QueryText.{QueryText}
+use Rattle.query_grammar.specs.declared.tree.CondNode.{CondNode}
+use Rattle.query_grammar.specs.declared.tree.QueryNode.{QueryNode}
 use Rattle.query_grammar.specs.Values.{join, part, query}
 use Rattle.query_grammar.specs.Nesting.{nesting}
 use Rattle.query_grammar.specs.Grammar.{QuerySpecification}
@@ -40,10 +40,10 @@ module _ (n : ℕ) where
   abbrev P : List Lexeme → Type 0
   P = Shallow n
 
-  abbrev c : Parser CondText
+  abbrev c : Parser CondNode
   c = read_within n
 
-  abbrev d : Parser CondText
+  abbrev d : Parser CondNode
   d = read_condition
 
   condition_alike : AreAlikeOn P c d
@@ -93,18 +93,18 @@ module _ (n : ℕ) where
 
 -- ---- the answers
 
-pub spelled : (n : ℕ) (tokens : List Lexeme) (q : QueryText) (rest : List Lexeme) → nesting tokens ≤ n → read_query (read_within n) tokens ≡ (Some q, rest) → is_empty rest ≡ true → QuerySpecification tokens q
+pub spelled : (n : ℕ) (tokens : List Lexeme) (q : QueryNode) (rest : List Lexeme) → nesting tokens ≤ n → read_query (read_within n) tokens ≡ (Some q, rest) → is_empty rest ≡ true → QuerySpecification tokens q
 spelled n tokens q rest shallow e h = ends.spelled reads_queries tokens q rest (sym (query_alike n tokens shallow) ∙ e) h
 
-pub wrong_after : (n : ℕ) (tokens : List Lexeme) (q : QueryText) (rest : List Lexeme) (text_len at : ℕ) → nesting tokens ≤ n → read_query (read_within n) tokens ≡ (Some q, rest) → is_empty rest ≡ false → at ≡ place rest text_len
+pub wrong_after : (n : ℕ) (tokens : List Lexeme) (q : QueryNode) (rest : List Lexeme) (text_len at : ℕ) → nesting tokens ≤ n → read_query (read_within n) tokens ≡ (Some q, rest) → is_empty rest ≡ false → at ≡ place rest text_len
     → IsSyntaxPlace QuerySpecification tokens text_len at
 wrong_after n tokens q rest text_len at shallow e h here = ends.wrong_after reads_queries tokens q rest text_len at (sym (query_alike n tokens shallow) ∙ e) h here
 
 pub wrong_at : (n : ℕ) (tokens rest : List Lexeme) (text_len at : ℕ) → nesting tokens ≤ n → read_query (read_within n) tokens ≡ (None, rest) → at ≡ place rest text_len → IsSyntaxPlace QuerySpecification tokens text_len at
 wrong_at n tokens rest text_len at shallow e here = ends.wrong_at reads_queries tokens rest text_len at (sym (query_alike n tokens shallow) ∙ e) here
 
-pub all_found : (n : ℕ) (tokens : List Lexeme) (q : QueryText) → nesting tokens ≤ n → QuerySpecification tokens q → read_query (read_within n) tokens ≡ (Some q, [])
+pub all_found : (n : ℕ) (tokens : List Lexeme) (q : QueryNode) → nesting tokens ≤ n → QuerySpecification tokens q → read_query (read_within n) tokens ≡ (Some q, [])
 all_found n tokens q shallow l = query_alike n tokens shallow ∙ ends.all_found reads_queries tokens q l
 
-pub one_query : (tokens : List Lexeme) (a b : QueryText) → QuerySpecification tokens a → QuerySpecification tokens b → a ≡ b
+pub one_query : (tokens : List Lexeme) (a b : QueryNode) → QuerySpecification tokens a → QuerySpecification tokens b → a ≡ b
 one_query tokens a b l m = ends.at_most_one reads_queries tokens a b l m

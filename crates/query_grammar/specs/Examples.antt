@@ -3,25 +3,25 @@ use Rattle.std.specs.Prelude.{ℕ, Some, None, List, [], ◌∷◌}
 use Rattle.ll_grammars.specs.declared.lexeme.Lexeme.{Lexeme}
 use Rattle.ll_grammars.specs.declared.terminal.Terminal.{Terminal}
 use Rattle.ll_grammars.specs.declared.terminal.Terminal.TheVariants as terminal
-use Rattle.query_grammar.specs.declared.tree.LiteralText.TheVariants as literal
-use Rattle.query_grammar.specs.declared.tree.OperandText.TheVariants as operand
+use Rattle.query_grammar.specs.declared.tree.LiteralNode.TheVariants as literal
+use Rattle.query_grammar.specs.declared.tree.OperandNode.TheVariants as operand
 use Rattle.query_grammar.specs.declared.tree.Op.TheVariants as op
-use Rattle.query_grammar.specs.declared.tree.TestText.TheVariants as test
-use Rattle.query_grammar.specs.declared.tree.CondText.{CondText}
-use Rattle.query_grammar.specs.declared.tree.CondText.TheVariants as cond
-use Rattle.query_grammar.specs.declared.tree.OutsText.TheVariants as outs
-use Rattle.query_grammar.specs.declared.tree.QueryText.{QueryText}
+use Rattle.query_grammar.specs.declared.tree.TestNode.TheVariants as test
+use Rattle.query_grammar.specs.declared.tree.CondNode.{CondNode}
+use Rattle.query_grammar.specs.declared.tree.CondNode.TheVariants as cond
+use Rattle.query_grammar.specs.declared.tree.OutsNode.TheVariants as outs
+use Rattle.query_grammar.specs.declared.tree.QueryNode.{QueryNode}
 
 abbrev pub token : Terminal → ℕ → ℕ → Lexeme
 token t start end = record { terminal = t; start = start; end = end }
 
 -- name = number
-abbrev pub equals : Lexeme → Lexeme → CondText
+abbrev pub equals : Lexeme → Lexeme → CondNode
 equals name number =
     cond.Test (test.Compare (operand.Column (record { table = None; column = name })) op.Eq (operand.Literal (literal.Number None number)))
 
 -- SELECT * FROM source WHERE c
-abbrev pub all_where : Lexeme → CondText → QueryText
+abbrev pub all_where : Lexeme → CondNode → QueryNode
 all_where source c =
     record { outs = outs.All; parts = record { first = record { table = source; alias = None }; joins = [] } ∷ []; filter = Some c }
 
@@ -34,7 +34,7 @@ precedence =
     ∷ token terminal.Not 37 40 ∷ token terminal.Name 41 42 ∷ token terminal.Equal 42 43 ∷ token terminal.Number 43 44 ∷ []
 
 -- AND binds tighter than OR, and NOT covers the one test behind it
-abbrev pub precedence_tree : QueryText
+abbrev pub precedence_tree : QueryNode
 precedence_tree =
     all_where (token terminal.Name 14 15) (cond.Or (equals (token terminal.Name 22 23) (token terminal.Number 24 25)
     ∷ cond.And (equals (token terminal.Name 29 30) (token terminal.Number 31 32)
@@ -50,7 +50,7 @@ grouped =
     ∷ token terminal.Close 33 34 ∷ token terminal.And 35 38 ∷ token terminal.Name 39 40 ∷ token terminal.Equal 40 41
     ∷ token terminal.Number 41 42 ∷ []
 
-abbrev pub grouped_tree : QueryText
+abbrev pub grouped_tree : QueryNode
 grouped_tree =
     all_where (token terminal.Name 14 15) (cond.And (cond.Or (equals (token terminal.Name 23 24) (token terminal.Number 25 26)
     ∷ equals (token terminal.Name 30 31) (token terminal.Number 32 33) ∷ [])

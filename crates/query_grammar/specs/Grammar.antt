@@ -5,19 +5,19 @@ use Rattle.ll_grammars.specs.declared.terminal.Terminal.{Terminal}
 use Rattle.ll_grammars.specs.declared.terminal.Terminal.TheVariants as terminal
 use Rattle.ll_grammars.specs.Language.{Language, one, ◌▸◌, made, ◌∪◌, maybe, many}
 use Rattle.ll_grammars.specs.Rules.{second, word, listed, in_parentheses}
-use Rattle.query_grammar.specs.declared.tree.ColumnText.{ColumnText}
-use Rattle.query_grammar.specs.declared.tree.LiteralText.{LiteralText}
-use Rattle.query_grammar.specs.declared.tree.OperandText.{OperandText}
+use Rattle.query_grammar.specs.declared.tree.ColumnNode.{ColumnNode}
+use Rattle.query_grammar.specs.declared.tree.LiteralNode.{LiteralNode}
+use Rattle.query_grammar.specs.declared.tree.OperandNode.{OperandNode}
 use Rattle.query_grammar.specs.declared.tree.Op.{Op}
 use Rattle.query_grammar.specs.declared.tree.Op.TheVariants as op
-use Rattle.query_grammar.specs.declared.tree.TestText.{TestText}
-use Rattle.query_grammar.specs.declared.tree.CondText.{CondText}
-use Rattle.query_grammar.specs.declared.tree.SourceText.{SourceText}
-use Rattle.query_grammar.specs.declared.tree.JoinText.{JoinText}
-use Rattle.query_grammar.specs.declared.tree.PartText.{PartText}
-use Rattle.query_grammar.specs.declared.tree.OutText.{OutText}
-use Rattle.query_grammar.specs.declared.tree.OutsText.{OutsText}
-use Rattle.query_grammar.specs.declared.tree.QueryText.{QueryText}
+use Rattle.query_grammar.specs.declared.tree.TestNode.{TestNode}
+use Rattle.query_grammar.specs.declared.tree.CondNode.{CondNode}
+use Rattle.query_grammar.specs.declared.tree.SourceNode.{SourceNode}
+use Rattle.query_grammar.specs.declared.tree.JoinedNode.{JoinedNode}
+use Rattle.query_grammar.specs.declared.tree.PartNode.{PartNode}
+use Rattle.query_grammar.specs.declared.tree.OutNode.{OutNode}
+use Rattle.query_grammar.specs.declared.tree.OutsNode.{OutsNode}
+use Rattle.query_grammar.specs.declared.tree.QueryNode.{QueryNode}
 use Rattle.query_grammar.specs.Values.{stands, meaning, column, number, text, of_column, of_literal, comparison, between, among_values, tested, negate, all_of, any_of, source, join, part, all_columns, one_column, everything, these_outs, query}
 
 -- KEY, NO, ACTION and CASCADE are names here
@@ -40,18 +40,18 @@ abbrev pub NewName : Language (Option Lexeme)
 NewName = maybe (made second (maybe (word terminal.As) ▸ Name))
 
 -- name [ "." name ]
-abbrev pub ColumnReference : Language ColumnText
+abbrev pub ColumnReference : Language ColumnNode
 ColumnReference = made column (Name ▸ maybe (made second (word terminal.Dot ▸ Name)))
 
 -- [ "+" | "-" ] Number | Text
-abbrev pub Literal : Language LiteralText
+abbrev pub Literal : Language LiteralNode
 Literal = made number (maybe (one sign_terminals) ▸ one digit_terminals)
     ∪ made text (word terminal.Text)
 
 -- ---- tests
 
 -- colref | literal
-abbrev pub Operand : Language OperandText
+abbrev pub Operand : Language OperandNode
 Operand = made of_column ColumnReference
     ∪ made of_literal Literal
 
@@ -69,32 +69,32 @@ abbrev pub Negation : Language Bool
 Negation = made stands (maybe (word terminal.Not))
 
 -- "(" literal { "," literal } ")"
-abbrev pub InValueList : Language (List LiteralText)
+abbrev pub InValueList : Language (List LiteralNode)
 InValueList = in_parentheses (listed terminal.Comma Literal)
 
 -- operand op operand | operand [ NOT ] BETWEEN operand AND operand | operand [ NOT ] IN "(" literal { "," literal } ")"
-abbrev pub Predicate : Language TestText
+abbrev pub Predicate : Language TestNode
 Predicate = made comparison (Operand ▸ ComparisonOperator ▸ Operand)
     ∪ made between (Operand ▸ Negation ▸ word terminal.Between ▸ Operand ▸ word terminal.And ▸ Operand)
     ∪ made among_values (Operand ▸ Negation ▸ word terminal.In ▸ InValueList)
 
 -- "(" cond ")" or a predicate, where conditions are the texts of C
-abbrev pub BooleanTest : Language CondText → Language CondText
+abbrev pub BooleanTest : Language CondNode → Language CondNode
 BooleanTest C = in_parentheses C
     ∪ made tested Predicate
 
 -- ---- conditions, where tests are the texts of T
 
 -- [ NOT ] test
-abbrev pub BooleanFactor : Language CondText → Language CondText
+abbrev pub BooleanFactor : Language CondNode → Language CondNode
 BooleanFactor T = made negate (Negation ▸ T)
 
 -- factor { AND factor }
-abbrev pub BooleanTerm : Language CondText → Language CondText
+abbrev pub BooleanTerm : Language CondNode → Language CondNode
 BooleanTerm T = made all_of (listed terminal.And (BooleanFactor T))
 
 -- term { OR term }
-abbrev pub ConditionOf : Language CondText → Language CondText
+abbrev pub ConditionOf : Language CondNode → Language CondNode
 ConditionOf T = made any_of (listed terminal.Or (BooleanTerm T))
 
 -- no text at all
@@ -102,47 +102,47 @@ abbrev pub Nothing : {A : Type 0} → Language A
 Nothing text value = ⊥
 
 -- the tests with at most so many parentheses, one within the other, around conditions
-abbrev pub TestWithin : ℕ → Language CondText
+abbrev pub TestWithin : ℕ → Language CondNode
 TestWithin zero = BooleanTest Nothing
 TestWithin (suc n) = BooleanTest (ConditionOf (TestWithin n))
 
 -- the conditions, with any number of parentheses
-unfoldable pub SearchCondition : Language CondText
+unfoldable pub SearchCondition : Language CondNode
 SearchCondition text value = (n : ℕ) × ConditionOf (TestWithin n) text value
 
 -- ---- queries, where conditions are the texts of C
 
 -- name [ [ AS ] name ]
-abbrev pub TableReference : Language SourceText
+abbrev pub TableReference : Language SourceNode
 TableReference = made source (Name ▸ NewName)
 
 -- [ INNER ] JOIN source ON cond
-abbrev pub QualifiedJoin : Language CondText → Language JoinText
+abbrev pub QualifiedJoin : Language CondNode → Language JoinedNode
 QualifiedJoin C = made join (maybe (word terminal.Inner) ▸ word terminal.Join ▸ TableReference ▸ word terminal.On ▸ C)
 
 -- source { [ INNER ] JOIN source ON cond }
-abbrev pub FromPart : Language CondText → Language PartText
+abbrev pub FromPart : Language CondNode → Language PartNode
 FromPart C = made part (TableReference ▸ many (QualifiedJoin C))
 
 -- name "." "*" | colref [ [ AS ] name ]
-abbrev pub SelectSublist : Language OutText
+abbrev pub SelectSublist : Language OutNode
 SelectSublist = made all_columns (Name ▸ word terminal.Dot ▸ word terminal.Star)
     ∪ made one_column (ColumnReference ▸ NewName)
 
 -- "*" | out { "," out }
-abbrev pub SelectList : Language OutsText
+abbrev pub SelectList : Language OutsNode
 SelectList = made everything (word terminal.Star)
     ∪ made these_outs (listed terminal.Comma SelectSublist)
 
 -- [ WHERE cond ]
-abbrev pub WhereClause : Language CondText → Language (Option CondText)
+abbrev pub WhereClause : Language CondNode → Language (Option CondNode)
 WhereClause C = maybe (made second (word terminal.Where ▸ C))
 
 -- SELECT outs FROM part { "," part } [ WHERE cond ] [ ";" ]
-abbrev pub QueryOf : Language CondText → Language QueryText
+abbrev pub QueryOf : Language CondNode → Language QueryNode
 QueryOf C =
     made query (word terminal.Select ▸ SelectList
     ▸ word terminal.From ▸ listed terminal.Comma (FromPart C) ▸ WhereClause C ▸ maybe (word terminal.Semicolon))
 
-unfoldable pub QuerySpecification : Language QueryText
+unfoldable pub QuerySpecification : Language QueryNode
 QuerySpecification = QueryOf SearchCondition

@@ -6,21 +6,21 @@ use Rattle.ll_grammars.specs.declared.terminal.Terminal.{Terminal}
 use Rattle.ll_grammars.specs.declared.terminal.Terminal.TheVariants as terminal
 use Rattle.ll_grammars.specs.Reading.{Parser, read_one, read_then, read_made, read_either, read_maybe, read_many}
 use Rattle.ll_grammars.specs.Rules.{all, second, read_word, read_in_parentheses}
-use Rattle.query_grammar.specs.declared.tree.ColumnText.{ColumnText}
-use Rattle.query_grammar.specs.declared.tree.LiteralText.{LiteralText}
-use Rattle.query_grammar.specs.declared.tree.OperandText.{OperandText}
+use Rattle.query_grammar.specs.declared.tree.ColumnNode.{ColumnNode}
+use Rattle.query_grammar.specs.declared.tree.LiteralNode.{LiteralNode}
+use Rattle.query_grammar.specs.declared.tree.OperandNode.{OperandNode}
 use Rattle.query_grammar.specs.declared.tree.Op.{Op}
 use Rattle.query_grammar.specs.declared.tree.Op.TheVariants as op
-use Rattle.query_grammar.specs.declared.tree.TestText.{TestText}
-use Rattle.query_grammar.specs.declared.tree.TestText.TheVariants as test
-use Rattle.query_grammar.specs.declared.tree.CondText.{CondText}
-use Rattle.query_grammar.specs.declared.tree.SourceText.{SourceText}
-use Rattle.query_grammar.specs.declared.tree.JoinText.{JoinText}
-use Rattle.query_grammar.specs.declared.tree.PartText.{PartText}
-use Rattle.query_grammar.specs.declared.tree.OutText.{OutText}
-use Rattle.query_grammar.specs.declared.tree.OutText.TheVariants as out
-use Rattle.query_grammar.specs.declared.tree.OutsText.{OutsText}
-use Rattle.query_grammar.specs.declared.tree.QueryText.{QueryText}
+use Rattle.query_grammar.specs.declared.tree.TestNode.{TestNode}
+use Rattle.query_grammar.specs.declared.tree.TestNode.TheVariants as test
+use Rattle.query_grammar.specs.declared.tree.CondNode.{CondNode}
+use Rattle.query_grammar.specs.declared.tree.SourceNode.{SourceNode}
+use Rattle.query_grammar.specs.declared.tree.JoinedNode.{JoinedNode}
+use Rattle.query_grammar.specs.declared.tree.PartNode.{PartNode}
+use Rattle.query_grammar.specs.declared.tree.OutNode.{OutNode}
+use Rattle.query_grammar.specs.declared.tree.OutNode.TheVariants as out
+use Rattle.query_grammar.specs.declared.tree.OutsNode.{OutsNode}
+use Rattle.query_grammar.specs.declared.tree.QueryNode.{QueryNode}
 use Rattle.query_grammar.specs.Values.{stands, meaning, column, number, text, of_column, of_literal, tested, negate, all_of, any_of, source, join, part, everything, these_outs, query}
 use Rattle.query_grammar.specs.Nesting.{nesting}
 use Rattle.query_grammar.specs.Grammar.{name_terminals, sign_terminals, digit_terminals}
@@ -31,27 +31,27 @@ abbrev pub applied : {A B : Type 0} → A × (A → B) → B
 applied parts = parts.1 parts.0
 
 -- operator, operand
-abbrev pub compare : Op × OperandText → OperandText → TestText
+abbrev pub compare : Op × OperandNode → OperandNode → TestNode
 compare parts left = test.Compare left parts.0 parts.1
 
 -- BETWEEN, the lower end, AND, the upper end
-abbrev pub ranged : Lexeme × (OperandText × (Lexeme × OperandText)) → Bool → OperandText → TestText
+abbrev pub ranged : Lexeme × (OperandNode × (Lexeme × OperandNode)) → Bool → OperandNode → TestNode
 ranged parts negated operand = test.Between operand negated parts.1.0 parts.1.1.1
 
 -- IN, the values
-abbrev pub listed_in : Lexeme × List LiteralText → Bool → OperandText → TestText
+abbrev pub listed_in : Lexeme × List LiteralNode → Bool → OperandNode → TestNode
 listed_in parts negated operand = test.In operand negated parts.1
 
 -- the dot's star
-abbrev pub star_of : Lexeme → Lexeme → OutText
+abbrev pub star_of : Lexeme → Lexeme → OutNode
 star_of star table = out.All table
 
 -- the column's name, the new name
-abbrev pub qualified : Lexeme × Option Lexeme → Lexeme → OutText
+abbrev pub qualified : Lexeme × Option Lexeme → Lexeme → OutNode
 qualified parts table = out.Column (record { table = Some table; column = parts.0 }) parts.1
 
 -- the new name
-abbrev pub plain : Option Lexeme → Lexeme → OutText
+abbrev pub plain : Option Lexeme → Lexeme → OutNode
 plain name column = out.Column (record { table = None; column = column }) name
 
 -- ---- first terminals
@@ -83,18 +83,18 @@ read_new_name = read_maybe new_name_first read_other_name
 unfoldable pub read_dotted_name : Parser Lexeme
 read_dotted_name = read_made second (read_then (read_word terminal.Dot) read_name)
 
-unfoldable pub read_column : Parser ColumnText
+unfoldable pub read_column : Parser ColumnNode
 read_column = read_made column (read_then read_name (read_maybe (terminal.Dot ∷ []) read_dotted_name))
 
-unfoldable pub read_number : Parser LiteralText
+unfoldable pub read_number : Parser LiteralNode
 read_number = read_made number (read_then (read_maybe sign_terminals (read_one sign_terminals)) (read_one digit_terminals))
 
-unfoldable pub read_literal : Parser LiteralText
+unfoldable pub read_literal : Parser LiteralNode
 read_literal = read_either number_first read_number (read_made text (read_word terminal.Text))
 
 -- ---- tests
 
-unfoldable pub read_operand : Parser OperandText
+unfoldable pub read_operand : Parser OperandNode
 read_operand = read_either name_terminals (read_made of_column read_column) (read_made of_literal read_literal)
 
 abbrev pub read_meaning : Terminal → Op → Parser Op
@@ -111,16 +111,16 @@ read_operator = read_either (terminal.Equal ∷ []) (read_meaning terminal.Equal
 unfoldable pub read_negation : Parser Bool
 read_negation = read_made stands (read_maybe (terminal.Not ∷ []) (read_word terminal.Not))
 
-unfoldable pub read_next_literal : Parser LiteralText
+unfoldable pub read_next_literal : Parser LiteralNode
 read_next_literal = read_made second (read_then (read_word terminal.Comma) read_literal)
 
-unfoldable pub read_literals : Parser (List LiteralText)
+unfoldable pub read_literals : Parser (List LiteralNode)
 read_literals = read_made all (read_then read_literal (read_many (terminal.Comma ∷ []) read_next_literal))
 
-unfoldable pub read_value_list : Parser (List LiteralText)
+unfoldable pub read_value_list : Parser (List LiteralNode)
 read_value_list = read_in_parentheses read_literals
 
-unfoldable pub read_predicate : Parser TestText
+unfoldable pub read_predicate : Parser TestNode
 read_predicate =
     read_made applied (read_then read_operand (read_either operator_terminals
     (read_made compare (read_then read_operator read_operand))
@@ -129,94 +129,94 @@ read_predicate =
     (read_then read_operand (read_then (read_word terminal.And) read_operand))))
     (read_made listed_in (read_then (read_word terminal.In) read_value_list)))))))
 
-unfoldable pub read_flat : Parser CondText
+unfoldable pub read_flat : Parser CondNode
 read_flat = read_made tested read_predicate
 
 -- ---- conditions, where t reads a test
 
-unfoldable pub read_factor : Parser CondText → Parser CondText
+unfoldable pub read_factor : Parser CondNode → Parser CondNode
 read_factor t = read_made negate (read_then read_negation t)
 
-unfoldable pub read_next_factor : Parser CondText → Parser CondText
+unfoldable pub read_next_factor : Parser CondNode → Parser CondNode
 read_next_factor t = read_made second (read_then (read_word terminal.And) (read_factor t))
 
-unfoldable pub read_factors : Parser CondText → Parser (List CondText)
+unfoldable pub read_factors : Parser CondNode → Parser (List CondNode)
 read_factors t = read_made all (read_then (read_factor t) (read_many (terminal.And ∷ []) (read_next_factor t)))
 
-unfoldable pub read_term : Parser CondText → Parser CondText
+unfoldable pub read_term : Parser CondNode → Parser CondNode
 read_term t = read_made all_of (read_factors t)
 
-unfoldable pub read_next_term : Parser CondText → Parser CondText
+unfoldable pub read_next_term : Parser CondNode → Parser CondNode
 read_next_term t = read_made second (read_then (read_word terminal.Or) (read_term t))
 
-unfoldable pub read_terms : Parser CondText → Parser (List CondText)
+unfoldable pub read_terms : Parser CondNode → Parser (List CondNode)
 read_terms t = read_made all (read_then (read_term t) (read_many (terminal.Or ∷ []) (read_next_term t)))
 
-unfoldable pub read_cond : Parser CondText → Parser CondText
+unfoldable pub read_cond : Parser CondNode → Parser CondNode
 read_cond t = read_made any_of (read_terms t)
 
-unfoldable pub read_inside : Parser CondText → Parser CondText
+unfoldable pub read_inside : Parser CondNode → Parser CondNode
 read_inside t = read_in_parentheses (read_cond t)
 
 -- at most so many parentheses, one within the other, are opened
-unfoldable pub read_test : ℕ → Parser CondText
+unfoldable pub read_test : ℕ → Parser CondNode
 read_test zero = read_flat
 read_test (suc n) = read_either (terminal.Open ∷ []) (read_inside (read_test n)) read_flat
 
-unfoldable pub read_within : ℕ → Parser CondText
+unfoldable pub read_within : ℕ → Parser CondNode
 read_within n = read_cond (read_test n)
 
 -- as many as the tokens open at one place
-unfoldable pub read_condition : Parser CondText
+unfoldable pub read_condition : Parser CondNode
 read_condition text = read_within (nesting text) text
 
 -- ---- queries, where c reads a condition
 
-unfoldable pub read_source : Parser SourceText
+unfoldable pub read_source : Parser SourceNode
 read_source = read_made source (read_then read_name read_new_name)
 
-unfoldable pub read_join : Parser CondText → Parser JoinText
+unfoldable pub read_join : Parser CondNode → Parser JoinedNode
 read_join c =
     read_made join (read_then (read_maybe (terminal.Inner ∷ []) (read_word terminal.Inner))
     (read_then (read_word terminal.Join) (read_then read_source (read_then (read_word terminal.On) c))))
 
-unfoldable pub read_joins : Parser CondText → Parser (List JoinText)
+unfoldable pub read_joins : Parser CondNode → Parser (List JoinedNode)
 read_joins c = read_many join_first (read_join c)
 
-unfoldable pub read_part : Parser CondText → Parser PartText
+unfoldable pub read_part : Parser CondNode → Parser PartNode
 read_part c = read_made part (read_then read_source (read_joins c))
 
-unfoldable pub read_next_part : Parser CondText → Parser PartText
+unfoldable pub read_next_part : Parser CondNode → Parser PartNode
 read_next_part c = read_made second (read_then (read_word terminal.Comma) (read_part c))
 
-unfoldable pub read_parts : Parser CondText → Parser (List PartText)
+unfoldable pub read_parts : Parser CondNode → Parser (List PartNode)
 read_parts c = read_made all (read_then (read_part c) (read_many (terminal.Comma ∷ []) (read_next_part c)))
 
-unfoldable pub read_dotted_out : Parser (Lexeme → OutText)
+unfoldable pub read_dotted_out : Parser (Lexeme → OutNode)
 read_dotted_out =
     read_made second (read_then (read_word terminal.Dot) (read_either (terminal.Star ∷ [])
     (read_made star_of (read_word terminal.Star))
     (read_made qualified (read_then read_name read_new_name))))
 
-unfoldable pub read_out : Parser OutText
+unfoldable pub read_out : Parser OutNode
 read_out = read_made applied (read_then read_name (read_either (terminal.Dot ∷ []) read_dotted_out (read_made plain read_new_name)))
 
-unfoldable pub read_next_out : Parser OutText
+unfoldable pub read_next_out : Parser OutNode
 read_next_out = read_made second (read_then (read_word terminal.Comma) read_out)
 
-unfoldable pub read_listed_outs : Parser (List OutText)
+unfoldable pub read_listed_outs : Parser (List OutNode)
 read_listed_outs = read_made all (read_then read_out (read_many (terminal.Comma ∷ []) read_next_out))
 
-unfoldable pub read_outs : Parser OutsText
+unfoldable pub read_outs : Parser OutsNode
 read_outs = read_either (terminal.Star ∷ []) (read_made everything (read_word terminal.Star)) (read_made these_outs read_listed_outs)
 
-unfoldable pub read_condition_behind_where : Parser CondText → Parser CondText
+unfoldable pub read_condition_behind_where : Parser CondNode → Parser CondNode
 read_condition_behind_where c = read_made second (read_then (read_word terminal.Where) c)
 
-unfoldable pub read_filter : Parser CondText → Parser (Option CondText)
+unfoldable pub read_filter : Parser CondNode → Parser (Option CondNode)
 read_filter c = read_maybe (terminal.Where ∷ []) (read_condition_behind_where c)
 
-unfoldable pub read_query : Parser CondText → Parser QueryText
+unfoldable pub read_query : Parser CondNode → Parser QueryNode
 read_query c =
     read_made query (read_then (read_word terminal.Select) (read_then read_outs
     (read_then (read_word terminal.From) (read_then (read_parts c)

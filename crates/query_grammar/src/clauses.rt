@@ -7,23 +7,23 @@ use crate::depth::MAX_NESTING;
 use crate::operands::{name, new_name, optional};
 use crate::outputs::outputs;
 use crate::terminals::{COMMA, FROM, INNER, JOIN, JOIN_FIRST, ON, SELECT, SEMICOLON, WHERE};
-use crate::tree::{CondText, JoinText, PartText, QueryText, SourceText};
+use crate::tree::{CondNode, JoinedNode, PartNode, QueryNode, SourceNode};
 use base_io::Seq;
 use ll_grammars::{Reader, Stop};
 
 /// `name [ [ AS ] name ]`
 #[tactic(auto, unfolding(crate::specs::Readers::read_source))]
-fn source(reader: &mut Reader<'_>) -> Result<SourceText, Stop>
+fn source(reader: &mut Reader<'_>) -> Result<SourceNode, Stop>
     ensures { IsReadAs result reader.new (read_source reader.old) }
 {
     let table = name(reader)?;
     let alias = new_name(reader)?;
-    Ok(SourceText { table, alias })
+    Ok(SourceNode { table, alias })
 }
 
 /// `[ INNER ] JOIN source ON cond`
 #[tactic(auto, unfolding(crate::specs::Readers::read_join))]
-fn join(reader: &mut Reader<'_>) -> Result<JoinText, Stop>
+fn join(reader: &mut Reader<'_>) -> Result<JoinedNode, Stop>
     ensures { IsReadAs result reader.new (read_join (read_within MAX_NESTING) reader.old) }
 {
     optional(reader, INNER)?;
@@ -31,11 +31,11 @@ fn join(reader: &mut Reader<'_>) -> Result<JoinText, Stop>
     let source = source(reader)?;
     reader.one(ON)?;
     let on = condition(reader, MAX_NESTING)?;
-    Ok(JoinText { source, on })
+    Ok(JoinedNode { source, on })
 }
 
 #[tactic(auto, using(ll_grammars::proofs::Loops::many_start), unfolding(crate::specs::Readers::read_joins))]
-fn joins(reader: &mut Reader<'_>) -> Result<Seq<JoinText>, Stop>
+fn joins(reader: &mut Reader<'_>) -> Result<Seq<JoinedNode>, Stop>
     ensures { IsReadAs result reader.new (read_joins (read_within MAX_NESTING) reader.old) }
 {
     let mut joins = Seq::new(reader.allocator());
@@ -48,16 +48,16 @@ fn joins(reader: &mut Reader<'_>) -> Result<Seq<JoinText>, Stop>
 
 /// `source { [ INNER ] JOIN source ON cond }`
 #[tactic(auto, unfolding(crate::specs::Readers::read_part))]
-fn part(reader: &mut Reader<'_>) -> Result<PartText, Stop>
+fn part(reader: &mut Reader<'_>) -> Result<PartNode, Stop>
     ensures { IsReadAs result reader.new (read_part (read_within MAX_NESTING) reader.old) }
 {
     let first = source(reader)?;
     let joins = joins(reader)?;
-    Ok(PartText { first, joins })
+    Ok(PartNode { first, joins })
 }
 
 #[tactic(auto, unfolding(crate::specs::Readers::read_next_part))]
-fn next_part(reader: &mut Reader<'_>) -> Result<PartText, Stop>
+fn next_part(reader: &mut Reader<'_>) -> Result<PartNode, Stop>
     ensures { IsReadAs result reader.new (read_next_part (read_within MAX_NESTING) reader.old) }
 {
     reader.one(COMMA)?;
@@ -65,7 +65,7 @@ fn next_part(reader: &mut Reader<'_>) -> Result<PartText, Stop>
 }
 
 #[tactic(auto, using(ll_grammars::proofs::Loops::listed_start), unfolding(crate::specs::Readers::read_parts))]
-fn parts(reader: &mut Reader<'_>) -> Result<Seq<PartText>, Stop>
+fn parts(reader: &mut Reader<'_>) -> Result<Seq<PartNode>, Stop>
     ensures { IsReadAs result reader.new (read_parts (read_within MAX_NESTING) reader.old) }
 {
     let mut parts = Seq::new(reader.allocator());
@@ -79,7 +79,7 @@ fn parts(reader: &mut Reader<'_>) -> Result<Seq<PartText>, Stop>
 }
 
 #[tactic(auto, unfolding(crate::specs::Readers::read_condition_behind_where))]
-fn condition_behind_where(reader: &mut Reader<'_>) -> Result<CondText, Stop>
+fn condition_behind_where(reader: &mut Reader<'_>) -> Result<CondNode, Stop>
     ensures { IsReadAs result reader.new (read_condition_behind_where (read_within MAX_NESTING) reader.old) }
 {
     reader.one(WHERE)?;
@@ -88,7 +88,7 @@ fn condition_behind_where(reader: &mut Reader<'_>) -> Result<CondText, Stop>
 
 /// `[ WHERE cond ]`
 #[tactic(auto, unfolding(crate::specs::Readers::read_filter))]
-fn filter(reader: &mut Reader<'_>) -> Result<Option<CondText>, Stop>
+fn filter(reader: &mut Reader<'_>) -> Result<Option<CondNode>, Stop>
     ensures { IsReadAs result reader.new (read_filter (read_within MAX_NESTING) reader.old) }
 {
     if reader.starts(WHERE) {
@@ -101,7 +101,7 @@ fn filter(reader: &mut Reader<'_>) -> Result<Option<CondText>, Stop>
 
 /// `SELECT outs FROM part { "," part } [ WHERE cond ] [ ";" ]`
 #[tactic(auto, unfolding(crate::specs::Readers::read_query))]
-pub fn query(reader: &mut Reader<'_>) -> Result<QueryText, Stop>
+pub fn query(reader: &mut Reader<'_>) -> Result<QueryNode, Stop>
     ensures { IsReadAs result reader.new (read_query (read_within MAX_NESTING) reader.old) }
 {
     reader.one(SELECT)?;
@@ -110,7 +110,7 @@ pub fn query(reader: &mut Reader<'_>) -> Result<QueryText, Stop>
     let parts = parts(reader)?;
     let filter = filter(reader)?;
     optional(reader, SEMICOLON)?;
-    Ok(QueryText {
+    Ok(QueryNode {
         outs,
         parts,
         filter,

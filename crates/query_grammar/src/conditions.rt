@@ -7,46 +7,46 @@ ghost use Rattle.query_grammar.specs.Readers.{read_factor, read_next_factor, rea
 
 use crate::predicates::{flat_test, negation};
 use crate::terminals::{AND, CLOSE, OPEN, OR};
-use crate::tree::CondText;
+use crate::tree::CondNode;
 use base_io::{Boxed, Seq};
 use ll_grammars::{Reader, Stop};
 
 /// The AND of conditions, where one alone is itself.
-fn every(mut conditions: Seq<CondText>) -> CondText
+fn every(mut conditions: Seq<CondNode>) -> CondNode
     ensures { result ≡ all_of conditions }
 {
     if conditions.len() == 1 {
         match conditions.pop() {
             Some(condition) => condition,
-            None => CondText::And(conditions),
+            None => CondNode::And(conditions),
         }
     } else {
-        CondText::And(conditions)
+        CondNode::And(conditions)
     }
 }
 
 /// The OR of conditions, where one alone is itself.
-fn any(mut conditions: Seq<CondText>) -> CondText
+fn any(mut conditions: Seq<CondNode>) -> CondNode
     ensures { result ≡ any_of conditions }
 {
     if conditions.len() == 1 {
         match conditions.pop() {
             Some(condition) => condition,
-            None => CondText::Or(conditions),
+            None => CondNode::Or(conditions),
         }
     } else {
-        CondText::Or(conditions)
+        CondNode::Or(conditions)
     }
 }
 
 /// The condition, or NOT of it.
-fn negated_if(reader: &Reader<'_>, negated: bool, condition: CondText) -> Result<CondText, Stop>
+fn negated_if(reader: &Reader<'_>, negated: bool, condition: CondNode) -> Result<CondNode, Stop>
     ensures value { IfOk result (λ c. c ≡ negate (negated, condition)) }
     ensures memory { IfErr result (λ e. e ≡ Stop.NoMemory) }
 {
     if negated {
         let inner = Boxed::new(reader.allocator(), condition)?;
-        Ok(CondText::Not(inner))
+        Ok(CondNode::Not(inner))
     } else {
         Ok(condition)
     }
@@ -54,7 +54,7 @@ fn negated_if(reader: &Reader<'_>, negated: bool, condition: CondText) -> Result
 
 #[cycle(conditions)]
 #[tactic(auto, using(crate::proofs::EnoughDepth::test_zero, crate::proofs::EnoughDepth::test_flat, crate::proofs::EnoughDepth::test_inside))]
-fn test(reader: &mut Reader<'_>, depth: u32) -> Result<CondText, Stop>
+fn test(reader: &mut Reader<'_>, depth: u32) -> Result<CondNode, Stop>
     ensures { IsReadAs result reader.new (read_test depth reader.old) }
 {
     if depth == 0 {
@@ -68,7 +68,7 @@ fn test(reader: &mut Reader<'_>, depth: u32) -> Result<CondText, Stop>
 
 #[cycle(conditions)]
 #[tactic(auto, unfolding(crate::specs::Readers::read_inside))]
-fn inside(reader: &mut Reader<'_>, depth: u32) -> Result<CondText, Stop>
+fn inside(reader: &mut Reader<'_>, depth: u32) -> Result<CondNode, Stop>
     ensures { IsReadAs result reader.new (read_inside (read_test depth) reader.old) }
 {
     reader.one(OPEN)?;
@@ -79,7 +79,7 @@ fn inside(reader: &mut Reader<'_>, depth: u32) -> Result<CondText, Stop>
 
 #[cycle(conditions)]
 #[tactic(auto, unfolding(crate::specs::Readers::read_factor))]
-fn factor(reader: &mut Reader<'_>, depth: u32) -> Result<CondText, Stop>
+fn factor(reader: &mut Reader<'_>, depth: u32) -> Result<CondNode, Stop>
     ensures { IsReadAs result reader.new (read_factor (read_test depth) reader.old) }
 {
     let negated = negation(reader)?;
@@ -89,7 +89,7 @@ fn factor(reader: &mut Reader<'_>, depth: u32) -> Result<CondText, Stop>
 
 #[cycle(conditions)]
 #[tactic(auto, unfolding(crate::specs::Readers::read_next_factor))]
-fn next_factor(reader: &mut Reader<'_>, depth: u32) -> Result<CondText, Stop>
+fn next_factor(reader: &mut Reader<'_>, depth: u32) -> Result<CondNode, Stop>
     ensures { IsReadAs result reader.new (read_next_factor (read_test depth) reader.old) }
 {
     reader.one(AND)?;
@@ -98,7 +98,7 @@ fn next_factor(reader: &mut Reader<'_>, depth: u32) -> Result<CondText, Stop>
 
 #[cycle(conditions)]
 #[tactic(auto, using(ll_grammars::proofs::Loops::listed_start), unfolding(crate::specs::Readers::read_factors))]
-fn factors(reader: &mut Reader<'_>, depth: u32) -> Result<Seq<CondText>, Stop>
+fn factors(reader: &mut Reader<'_>, depth: u32) -> Result<Seq<CondNode>, Stop>
     ensures { IsReadAs result reader.new (read_factors (read_test depth) reader.old) }
 {
     let mut factors = Seq::new(reader.allocator());
@@ -113,7 +113,7 @@ fn factors(reader: &mut Reader<'_>, depth: u32) -> Result<Seq<CondText>, Stop>
 
 #[cycle(conditions)]
 #[tactic(auto, unfolding(crate::specs::Readers::read_term))]
-fn term(reader: &mut Reader<'_>, depth: u32) -> Result<CondText, Stop>
+fn term(reader: &mut Reader<'_>, depth: u32) -> Result<CondNode, Stop>
     ensures { IsReadAs result reader.new (read_term (read_test depth) reader.old) }
 {
     let factors = factors(reader, depth)?;
@@ -122,7 +122,7 @@ fn term(reader: &mut Reader<'_>, depth: u32) -> Result<CondText, Stop>
 
 #[cycle(conditions)]
 #[tactic(auto, unfolding(crate::specs::Readers::read_next_term))]
-fn next_term(reader: &mut Reader<'_>, depth: u32) -> Result<CondText, Stop>
+fn next_term(reader: &mut Reader<'_>, depth: u32) -> Result<CondNode, Stop>
     ensures { IsReadAs result reader.new (read_next_term (read_test depth) reader.old) }
 {
     reader.one(OR)?;
@@ -131,7 +131,7 @@ fn next_term(reader: &mut Reader<'_>, depth: u32) -> Result<CondText, Stop>
 
 #[cycle(conditions)]
 #[tactic(auto, using(ll_grammars::proofs::Loops::listed_start), unfolding(crate::specs::Readers::read_terms))]
-fn terms(reader: &mut Reader<'_>, depth: u32) -> Result<Seq<CondText>, Stop>
+fn terms(reader: &mut Reader<'_>, depth: u32) -> Result<Seq<CondNode>, Stop>
     ensures { IsReadAs result reader.new (read_terms (read_test depth) reader.old) }
 {
     let mut terms = Seq::new(reader.allocator());
@@ -146,7 +146,7 @@ fn terms(reader: &mut Reader<'_>, depth: u32) -> Result<Seq<CondText>, Stop>
 
 #[cycle(conditions)]
 #[tactic(auto, unfolding(crate::specs::Readers::read_cond))]
-fn condition_at(reader: &mut Reader<'_>, depth: u32) -> Result<CondText, Stop>
+fn condition_at(reader: &mut Reader<'_>, depth: u32) -> Result<CondNode, Stop>
     ensures { IsReadAs result reader.new (read_cond (read_test depth) reader.old) }
 {
     let terms = terms(reader, depth)?;
@@ -155,7 +155,7 @@ fn condition_at(reader: &mut Reader<'_>, depth: u32) -> Result<CondText, Stop>
 
 /// A condition with at most so many parentheses, one within the other.
 #[tactic(auto, unfolding(crate::specs::Readers::read_within))]
-pub fn condition(reader: &mut Reader<'_>, depth: u32) -> Result<CondText, Stop>
+pub fn condition(reader: &mut Reader<'_>, depth: u32) -> Result<CondNode, Stop>
     ensures { IsReadAs result reader.new (read_within depth reader.old) }
 {
     condition_at(reader, depth)

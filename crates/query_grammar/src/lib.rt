@@ -20,6 +20,6 @@ mod tree;
 pub use depth::{MAX_NESTING, nesting};
 pub use parser::{one_meaning, read_query_text};
 pub use tree::{
-    ColumnText, CondText, JoinText, LiteralText, Op, OperandText, OutText, OutsText, PartText,
-    QueryText, SourceText, TestText,
+    ColumnNode, CondNode, JoinedNode, LiteralNode, Op, OperandNode, OutNode, OutsNode, PartNode,
+    QueryNode, SourceNode, TestNode,
 };

@@ -3,8 +3,10 @@ ghost use Rattle.ll_grammars.specs.Reading.{read_one, read_maybe};
 ghost use Rattle.ll_grammars.specs.Rules.{IsReadAs};
 ghost use Rattle.query_grammar.specs.Readers.{read_name, read_other_name, read_new_name, read_dotted_name, read_column, read_number, read_literal, read_operand, read_next_literal, read_literals, read_value_list};
 
-use crate::terminals::{AS, CLOSE, COMMA, DIGITS, DOT, NAME, NEW_NAME, NUMBER, OPEN, SIGN, TEXT};
-use crate::tree::{ColumnText, LiteralText, OperandText};
+use crate::terminals::{
+    ALIAS_FIRST, AS, CLOSE, COMMA, DIGITS, DOT, NAME, NUMBER, OPEN, SIGN, TEXT,
+};
+use crate::tree::{ColumnNode, LiteralNode, OperandNode};
 use base_io::Seq;
 use ll_grammars::{Lexeme, Reader, Stop, Terminal};
 
@@ -40,7 +42,7 @@ fn other_name(reader: &mut Reader<'_>) -> Result<Lexeme, Stop>
 pub fn new_name(reader: &mut Reader<'_>) -> Result<Option<Lexeme>, Stop>
     ensures { IsReadAs result reader.new (read_new_name reader.old) }
 {
-    if reader.starts(NEW_NAME) {
+    if reader.starts(ALIAS_FIRST) {
         let name = other_name(reader)?;
         Ok(Some(name))
     } else {
@@ -58,18 +60,18 @@ fn dotted_name(reader: &mut Reader<'_>) -> Result<Lexeme, Stop>
 
 /// `name [ "." name ]`
 #[tactic(auto, unfolding(crate::specs::Readers::read_column))]
-fn column(reader: &mut Reader<'_>) -> Result<ColumnText, Stop>
+fn column(reader: &mut Reader<'_>) -> Result<ColumnNode, Stop>
     ensures { IsReadAs result reader.new (read_column reader.old) }
 {
     let first = name(reader)?;
     if reader.starts(DOT) {
         let column = dotted_name(reader)?;
-        Ok(ColumnText {
+        Ok(ColumnNode {
             table: Some(first),
             column,
         })
     } else {
-        Ok(ColumnText {
+        Ok(ColumnNode {
             table: None,
             column: first,
         })
@@ -77,29 +79,29 @@ fn column(reader: &mut Reader<'_>) -> Result<ColumnText, Stop>
 }
 
 #[tactic(auto, unfolding(crate::specs::Readers::read_number))]
-fn number(reader: &mut Reader<'_>) -> Result<LiteralText, Stop>
+fn number(reader: &mut Reader<'_>) -> Result<LiteralNode, Stop>
     ensures { IsReadAs result reader.new (read_number reader.old) }
 {
     let sign = optional(reader, SIGN)?;
     let digits = reader.one(DIGITS)?;
-    Ok(LiteralText::Number { sign, digits })
+    Ok(LiteralNode::Number { sign, digits })
 }
 
 /// `[ "+" | "-" ] Number | Text`
 #[tactic(auto, unfolding(crate::specs::Readers::read_literal))]
-fn literal(reader: &mut Reader<'_>) -> Result<LiteralText, Stop>
+fn literal(reader: &mut Reader<'_>) -> Result<LiteralNode, Stop>
     ensures { IsReadAs result reader.new (read_literal reader.old) }
 {
     if reader.starts(NUMBER) {
         number(reader)
     } else {
         let text = reader.one(TEXT)?;
-        Ok(LiteralText::Text(text))
+        Ok(LiteralNode::Text(text))
     }
 }
 
 #[tactic(auto, unfolding(crate::specs::Readers::read_next_literal))]
-fn next_literal(reader: &mut Reader<'_>) -> Result<LiteralText, Stop>
+fn next_literal(reader: &mut Reader<'_>) -> Result<LiteralNode, Stop>
     ensures { IsReadAs result reader.new (read_next_literal reader.old) }
 {
     reader.one(COMMA)?;
@@ -107,7 +109,7 @@ fn next_literal(reader: &mut Reader<'_>) -> Result<LiteralText, Stop>
 }
 
 #[tactic(auto, using(ll_grammars::proofs::Loops::listed_start), unfolding(crate::specs::Readers::read_literals))]
-fn literals(reader: &mut Reader<'_>) -> Result<Seq<LiteralText>, Stop>
+fn literals(reader: &mut Reader<'_>) -> Result<Seq<LiteralNode>, Stop>
     ensures { IsReadAs result reader.new (read_literals reader.old) }
 {
     let mut literals = Seq::new(reader.allocator());
@@ -122,7 +124,7 @@ fn literals(reader: &mut Reader<'_>) -> Result<Seq<LiteralText>, Stop>
 
 /// `"(" literal { "," literal } ")"`
 #[tactic(auto, unfolding(crate::specs::Readers::read_value_list))]
-pub fn value_list(reader: &mut Reader<'_>) -> Result<Seq<LiteralText>, Stop>
+pub fn value_list(reader: &mut Reader<'_>) -> Result<Seq<LiteralNode>, Stop>
     ensures { IsReadAs result reader.new (read_value_list reader.old) }
 {
     reader.one(OPEN)?;
@@ -133,14 +135,14 @@ pub fn value_list(reader: &mut Reader<'_>) -> Result<Seq<LiteralText>, Stop>
 
 /// `colref | literal`
 #[tactic(auto, unfolding(crate::specs::Readers::read_operand))]
-pub fn operand(reader: &mut Reader<'_>) -> Result<OperandText, Stop>
+pub fn operand(reader: &mut Reader<'_>) -> Result<OperandNode, Stop>
     ensures { IsReadAs result reader.new (read_operand reader.old) }
 {
     if reader.starts(NAME) {
         let column = column(reader)?;
-        Ok(OperandText::Column(column))
+        Ok(OperandNode::Column(column))
     } else {
         let literal = literal(reader)?;
-        Ok(OperandText::Literal(literal))
+        Ok(OperandNode::Literal(literal))
     }
 }

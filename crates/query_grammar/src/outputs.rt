@@ -4,13 +4,13 @@ ghost use Rattle.query_grammar.specs.Readers.{read_out, read_next_out, read_list
 
 use crate::operands::{name, new_name};
 use crate::terminals::{COMMA, DOT, STAR};
-use crate::tree::{ColumnText, OutText, OutsText};
+use crate::tree::{ColumnNode, OutNode, OutsNode};
 use base_io::Seq;
 use ll_grammars::{Reader, Stop};
 
 /// `name "." "*" | colref [ [ AS ] name ]`. The first name is read before it is known what it names.
 #[tactic(auto, unfolding(crate::specs::Readers::read_out, crate::specs::Readers::read_dotted_out))]
-fn output(reader: &mut Reader<'_>) -> Result<OutText, Stop>
+fn output(reader: &mut Reader<'_>) -> Result<OutNode, Stop>
     ensures { IsReadAs result reader.new (read_out reader.old) }
 {
     let first = name(reader)?;
@@ -18,12 +18,12 @@ fn output(reader: &mut Reader<'_>) -> Result<OutText, Stop>
         reader.one(DOT)?;
         if reader.starts(STAR) {
             reader.one(STAR)?;
-            return Ok(OutText::All(first));
+            return Ok(OutNode::All(first));
         }
         let column = name(reader)?;
         let name = new_name(reader)?;
-        Ok(OutText::Column {
-            column: ColumnText {
+        Ok(OutNode::Column {
+            column: ColumnNode {
                 table: Some(first),
                 column,
             },
@@ -31,8 +31,8 @@ fn output(reader: &mut Reader<'_>) -> Result<OutText, Stop>
         })
     } else {
         let name = new_name(reader)?;
-        Ok(OutText::Column {
-            column: ColumnText {
+        Ok(OutNode::Column {
+            column: ColumnNode {
                 table: None,
                 column: first,
             },
@@ -42,7 +42,7 @@ fn output(reader: &mut Reader<'_>) -> Result<OutText, Stop>
 }
 
 #[tactic(auto, unfolding(crate::specs::Readers::read_next_out))]
-fn next_output(reader: &mut Reader<'_>) -> Result<OutText, Stop>
+fn next_output(reader: &mut Reader<'_>) -> Result<OutNode, Stop>
     ensures { IsReadAs result reader.new (read_next_out reader.old) }
 {
     reader.one(COMMA)?;
@@ -50,7 +50,7 @@ fn next_output(reader: &mut Reader<'_>) -> Result<OutText, Stop>
 }
 
 #[tactic(auto, using(ll_grammars::proofs::Loops::listed_start), unfolding(crate::specs::Readers::read_listed_outs))]
-fn listed_outputs(reader: &mut Reader<'_>) -> Result<Seq<OutText>, Stop>
+fn listed_outputs(reader: &mut Reader<'_>) -> Result<Seq<OutNode>, Stop>
     ensures { IsReadAs result reader.new (read_listed_outs reader.old) }
 {
     let mut outs = Seq::new(reader.allocator());
@@ -65,14 +65,14 @@ fn listed_outputs(reader: &mut Reader<'_>) -> Result<Seq<OutText>, Stop>
 
 /// `"*" | out { "," out }`
 #[tactic(auto, unfolding(crate::specs::Readers::read_outs))]
-pub fn outputs(reader: &mut Reader<'_>) -> Result<OutsText, Stop>
+pub fn outputs(reader: &mut Reader<'_>) -> Result<OutsNode, Stop>
     ensures { IsReadAs result reader.new (read_outs reader.old) }
 {
     if reader.starts(STAR) {
         reader.one(STAR)?;
-        Ok(OutsText::All)
+        Ok(OutsNode::All)
     } else {
         let outs = listed_outputs(reader)?;
-        Ok(OutsText::Listed(outs))
+        Ok(OutsNode::Listed(outs))
     }
 }

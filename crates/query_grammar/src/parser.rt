@@ -2,14 +2,14 @@
 ghost use Rattle.std.specs.Prelude.{◌≡◌, ◌≤◌, List, Contains, IfOk, IfErr, MatchResult};
 ghost use Rattle.ll_grammars.specs.declared.lexeme.Lexeme.{Lexeme};
 ghost use Rattle.ll_grammars.specs.Places.{IsSyntaxError};
-ghost use Rattle.query_grammar.specs.declared.tree.QueryText.{QueryText};
+ghost use Rattle.query_grammar.specs.declared.tree.QueryNode.{QueryNode};
 ghost use Rattle.query_grammar.specs.Grammar.{QuerySpecification};
 ghost use Rattle.query_grammar.specs.Lexemes.{IsQueryOf};
 ghost use Rattle.query_grammar.specs.Nesting.{nesting};
 
 use crate::clauses::query;
 use crate::depth::MAX_NESTING;
-use crate::tree::QueryText;
+use crate::tree::QueryNode;
 use ll_grammars::{Lexeme, Reader, Stop, SyntaxError};
 use std::alloc::Global;
 
@@ -21,12 +21,12 @@ pub fn read_query_text(
     alloc: Global,
     tokens: &[Lexeme],
     text_len: u32,
-) -> Result<QueryText, SyntaxError>
+) -> Result<QueryNode, SyntaxError>
     requires { nesting tokens.now ≤ MAX_NESTING }
     ensures ok { IfOk result (λ query. QuerySpecification tokens.now query) }
     ensures from_tokens { IfOk result (IsQueryOf (Contains tokens.now)) }
     ensures syntax { IfErr result (IsSyntaxError QuerySpecification tokens.now text_len) }
-    ensures complete { (query : QueryText) → QuerySpecification tokens.now query
+    ensures complete { (query : QueryNode) → QuerySpecification tokens.now query
         → MatchResult result (λ found. found ≡ query) (λ e. e ≡ SyntaxError.NoMemory) }
 {
     let mut reader = Reader::new(alloc, tokens);
@@ -45,5 +45,5 @@ pub fn read_query_text(
 
 /// No list of tokens spells two queries.
 pub fn one_meaning()
-    ensures { (tokens : List Lexeme) (a b : QueryText) → QuerySpecification tokens a → QuerySpecification tokens b → a ≡ b }
+    ensures { (tokens : List Lexeme) (a b : QueryNode) → QuerySpecification tokens a → QuerySpecification tokens b → a ≡ b }
 {}

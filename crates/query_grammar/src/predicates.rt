@@ -7,7 +7,7 @@ use crate::terminals::{
     AND, BETWEEN, EQUAL, GREATER, GREATER_OR_EQUAL, IN, LESS, LESS_OR_EQUAL, NOT, NOT_EQUAL,
     OPERATOR,
 };
-use crate::tree::{CondText, Op, TestText};
+use crate::tree::{CondNode, Op, TestNode};
 use ll_grammars::{Reader, Stop};
 
 #[tactic(auto, unfolding(crate::specs::Readers::read_operator))]
@@ -50,14 +50,14 @@ pub fn negation(reader: &mut Reader<'_>) -> Result<bool, Stop>
 
 /// Reads the operand first, since all three predicates begin with one.
 #[tactic(auto, unfolding(crate::specs::Readers::read_predicate))]
-fn predicate(reader: &mut Reader<'_>) -> Result<TestText, Stop>
+fn predicate(reader: &mut Reader<'_>) -> Result<TestNode, Stop>
     ensures { IsReadAs result reader.new (read_predicate reader.old) }
 {
     let operand_ = operand(reader)?;
     if reader.starts(OPERATOR) {
         let op = operator(reader)?;
         let right = operand(reader)?;
-        return Ok(TestText::Compare {
+        return Ok(TestNode::Compare {
             left: operand_,
             op,
             right,
@@ -69,7 +69,7 @@ fn predicate(reader: &mut Reader<'_>) -> Result<TestText, Stop>
         let low = operand(reader)?;
         reader.one(AND)?;
         let high = operand(reader)?;
-        Ok(TestText::Between {
+        Ok(TestNode::Between {
             operand: operand_,
             negated,
             low,
@@ -78,7 +78,7 @@ fn predicate(reader: &mut Reader<'_>) -> Result<TestText, Stop>
     } else {
         reader.one(IN)?;
         let values = value_list(reader)?;
-        Ok(TestText::In {
+        Ok(TestNode::In {
             operand: operand_,
             negated,
             values,
@@ -88,9 +88,9 @@ fn predicate(reader: &mut Reader<'_>) -> Result<TestText, Stop>
 
 /// A test with no parenthesis around it.
 #[tactic(auto, unfolding(crate::specs::Readers::read_flat))]
-pub fn flat_test(reader: &mut Reader<'_>) -> Result<CondText, Stop>
+pub fn flat_test(reader: &mut Reader<'_>) -> Result<CondNode, Stop>
     ensures { IsReadAs result reader.new (read_flat reader.old) }
 {
     let test = predicate(reader)?;
-    Ok(CondText::Test(test))
+    Ok(CondNode::Test(test))
 }

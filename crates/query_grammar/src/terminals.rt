@@ -3,7 +3,7 @@ pub use ll_grammars::NAME;
 use ll_grammars::Terminal;
 
 // The first token of `[ AS ] name`: KEY, NO, ACTION and CASCADE are names in a query.
-pub const NEW_NAME: &[Terminal] = &[
+pub const ALIAS_FIRST: &[Terminal] = &[
     Terminal::As,
     Terminal::Name,
     Terminal::Key,

@@ -4,14 +4,14 @@ use ll_grammars::Lexeme;
 
 /// A column's reference (SQL-92 6.4): its name, and the alias of its source where one is written.
 #[derive(Clone, Copy, Debug)]
-pub struct ColumnText {
+pub struct ColumnNode {
     pub table: Option<Lexeme>,
     pub column: Lexeme,
 }
 
 /// A literal (SQL-92 5.3): a number with its sign, or a text.
 #[derive(Clone, Copy, Debug)]
-pub enum LiteralText {
+pub enum LiteralNode {
     Number {
         sign: Option<Lexeme>,
         digits: Lexeme,
@@ -21,9 +21,9 @@ pub enum LiteralText {
 
 /// What a test compares.
 #[derive(Clone, Copy, Debug)]
-pub enum OperandText {
-    Column(ColumnText),
-    Literal(LiteralText),
+pub enum OperandNode {
+    Column(ColumnNode),
+    Literal(LiteralNode),
 }
 
 /// How two operands are compared (SQL-92 8.2).
@@ -40,78 +40,78 @@ pub enum Op {
 /// A predicate: a comparison (SQL-92 8.2), BETWEEN (8.3) or IN (8.4). `negated` says that NOT stands before
 /// BETWEEN or IN.
 #[derive(Debug, Drop)]
-pub enum TestText {
+pub enum TestNode {
     Compare {
-        left: OperandText,
+        left: OperandNode,
         op: Op,
-        right: OperandText,
+        right: OperandNode,
     },
     Between {
-        operand: OperandText,
+        operand: OperandNode,
         negated: bool,
-        low: OperandText,
-        high: OperandText,
+        low: OperandNode,
+        high: OperandNode,
     },
     In {
-        operand: OperandText,
+        operand: OperandNode,
         negated: bool,
-        values: Seq<LiteralText>,
+        values: Seq<LiteralNode>,
     },
 }
 
 /// A search condition (SQL-92 8.12). `And` and `Or` have two members or more, in the order of the text.
 /// Parentheses leave no trace but their grouping.
 #[derive(Debug, Drop)]
-pub enum CondText {
-    And(Seq<CondText>),
-    Or(Seq<CondText>),
-    Not(Boxed<CondText>),
-    Test(TestText),
+pub enum CondNode {
+    And(Seq<CondNode>),
+    Or(Seq<CondNode>),
+    Not(Boxed<CondNode>),
+    Test(TestNode),
 }
 
 /// A source of rows (SQL-92 6.3): a table, and its alias where one is written.
 #[derive(Clone, Copy, Debug)]
-pub struct SourceText {
+pub struct SourceNode {
     pub table: Lexeme,
     pub alias: Option<Lexeme>,
 }
 
 /// A source that is joined, and the condition of the join (SQL-92 7.5).
 #[derive(Debug, Drop)]
-pub struct JoinText {
-    pub source: SourceText,
-    pub on: CondText,
+pub struct JoinedNode {
+    pub source: SourceNode,
+    pub on: CondNode,
 }
 
 /// What stands between the commas of FROM (SQL-92 7.4): a source and what is joined to it, from left to right.
 #[derive(Debug, Drop)]
-pub struct PartText {
-    pub first: SourceText,
-    pub joins: Seq<JoinText>,
+pub struct PartNode {
+    pub first: SourceNode,
+    pub joins: Seq<JoinedNode>,
 }
 
 /// An output (SQL-92 7.9): all columns of the source of this alias, or a column and its new name where one is
 /// written.
 #[derive(Clone, Copy, Debug)]
-pub enum OutText {
+pub enum OutNode {
     All(Lexeme),
     Column {
-        column: ColumnText,
+        column: ColumnNode,
         name: Option<Lexeme>,
     },
 }
 
 /// The outputs: all columns of all sources, or those that are listed.
 #[derive(Debug, Drop)]
-pub enum OutsText {
+pub enum OutsNode {
     All,
-    Listed(Seq<OutText>),
+    Listed(Seq<OutNode>),
 }
 
 /// A query (SQL-92 7.9): its outputs, the parts of FROM, and the condition of WHERE (7.6).
 #[derive(Debug, Drop)]
-pub struct QueryText {
-    pub outs: OutsText,
-    pub parts: Seq<PartText>,
-    pub filter: Option<CondText>,
+pub struct QueryNode {
+    pub outs: OutsNode,
+    pub parts: Seq<PartNode>,
+    pub filter: Option<CondNode>,
 }

@@ -5,14 +5,14 @@ use Rattle.std.specs.List.{flat_map}
 use Rattle.std.proofs.lemmas.List.Folds.{flat_map-map}
 use Rattle.std.proofs.lemmas.List.{append-nil, map-append, take_more}
 use Rattle.ll_grammars.specs.declared.lexeme.Lexeme.{Lexeme}
-use Rattle.query_grammar.specs.declared.tree.ColumnText.{ColumnText}
-use Rattle.query_grammar.specs.declared.tree.LiteralText.{LiteralText}
+use Rattle.query_grammar.specs.declared.tree.ColumnNode.{ColumnNode}
+use Rattle.query_grammar.specs.declared.tree.LiteralNode.{LiteralNode}
 use Rattle.query_grammar.specs.declared.tree.Op.{Op}
 use Rattle.query_grammar.specs.declared.tree.Op.TheVariants as op
-use Rattle.query_grammar.specs.declared.tree.OperandText.{OperandText}
-use Rattle.query_grammar.specs.declared.tree.OperandText.TheVariants as operand
-use Rattle.query_grammar.specs.declared.tree.TestText.{TestText}
-use Rattle.query_grammar.specs.declared.tree.TestText.TheVariants as test
+use Rattle.query_grammar.specs.declared.tree.OperandNode.{OperandNode}
+use Rattle.query_grammar.specs.declared.tree.OperandNode.TheVariants as operand
+use Rattle.query_grammar.specs.declared.tree.TestNode.{TestNode}
+use Rattle.query_grammar.specs.declared.tree.TestNode.TheVariants as test
 use Rattle.query_types.specs.declared.types.ColumnRef.{ColumnRef}
 use Rattle.query_types.specs.declared.types.Operand.TheVariants as value
 use Rattle.query_types.specs.declared.types.Cond.{Cond}
@@ -27,21 +27,21 @@ use Rattle.query_names.specs.declared.scope.Scope.{Scope}
 use Rattle.query_names.specs.Names.{at}
 use Rattle.query_names.specs.Scopes.{head_of}
 use Rattle.query_names.specs.Offences.{left_of, others_of, of_literal, differ, is_text_column, too_long}
-use Rattle.query_names.specs.Values.{reference_to}
+use Rattle.query_names.specs.Values.{resolved_column}
 use Rattle.query_names.specs.Answers.{IsNameError, or_first}
 use Rattle.query_names.specs.Binding.{schema_of, from_of, resolved_by, name_offences_of, is_text_by, kind_offence_of, test_offences_of, operand_by, compared_by}
 use Rattle.query_names.specs.Looking.{bound_literal, IsBound, Looked, LookedAtTest, comparisons_by, wrong_literal, equal_to}
 use Rattle.query_names.proofs.Walk.{error_behind, name_error_append, or_first-nil}
 use Rattle.query_names.proofs.CheckFacts.{error_at_left, error_at_others, no_error, kinds_of_test}
 use Rattle.query_names.proofs.Meanings.{found_small}
-use Rattle.query_names.proofs.LookSteps.{looked_as, then_looked, flat_map_step}
+use Rattle.query_names.proofs.LookSteps.{looked_of_equal, then_looked, flat_map_step}
 
 -- ---- one operand
 
 module _ (binder : Binder) (scope : Scope) where
   -- a reference that stands for a column
-  pub bound_column : (reference : ColumnText) (column : EntryColumn) (to : ColumnRef) {o : OperandText} {text : Bool} {begins : Lexeme}
-      → o ≡ operand.Column reference → Some column ≡ resolved_by binder scope reference → (column.from < 256 → to ≡ reference_to (Some column))
+  pub bound_column : (reference : ColumnNode) (column : EntryColumn) (to : ColumnRef) {o : OperandNode} {text : Bool} {begins : Lexeme}
+      → o ≡ operand.Column reference → Some column ≡ resolved_by binder scope reference → (column.from < 256 → to ≡ resolved_column (Some column))
       → text ≡ is_text column.kind → begins ≡ head_of reference
       → IsBound binder scope o (record { value = value.Column to; is_text = text; first = begins })
   unfolding name_offences_of is_text_by operand_by
@@ -50,10 +50,10 @@ module _ (binder : Binder) (scope : Scope) where
         none = ap (λ (f : Option EntryColumn). at (is_none f) (head_of reference)) (sym found);
         text = kind ∙ ap (λ (f : Option EntryColumn). is_text_column (schema_of binder) binder.text.now (from_of binder) scope f) found;
         first = here;
-        value = λ few. ap (λ (r : ColumnRef). value.Column r) (fits (found_small binder scope reference column found few) ∙ ap (λ (f : Option EntryColumn). reference_to f) found);
+        value = λ few. ap (λ (r : ColumnRef). value.Column r) (fits (found_small binder scope reference column found few) ∙ ap (λ (f : Option EntryColumn). resolved_column f) found);
       })
 
-  pub bound_value : (l : LiteralText) {o : OperandText} {bound : BoundOperand} → o ≡ operand.Literal l → bound ≡ bound_literal binder.text.now l → IsBound binder scope o bound
+  pub bound_value : (l : LiteralNode) {o : OperandNode} {bound : BoundOperand} → o ≡ operand.Literal l → bound ≡ bound_literal binder.text.now l → IsBound binder scope o bound
   unfolding name_offences_of is_text_by operand_by
   bound_value l {o} {bound} is same = subst (λ o. IsBound binder scope o bound) (sym is) (record {
     none = refl;
@@ -64,18 +64,18 @@ module _ (binder : Binder) (scope : Scope) where
 
 -- ---- names
 
-module _ (binder : Binder) (scope : Scope) (t : TestText) where
-  pub wrong_left : {left : OperandText} (e : QueryError) → left ≡ left_of t → IsNameError (name_offences_of binder scope left) e → IsNameError (test_offences_of binder scope t) e
+module _ (binder : Binder) (scope : Scope) (t : TestNode) where
+  pub wrong_left : {left : OperandNode} (e : QueryError) → left ≡ left_of t → IsNameError (name_offences_of binder scope left) e → IsNameError (test_offences_of binder scope t) e
   wrong_left e is wrong = error_at_left binder scope t e (subst (λ o. IsNameError (name_offences_of binder scope o) e) is wrong)
 
-  pub wrong_other : {left other : OperandText} (after : List OperandText) (e : QueryError) → left ≡ left_of t → others_of t ≡ other ∷ after
+  pub wrong_other : {left other : OperandNode} (after : List OperandNode) (e : QueryError) → left ≡ left_of t → others_of t ≡ other ∷ after
       → name_offences_of binder scope left ≡ [] → IsNameError (name_offences_of binder scope other) e → IsNameError (test_offences_of binder scope t) e
   wrong_other {left} {other} after e is are none wrong =
       error_at_others binder scope t e (ap (name_offences_of binder scope) (sym is) ∙ none)
       (subst (λ l. IsNameError (flat_map (name_offences_of binder scope) l) e) (sym are)
       (name_error_append (name_offences_of binder scope other) (flat_map (name_offences_of binder scope) after) e wrong))
 
-  pub wrong_second : {left low high : OperandText} (e : QueryError) → left ≡ left_of t → others_of t ≡ low ∷ high ∷ []
+  pub wrong_second : {left low high : OperandNode} (e : QueryError) → left ≡ left_of t → others_of t ≡ low ∷ high ∷ []
       → name_offences_of binder scope left ≡ [] → name_offences_of binder scope low ≡ [] → IsNameError (name_offences_of binder scope high) e
       → IsNameError (test_offences_of binder scope t) e
   wrong_second {left} {low} {high} e is are none before wrong =
@@ -87,7 +87,7 @@ module _ (binder : Binder) (scope : Scope) (t : TestText) where
 -- ---- comparisons
 
 module _ {binder : Binder} {scope : Scope} where
-  kind_is : {left right : OperandText} {l r : BoundOperand} → IsBound binder scope left l → IsBound binder scope right r
+  kind_is : {left right : OperandNode} {l r : BoundOperand} → IsBound binder scope left l → IsBound binder scope right r
       → at (differ l.is_text r.is_text) r.first ≡ kind_offence_of binder scope (is_text_by binder scope left) right
   unfolding kind_offence_of is_text_by
   kind_is {left} {right} {l} {r} lb rb =
@@ -95,16 +95,16 @@ module _ {binder : Binder} {scope : Scope} where
       ∙ ap (λ b. at (differ (is_text_by binder scope left) b) r.first) rb.text
       ∙ ap (λ token. at (differ (is_text_by binder scope left) (is_text_by binder scope right)) token) rb.first
 
-  value_is : {left right : OperandText} {l r : BoundOperand} (how : Op) → IsBound binder scope left l → IsBound binder scope right r → length (from_of binder) ≤ 12
+  value_is : {left right : OperandNode} {l r : BoundOperand} (how : Op) → IsBound binder scope left l → IsBound binder scope right r → length (from_of binder) ≤ 12
       → cond.Compare how l.value r.value ≡ compared_by binder scope how left right
   unfolding compared_by operand_by
   value_is {left} {right} {l} {r} how lb rb few = ap (λ v. cond.Compare how v r.value) (lb.value few) ∙ ap (λ v. cond.Compare how (operand_by binder scope left) v) (rb.value few)
 
   -- the left operand, where it is known what the test is
-  bound_left : (t : TestText) {o left : OperandText} {l : BoundOperand} → o ≡ left_of t → left_of t ≡ left → IsBound binder scope o l → IsBound binder scope left l
+  bound_left : (t : TestNode) {o left : OperandNode} {l : BoundOperand} → o ≡ left_of t → left_of t ≡ left → IsBound binder scope o l → IsBound binder scope left l
   bound_left t {l = l} from is bound = subst (λ o. IsBound binder scope o l) (from ∙ is) bound
 
-  pub compare_looked : {t : TestText} {o left right : OperandText} (how : Op) {l r : BoundOperand} {held held' : HeldOffences} {found found' : List Cond}
+  pub compare_looked : {t : TestNode} {o left right : OperandNode} (how : Op) {l r : BoundOperand} {held held' : HeldOffences} {found found' : List Cond}
       → t ≡ test.Compare left how right → o ≡ left_of t → IsBound binder scope o l → IsBound binder scope right r
       → Looked binder [] (at (differ l.is_text r.is_text) r.first) [] held held' found found' (cond.Compare how l.value r.value ∷ [])
       → LookedAtTest binder scope t held held' found found' (comparisons_by binder scope t)
@@ -112,14 +112,14 @@ module _ {binder : Binder} {scope : Scope} where
   compare_looked {t} {o} {left} {right} how {l} {r} {held} {held'} {found} {found'} is from ob rb looked =
       let lb : IsBound binder scope left l = bound_left t from (ap left_of is) ob in
       subst (λ t. LookedAtTest binder scope t held held' found found' (comparisons_by binder scope t)) (sym is)
-      (looked_as
+      (looked_of_equal
       (sym (no_error binder scope (test.Compare left how right) lb.none (ap (λ n. n ++ []) rb.none)))
       (kind_is lb rb ∙ sym (append-nil (kind_offence_of binder scope (is_text_by binder scope left) right)) ∙ sym (kinds_of_test binder scope (test.Compare left how right)))
       refl
       (λ few. ap (λ c. c ∷ []) (value_is how lb rb few))
       looked)
 
-  pub between_looked : {t : TestText} {o left low high : OperandText} (negated : Bool) {l a b : BoundOperand} {held mid held' : HeldOffences} {found between found' : List Cond}
+  pub between_looked : {t : TestNode} {o left low high : OperandNode} (negated : Bool) {l a b : BoundOperand} {held mid held' : HeldOffences} {found between found' : List Cond}
       → t ≡ test.Between left negated low high → o ≡ left_of t → IsBound binder scope o l → IsBound binder scope low a → IsBound binder scope high b
       → Looked binder [] (at (differ l.is_text a.is_text) a.first) [] held mid found between (cond.Compare op.Ge l.value a.value ∷ [])
       → Looked binder [] (at (differ l.is_text b.is_text) b.first) [] mid held' between found' (cond.Compare op.Le l.value b.value ∷ [])
@@ -127,10 +127,10 @@ module _ {binder : Binder} {scope : Scope} where
   unfolding comparisons_by
   between_looked {t} {o} {left} {low} {high} negated {l} {a} {b} {held} {mid} {held'} {found} {between} {found'} is from ob ab bb first second =
       let lb : IsBound binder scope left l = bound_left t from (ap left_of is) ob in
-      let range : TestText = test.Between left negated low high in
-      let kind : OperandText → List ℕ = kind_offence_of binder scope (is_text_by binder scope left) in
+      let range : TestNode = test.Between left negated low high in
+      let kind : OperandNode → List ℕ = kind_offence_of binder scope (is_text_by binder scope left) in
       subst (λ t. LookedAtTest binder scope t held held' found found' (comparisons_by binder scope t)) (sym is)
-      (looked_as
+      (looked_of_equal
       (sym (no_error binder scope range lb.none (ap (λ n. n ++ (name_offences_of binder scope high ++ [])) ab.none ∙ ap (λ n. n ++ []) bb.none)))
       (ap (λ k. k ++ at (differ l.is_text b.is_text) b.first) (kind_is lb ab)
       ∙ ap (λ k. kind low ++ k) (kind_is lb bb ∙ sym (append-nil (kind high)))
@@ -141,22 +141,22 @@ module _ {binder : Binder} {scope : Scope} where
 
 -- ---- lists of IN
 
-no_names : (binder : Binder) (scope : Scope) (values : List LiteralText) → flat_map (name_offences_of binder scope) (map of_literal values) ≡ []
+no_names : (binder : Binder) (scope : Scope) (values : List LiteralNode) → flat_map (name_offences_of binder scope) (map of_literal values) ≡ []
 unfolding name_offences_of
 no_names binder scope [] = refl
 no_names binder scope (l ∷ values) = no_names binder scope values
 
-wrong_values : (binder : Binder) (scope : Scope) (text : Bool) (values : List LiteralText)
+wrong_values : (binder : Binder) (scope : Scope) (text : Bool) (values : List LiteralNode)
     → flat_map (wrong_literal text) values ≡ flat_map (kind_offence_of binder scope text) (map of_literal values)
 unfolding kind_offence_of
 wrong_values binder scope text values = sym (flat_map-map (kind_offence_of binder scope text) of_literal values)
 
-equal_values : (binder : Binder) (scope : Scope) (left : OperandText) (values : List LiteralText)
+equal_values : (binder : Binder) (scope : Scope) (left : OperandNode) (values : List LiteralNode)
     → map (equal_to binder.text.now (operand_by binder scope left)) values ≡ map (λ l. compared_by binder scope op.Eq left (of_literal l)) values
 unfolding compared_by operand_by
 equal_values binder scope left values = refl
 
-pub in_looked : {binder : Binder} {scope : Scope} {t : TestText} {o left : OperandText} (negated : Bool) {values items : List LiteralText} {l : BoundOperand}
+pub in_looked : {binder : Binder} {scope : Scope} {t : TestNode} {o left : OperandNode} (negated : Bool) {values items : List LiteralNode} {l : BoundOperand}
     {held mid held' : HeldOffences} {found found' : List Cond}
     → t ≡ test.In left negated values → items ≡ values → o ≡ left_of t → IsBound binder scope o l
     → mid.list ≡ or_first held.list (too_long t) → mid.kind ≡ held.kind
@@ -174,7 +174,7 @@ in_looked {binder} {scope} {t} {o} {left} negated {values} {items} {l} {held} {m
       whole : mid.list ≡ or_first held.list (too_long (test.In left negated values))
           → LookedAtTest binder scope (test.In left negated values) held held' found found' (comparisons_by binder scope (test.In left negated values))
       whole list =
-          looked_as
+          looked_of_equal
           (sym (no_error binder scope (test.In left negated values) lb.none (no_names binder scope values)))
           (ap (λ b. flat_map (wrong_literal b) items) lb.text ∙ ap (flat_map (wrong_literal (is_text_by binder scope left))) same
           ∙ wrong_values binder scope (is_text_by binder scope left) values ∙ sym (kinds_of_test binder scope (test.In left negated values)))
@@ -184,15 +184,15 @@ in_looked {binder} {scope} {t} {o} {left} negated {values} {items} {l} {held} {m
           (then_looked (noted list) looked)
 
 -- one more value
-pub equality_more : {binder : Binder} (l : BoundOperand) (values : List LiteralText) {i : ℕ} (d : LiteralText) {other : BoundOperand} {held mid held' : HeldOffences} {found between found' : List Cond}
+pub equality_more : {binder : Binder} (l : BoundOperand) (values : List LiteralNode) {i : ℕ} (d : LiteralNode) {other : BoundOperand} {held mid held' : HeldOffences} {found between found' : List Cond}
     → i < length values
     → Looked binder [] (flat_map (wrong_literal l.is_text) (take i values)) [] held mid found between (map (equal_to binder.text.now l.value) (take i values))
     → other ≡ bound_literal binder.text.now (get_or values i d)
     → Looked binder [] (at (differ l.is_text other.is_text) other.first) [] mid held' between found' (cond.Compare op.Eq l.value other.value ∷ [])
     → Looked binder [] (flat_map (wrong_literal l.is_text) (take (i + 1) values)) [] held held' found found' (map (equal_to binder.text.now l.value) (take (i + 1) values))
 equality_more {binder} l values {i} d {other} below one is next =
-    let equal : LiteralText → Cond = equal_to binder.text.now l.value in
-    looked_as refl
+    let equal : LiteralNode → Cond = equal_to binder.text.now l.value in
+    looked_of_equal refl
     (ap (λ o. flat_map (wrong_literal l.is_text) (take i values) ++ at (differ l.is_text o.is_text) o.first) is ∙ flat_map_step (wrong_literal l.is_text) values i d below)
     refl
     (λ _. ap (λ o. map equal (take i values) ++ cond.Compare op.Eq l.value o.value ∷ []) is ∙ sym (map-append equal (take i values) (get_or values i d ∷ [])) ∙ ap (map equal) (sym (take_more values i d below)))

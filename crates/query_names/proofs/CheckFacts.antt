@@ -1,9 +1,9 @@
 -- What looking at the parts of a test tells of the test.
 use Rattle.std.proofs.Common.{◌≡◌, List, [], ◌++◌, ap, ◌∙◌, refl}
 use Rattle.std.specs.List.{flat_map}
-use Rattle.query_grammar.specs.declared.tree.TestText.{TestText}
-use Rattle.query_grammar.specs.declared.tree.OutText.{OutText}
-use Rattle.query_grammar.specs.declared.tree.OutsText.TheVariants as outs
+use Rattle.query_grammar.specs.declared.tree.TestNode.{TestNode}
+use Rattle.query_grammar.specs.declared.tree.OutNode.{OutNode}
+use Rattle.query_grammar.specs.declared.tree.OutsNode.TheVariants as outs
 use Rattle.query_names.specs.declared.binder.Binder.{Binder}
 use Rattle.query_names.specs.declared.scope.Scope.{Scope}
 use Rattle.query_names.specs.declared.errors.QueryError.{QueryError}
@@ -12,7 +12,7 @@ use Rattle.query_names.specs.Offences.{left_of, others_of}
 use Rattle.query_names.specs.Binding.{name_offences_of, is_text_by, kind_offence_of, test_offences_of, kind_offences_of, out_offences_of, outs_offences_of}
 use Rattle.query_names.proofs.Walk.{error_behind, name_error_append}
 
-module _ (binder : Binder) (scope : Scope) (test : TestText) where
+module _ (binder : Binder) (scope : Scope) (test : TestNode) where
   pub error_at_left : (e : QueryError) → IsNameError (name_offences_of binder scope (left_of test)) e → IsNameError (test_offences_of binder scope test) e
   unfolding test_offences_of name_offences_of
   error_at_left e wrong = name_error_append (name_offences_of binder scope (left_of test)) (flat_map (name_offences_of binder scope) (others_of test)) e wrong
@@ -30,6 +30,6 @@ module _ (binder : Binder) (scope : Scope) (test : TestText) where
   unfolding kind_offences_of kind_offence_of is_text_by
   kinds_of_test = refl
 
-pub outs_listed : (binder : Binder) (scope : Scope) (list : List OutText) → outs_offences_of binder scope (outs.Listed list) ≡ flat_map (out_offences_of binder scope) list
+pub outs_listed : (binder : Binder) (scope : Scope) (list : List OutNode) → outs_offences_of binder scope (outs.Listed list) ≡ flat_map (out_offences_of binder scope) list
 unfolding outs_offences_of out_offences_of
 outs_listed binder scope list = refl

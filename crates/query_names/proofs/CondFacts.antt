@@ -2,9 +2,9 @@
 use Rattle.std.proofs.Common.{◌≡◌, ◌⊎◌, inl, inr, ℕ, ◌≤◌, List, [], ◌∷◌, ◌++◌, length, map, None, ap, subst, sym, ◌∙◌, refl}
 use Rattle.std.specs.List.{flat_map}
 use Rattle.std.proofs.lemmas.List.{append-nil}
-use Rattle.query_grammar.specs.declared.tree.CondText.{CondText}
-use Rattle.query_grammar.specs.declared.tree.CondText.TheVariants as text
-use Rattle.query_grammar.specs.declared.tree.TestText.{TestText}
+use Rattle.query_grammar.specs.declared.tree.CondNode.{CondNode}
+use Rattle.query_grammar.specs.declared.tree.CondNode.TheVariants as text
+use Rattle.query_grammar.specs.declared.tree.TestNode.{TestNode}
 use Rattle.query_types.specs.declared.types.Cond.{Cond}
 use Rattle.query_types.specs.declared.types.Cond.TheVariants as cond
 use Rattle.query_names.specs.declared.binder.Binder.{Binder}
@@ -18,20 +18,20 @@ use Rattle.query_names.specs.Binding.{from_of, test_offences_of, kind_offences_o
 use Rattle.query_names.specs.Looking.{LookedAt, LookedAtTest}
 use Rattle.query_names.proofs.TestFacts.{tests_chain, tests_not, tests_test}
 use Rattle.query_names.proofs.Meanings.{value_and, value_or, value_not, members_or, members_not}
-use Rattle.query_names.proofs.LookSteps.{looked_as, looked_wrapped}
+use Rattle.query_names.proofs.LookSteps.{looked_of_equal, looked_wrapped}
 
 -- the one test of a condition
-pub alone : (f : TestText → List ℕ) (t : TestText) {c : CondText} → c ≡ text.Test t → f t ≡ flat_map f (tests c)
+pub alone : (f : TestNode → List ℕ) (t : TestNode) {c : CondNode} → c ≡ text.Test t → f t ≡ flat_map f (tests c)
 alone f t is = sym (append-nil (f t)) ∙ ap (flat_map f) (sym (ap tests is ∙ tests_test t))
 
 -- the tests of several conditions
-pub of_and : {c : CondText} {members items : List CondText} → c ≡ text.And members → items ≡ members → flat_map tests items ≡ tests c
+pub of_and : {c : CondNode} {members items : List CondNode} → c ≡ text.And members → items ≡ members → flat_map tests items ≡ tests c
 of_and {c} {members} is same = ap (flat_map tests) same ∙ sym (tests_chain c members (inl is))
 
-pub of_or : {c : CondText} {members items : List CondText} → c ≡ text.Or members → items ≡ members → flat_map tests items ≡ tests c
+pub of_or : {c : CondNode} {members items : List CondNode} → c ≡ text.Or members → items ≡ members → flat_map tests items ≡ tests c
 of_or {c} {members} is same = ap (flat_map tests) same ∙ sym (tests_chain c members (inr is))
 
-pub of_not : {c member inner : CondText} → c ≡ text.Not member → inner ≡ member → tests inner ≡ tests c
+pub of_not : {c member inner : CondNode} → c ≡ text.Not member → inner ≡ member → tests inner ≡ tests c
 of_not {c} {member} is same = ap tests same ∙ sym (ap tests is ∙ tests_not member)
 
 pub not_empty : {parts : List Cond} (one : Cond) → parts ≡ [] → parts ≡ one ∷ [] → ⊥
@@ -39,23 +39,23 @@ not_empty one none is = cc
 
 module _ (binder : Binder) (scope : Scope) where
   -- only an AND, and a range, have other members than themselves
-  pub one_member : {c : CondText} → ((members : List CondText) × (c ≡ text.Or members)) ⊎ ((member : CondText) × (c ≡ text.Not member)) → value_by binder scope c ∷ [] ≡ members_by binder scope c
+  pub one_member : {c : CondNode} → ((members : List CondNode) × (c ≡ text.Or members)) ⊎ ((member : CondNode) × (c ≡ text.Not member)) → value_by binder scope c ∷ [] ≡ members_by binder scope c
   one_member (inl h) = sym (ap (members_by binder scope) h.1 ∙ members_or binder scope h.0 ∙ ap (λ c. value_by binder scope c ∷ []) (sym h.1))
   one_member (inr h) = sym (ap (members_by binder scope) h.1 ∙ members_not binder scope h.0 ∙ ap (λ c. value_by binder scope c ∷ []) (sym h.1))
 
-  pub looked_at : {list list' : List TestText} {held held' : HeldOffences} {found found' more : List Cond} → list ≡ list'
+  pub looked_at : {list list' : List TestNode} {held held' : HeldOffences} {found found' more : List Cond} → list ≡ list'
       → LookedAt binder scope list held held' found found' more → LookedAt binder scope list' held held' found found' more
   looked_at {held = held} {held' = held'} {found = found} {found' = found'} {more = more} same l = subst (λ list. LookedAt binder scope list held held' found found' more) same l
 
-  pub wrong_at : {list list' : List TestText} (e : QueryError) → list ≡ list'
+  pub wrong_at : {list list' : List TestNode} (e : QueryError) → list ≡ list'
       → IsNameError (flat_map (test_offences_of binder scope) list) e → IsNameError (flat_map (test_offences_of binder scope) list') e
   wrong_at e same wrong = subst (λ list. IsNameError (flat_map (test_offences_of binder scope) list) e) same wrong
 
-  pub one_test : (t : TestText) {c : CondText} {held held' : HeldOffences} {found found' more more' : List Cond} → c ≡ text.Test t → more ≡ more'
+  pub one_test : (t : TestNode) {c : CondNode} {held held' : HeldOffences} {found found' more more' : List Cond} → c ≡ text.Test t → more ≡ more'
       → LookedAtTest binder scope t held held' found found' more → LookedAt binder scope (tests c) held held' found found' more'
-  one_test t is same l = looked_as (alone (test_offences_of binder scope) t is) (alone (kind_offences_of binder scope) t is) (alone too_long t is) (λ _. same) l
+  one_test t is same l = looked_of_equal (alone (test_offences_of binder scope) t is) (alone (kind_offences_of binder scope) t is) (alone too_long t is) (λ _. same) l
 
-  pub and_looked : {c : CondText} (members : List CondText) {items : List CondText} {held held' : HeldOffences} {found found' parts : List Cond}
+  pub and_looked : {c : CondNode} (members : List CondNode) {items : List CondNode} {held held' : HeldOffences} {found found' parts : List Cond}
       → c ≡ text.And members → items ≡ members → LookedAt binder scope (flat_map tests items) held held' [] parts (map (value_by binder scope) items)
       → (length (from_of binder) ≤ 12 → held'.list ≡ None → found' ≡ found ++ cond.And parts ∷ [])
       → LookedAt binder scope (tests c) held held' found found' (value_by binder scope c ∷ [])
@@ -63,7 +63,7 @@ module _ (binder : Binder) (scope : Scope) where
       looked_at (of_and is same) (looked_wrapped (λ parts. cond.And parts)
       (ap (λ cs. cond.And (map (value_by binder scope) cs)) same ∙ sym (ap (value_by binder scope) is ∙ value_and binder scope members)) refl l added)
 
-  pub or_looked : {c : CondText} (members : List CondText) {items : List CondText} {held held' : HeldOffences} {found found' parts : List Cond}
+  pub or_looked : {c : CondNode} (members : List CondNode) {items : List CondNode} {held held' : HeldOffences} {found found' parts : List Cond}
       → c ≡ text.Or members → items ≡ members → LookedAt binder scope (flat_map tests items) held held' [] parts (map (value_by binder scope) items)
       → (length (from_of binder) ≤ 12 → held'.list ≡ None → found' ≡ found ++ cond.Or parts ∷ [])
       → LookedAt binder scope (tests c) held held' found found' (value_by binder scope c ∷ [])
@@ -71,7 +71,7 @@ module _ (binder : Binder) (scope : Scope) where
       looked_at (of_or is same) (looked_wrapped (λ parts. cond.Or parts)
       (ap (λ cs. cond.Or (map (value_by binder scope) cs)) same ∙ sym (ap (value_by binder scope) is ∙ value_or binder scope members)) refl l added)
 
-  pub not_looked : {c : CondText} (member : CondText) {inner : CondText} {held held' : HeldOffences} {found found' start parts : List Cond}
+  pub not_looked : {c : CondNode} (member : CondNode) {inner : CondNode} {held held' : HeldOffences} {found found' start parts : List Cond}
       → c ≡ text.Not member → inner ≡ member → start ≡ [] → LookedAt binder scope (tests inner) held held' start parts (value_by binder scope inner ∷ [])
       → ((one : Cond) → parts ≡ one ∷ [] → found' ≡ found ++ cond.Not one ∷ [])
       → LookedAt binder scope (tests c) held held' found found' (value_by binder scope c ∷ [])

@@ -3,8 +3,8 @@ use Rattle.std.proofs.Common.{◌≡◌, ℕ, ◌+◌, ◌<◌, ◌≤◌, List,
 use Rattle.std.proofs.lemmas.List.{append_assoc, append-nil, take_more, take_all, take-append-drop, flat_map_more}
 use Rattle.std.proofs.lemmas.Grind.{flat_map-append}
 use Rattle.std.specs.List.{flat_map}
-use Rattle.query_grammar.specs.declared.tree.CondText.{CondText}
-use Rattle.query_grammar.specs.declared.tree.TestText.{TestText}
+use Rattle.query_grammar.specs.declared.tree.CondNode.{CondNode}
+use Rattle.query_grammar.specs.declared.tree.TestNode.{TestNode}
 use Rattle.query_types.specs.declared.types.Cond.{Cond}
 use Rattle.query_names.specs.declared.binder.Binder.{Binder}
 use Rattle.query_names.specs.declared.checks.HeldOffences.{HeldOffences}
@@ -17,10 +17,10 @@ use Rattle.query_names.specs.Looking.{Looked, LookedAt}
 use Rattle.query_names.proofs.Walk.{left_at, or_first_append, or_first-nil, none_before, error_behind, name_error_append}
 
 -- `Looked` also holds of lists that are equal to its lists
-pub looked_as : {binder : Binder} {names names' kinds kinds' lists lists' : List ℕ} {held held' : HeldOffences} {found found' more more' : List Cond}
+pub looked_of_equal : {binder : Binder} {names names' kinds kinds' lists lists' : List ℕ} {held held' : HeldOffences} {found found' more more' : List Cond}
     → names ≡ names' → kinds ≡ kinds' → lists ≡ lists' → (length (from_of binder) ≤ 12 → more ≡ more')
     → Looked binder names kinds lists held held' found found' more → Looked binder names' kinds' lists' held held' found found' more'
-looked_as {held = held} {found = found} same_names same_kinds same_lists same_more l = record {
+looked_of_equal {held = held} {found = found} same_names same_kinds same_lists same_more l = record {
   none = sym same_names ∙ l.none;
   kind = l.kind ∙ ap (or_first held.kind) same_kinds;
   list = l.list ∙ ap (or_first held.list) same_lists;
@@ -64,19 +64,19 @@ pub flat_map_step : {A B : Type 0} (f : A → List B) (xs : List A) (i : ℕ) (d
 flat_map_step f xs i d below = flat_map_more f [] (take i xs) (get_or xs i d) ∙ ap (flat_map f) (sym (take_more xs i d below))
 
 module _ (binder : Binder) (scope : Scope) where
-  pub looked_all : (cs : List CondText) {i : ℕ} {held held' : HeldOffences} {found found' : List Cond} (more : List CondText → List Cond)
+  pub looked_all : (cs : List CondNode) {i : ℕ} {held held' : HeldOffences} {found found' : List Cond} (more : List CondNode → List Cond)
       → length cs ≤ i → LookedAt binder scope (flat_map tests (take i cs)) held held' found found' (more (take i cs))
       → LookedAt binder scope (flat_map tests cs) held held' found found' (more cs)
   looked_all cs {i} {held} {held'} {found} {found'} more done l = subst (λ taken. LookedAt binder scope (flat_map tests taken) held held' found found' (more taken)) (take_all i cs done) l
 
   -- where no condition before place i has a wrong name, the name error of condition i is that of the whole list
-  pub wrong_in : (cs : List CondText) {i : ℕ} (d : CondText) (e : QueryError)
+  pub wrong_in : (cs : List CondNode) {i : ℕ} (d : CondNode) (e : QueryError)
       → i < length cs → flat_map (test_offences_of binder scope) (flat_map tests (take i cs)) ≡ []
       → IsNameError (flat_map (test_offences_of binder scope) (tests (get_or cs i d))) e → IsNameError (flat_map (test_offences_of binder scope) (flat_map tests cs)) e
   wrong_in cs {i} d e below none wrong =
-      let offences : List TestText → List ℕ = flat_map (test_offences_of binder scope) in
-      let here : List TestText = tests (get_or cs i d) in
-      let rest : List TestText = flat_map tests (drop (i + 1) cs) in
+      let offences : List TestNode → List ℕ = flat_map (test_offences_of binder scope) in
+      let here : List TestNode = tests (get_or cs i d) in
+      let rest : List TestNode = flat_map tests (drop (i + 1) cs) in
       let split : flat_map tests cs ≡ flat_map tests (take i cs) ++ (here ++ rest) =
       ap (flat_map tests) (sym (take-append-drop i cs)) ∙ flat_map-append tests (take i cs) (drop i cs) ∙ ap (λ l. flat_map tests (take i cs) ++ flat_map tests l) (left_at cs i d below) in
       let parts : offences (flat_map tests cs) ≡ offences (flat_map tests (take i cs)) ++ (offences here ++ offences rest) =

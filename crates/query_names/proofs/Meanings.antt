@@ -1,7 +1,7 @@
 -- What texts mean, part by part.
 use Rattle.std.proofs.Common.{◌≡◌, ℕ, zero, suc, ◌<◌, ◌≤◌, List, [], ◌∷◌, ◌++◌, length, map, Some, ap, subst, sym, ◌∙◌, refl, arith}
 use Rattle.std.specs.Prelude.{slice_get, true, false}
-use Rattle.query_grammar.specs.declared.tree.ColumnText.{ColumnText}
+use Rattle.query_grammar.specs.declared.tree.ColumnNode.{ColumnNode}
 use Rattle.query_names.specs.declared.binder.Binder.{Binder}
 use Rattle.query_names.specs.declared.scope.Scope.{Scope}
 use Rattle.query_names.specs.declared.scope.EntryColumn.{EntryColumn}
@@ -13,16 +13,16 @@ use Rattle.std.specs.Prelude.{Result, Ok, Err, IfOk, All}
 use Rattle.ll_grammars.specs.declared.lexeme.Lexeme.{Lexeme}
 use Rattle.query_grammar.specs.Lexemes.{IsCondOf, IsTestOf}
 use Rattle.query_grammar.proofs.CondTokens.{members_of_and, members_of_or, inner_of_not, test_in}
-use Rattle.query_grammar.specs.declared.tree.TestText.{TestText}
-use Rattle.query_grammar.specs.declared.tree.TestText.TheVariants as test
-use Rattle.query_grammar.specs.declared.tree.CondText.{CondText}
-use Rattle.query_grammar.specs.declared.tree.CondText.TheVariants as text
-use Rattle.query_grammar.specs.declared.tree.CondText.TheVariants.{rolls-And, rolls-Or, rolls-Not, rolls-Test}
-use Rattle.query_grammar.specs.declared.tree.CondText.TheOpen.{CondText-F}
-use Rattle.query_grammar.specs.declared.tree.CondText.TheFolds.{fold-roll-CondText}
+use Rattle.query_grammar.specs.declared.tree.TestNode.{TestNode}
+use Rattle.query_grammar.specs.declared.tree.TestNode.TheVariants as test
+use Rattle.query_grammar.specs.declared.tree.CondNode.{CondNode}
+use Rattle.query_grammar.specs.declared.tree.CondNode.TheVariants as text
+use Rattle.query_grammar.specs.declared.tree.CondNode.TheVariants.{rolls-And, rolls-Or, rolls-Not, rolls-Test}
+use Rattle.query_grammar.specs.declared.tree.CondNode.TheOpen.{CondNode-F}
+use Rattle.query_grammar.specs.declared.tree.CondNode.TheFolds.{fold-roll-CondNode}
 use Rattle.query_names.specs.Values.{any_of, all_of, equality, alone, wholes, Meaning, meaning, meaning_step, test_meaning}
 use Rattle.query_names.specs.Binding.{schema_of, from_of, resolved_by, compared_by, test_value_by, test_members_by, value_by, members_by}
-use Rattle.query_names.specs.Looking.{comparisons_by, whole_of, is_range}
+use Rattle.query_names.specs.Looking.{comparisons_by, test_condition, is_range}
 use Rattle.query_names.proofs.Resolved.{Stands, resolve_stands}
 
 within : (from : List Source) (n : ℕ) (source : Source) → slice_get from n ≡ Some source → n < length from
@@ -30,7 +30,7 @@ within [] n source is = absurd cc
 within (x ∷ from) zero source is = omega arith
 within (x ∷ from) (suc n) source is = let more : n < length from = within from n source is in omega arith
 
-pub found_small : (binder : Binder) (scope : Scope) (reference : ColumnText) (column : EntryColumn) → Some column ≡ resolved_by binder scope reference → length (from_of binder) ≤ 12 → column.from < 256
+pub found_small : (binder : Binder) (scope : Scope) (reference : ColumnNode) (column : EntryColumn) → Some column ≡ resolved_by binder scope reference → length (from_of binder) ≤ 12 → column.from < 256
 found_small binder scope reference column is few =
     let stands : Stands (schema_of binder) (from_of binder) column = resolve_stands (schema_of binder) binder.text.now (from_of binder) scope reference column (sym is) in
     let below : column.from < length (from_of binder) = within (from_of binder) column.from stands.source stands.entry in
@@ -53,7 +53,7 @@ several_of (x ∷ y ∷ parts) many = refl
 -- ---- what the comparisons of a test make
 
 module _ (binder : Binder) (scope : Scope) where
-  pub whole_is : (t : TestText) → whole_of t (comparisons_by binder scope t) ≡ test_value_by binder scope t
+  pub whole_is : (t : TestNode) → test_condition t (comparisons_by binder scope t) ≡ test_value_by binder scope t
   unfolding comparisons_by compared_by test_value_by
   whole_is (test.Compare left how right) = refl
   whole_is (test.Between left true low high) = refl
@@ -61,7 +61,7 @@ module _ (binder : Binder) (scope : Scope) where
   whole_is (test.In left true values) = refl
   whole_is (test.In left false values) = refl
 
-  pub range_members : (t : TestText) → is_range t ≡ true → comparisons_by binder scope t ≡ test_members_by binder scope t
+  pub range_members : (t : TestNode) → is_range t ≡ true → comparisons_by binder scope t ≡ test_members_by binder scope t
   unfolding comparisons_by compared_by test_members_by
   range_members (test.Compare left how right) is = absurd cc
   range_members (test.Between left true low high) is = absurd cc
@@ -73,7 +73,7 @@ module _ (binder : Binder) (scope : Scope) where
   any_alone (x ∷ []) = refl
   any_alone (x ∷ y ∷ parts) = refl
 
-  pub whole_member : (t : TestText) → is_range t ≡ false → test_value_by binder scope t ∷ [] ≡ test_members_by binder scope t
+  pub whole_member : (t : TestNode) → is_range t ≡ false → test_value_by binder scope t ∷ [] ≡ test_members_by binder scope t
   unfolding test_value_by test_members_by
   whole_member (test.Compare left how right) is = refl
   whole_member (test.Between left true low high) is = refl
@@ -84,75 +84,75 @@ module _ (binder : Binder) (scope : Scope) where
 -- ---- conditions, member by member
 
 module _ (binder : Binder) (scope : Scope) where
-  abbrev step : CondText-F Meaning → Meaning
+  abbrev step : CondNode-F Meaning → Meaning
   step = meaning_step (schema_of binder) binder.text.now (from_of binder) scope
 
-  wholes_map : (cs : List CondText) → wholes (map (meaning (schema_of binder) binder.text.now (from_of binder) scope) cs) ≡ map (value_by binder scope) cs
+  wholes_map : (cs : List CondNode) → wholes (map (meaning (schema_of binder) binder.text.now (from_of binder) scope) cs) ≡ map (value_by binder scope) cs
   unfolding value_by
   wholes_map [] = refl
   wholes_map (c ∷ cs) = ap (λ rest. value_by binder scope c ∷ rest) (wholes_map cs)
 
-  members_map : (cs : List CondText) → flat_map (λ part. part.members) (map (meaning (schema_of binder) binder.text.now (from_of binder) scope) cs) ≡ flat_map (members_by binder scope) cs
+  members_map : (cs : List CondNode) → flat_map (λ part. part.members) (map (meaning (schema_of binder) binder.text.now (from_of binder) scope) cs) ≡ flat_map (members_by binder scope) cs
   unfolding members_by
   members_map [] = refl
   members_map (c ∷ cs) = ap (λ rest. members_by binder scope c ++ rest) (members_map cs)
 
-  meaning_and : (cs : List CondText) → meaning (schema_of binder) binder.text.now (from_of binder) scope (text.And cs) ≡ all_of (map (meaning (schema_of binder) binder.text.now (from_of binder) scope) cs)
-  meaning_and cs = ap (meaning (schema_of binder) binder.text.now (from_of binder) scope) (sym (rolls-And cs)) ∙ fold-roll-CondText Meaning step (CondText-F.And cs)
+  meaning_and : (cs : List CondNode) → meaning (schema_of binder) binder.text.now (from_of binder) scope (text.And cs) ≡ all_of (map (meaning (schema_of binder) binder.text.now (from_of binder) scope) cs)
+  meaning_and cs = ap (meaning (schema_of binder) binder.text.now (from_of binder) scope) (sym (rolls-And cs)) ∙ fold-roll-CondNode Meaning step (CondNode-F.And cs)
 
-  meaning_or : (cs : List CondText) → meaning (schema_of binder) binder.text.now (from_of binder) scope (text.Or cs) ≡ alone (cond.Or (wholes (map (meaning (schema_of binder) binder.text.now (from_of binder) scope) cs)))
-  meaning_or cs = ap (meaning (schema_of binder) binder.text.now (from_of binder) scope) (sym (rolls-Or cs)) ∙ fold-roll-CondText Meaning step (CondText-F.Or cs)
+  meaning_or : (cs : List CondNode) → meaning (schema_of binder) binder.text.now (from_of binder) scope (text.Or cs) ≡ alone (cond.Or (wholes (map (meaning (schema_of binder) binder.text.now (from_of binder) scope) cs)))
+  meaning_or cs = ap (meaning (schema_of binder) binder.text.now (from_of binder) scope) (sym (rolls-Or cs)) ∙ fold-roll-CondNode Meaning step (CondNode-F.Or cs)
 
-  meaning_not : (c : CondText) → meaning (schema_of binder) binder.text.now (from_of binder) scope (text.Not c) ≡ alone (cond.Not (meaning (schema_of binder) binder.text.now (from_of binder) scope c).whole)
-  meaning_not c = ap (meaning (schema_of binder) binder.text.now (from_of binder) scope) (sym (rolls-Not c)) ∙ fold-roll-CondText Meaning step (CondText-F.Not c)
+  meaning_not : (c : CondNode) → meaning (schema_of binder) binder.text.now (from_of binder) scope (text.Not c) ≡ alone (cond.Not (meaning (schema_of binder) binder.text.now (from_of binder) scope c).whole)
+  meaning_not c = ap (meaning (schema_of binder) binder.text.now (from_of binder) scope) (sym (rolls-Not c)) ∙ fold-roll-CondNode Meaning step (CondNode-F.Not c)
 
-  meaning_test : (t : TestText) → meaning (schema_of binder) binder.text.now (from_of binder) scope (text.Test t) ≡ test_meaning (schema_of binder) binder.text.now (from_of binder) scope t
-  meaning_test t = ap (meaning (schema_of binder) binder.text.now (from_of binder) scope) (sym (rolls-Test t)) ∙ fold-roll-CondText Meaning step (CondText-F.Test t)
+  meaning_test : (t : TestNode) → meaning (schema_of binder) binder.text.now (from_of binder) scope (text.Test t) ≡ test_meaning (schema_of binder) binder.text.now (from_of binder) scope t
+  meaning_test t = ap (meaning (schema_of binder) binder.text.now (from_of binder) scope) (sym (rolls-Test t)) ∙ fold-roll-CondNode Meaning step (CondNode-F.Test t)
 
-  pub value_and : (cs : List CondText) → value_by binder scope (text.And cs) ≡ cond.And (map (value_by binder scope) cs)
+  pub value_and : (cs : List CondNode) → value_by binder scope (text.And cs) ≡ cond.And (map (value_by binder scope) cs)
   unfolding value_by
   value_and cs = ap (λ m. m.whole) (meaning_and cs) ∙ ap cond.And (wholes_map cs)
 
-  pub value_or : (cs : List CondText) → value_by binder scope (text.Or cs) ≡ cond.Or (map (value_by binder scope) cs)
+  pub value_or : (cs : List CondNode) → value_by binder scope (text.Or cs) ≡ cond.Or (map (value_by binder scope) cs)
   unfolding value_by
   value_or cs = ap (λ m. m.whole) (meaning_or cs) ∙ ap cond.Or (wholes_map cs)
 
-  pub value_not : (c : CondText) → value_by binder scope (text.Not c) ≡ cond.Not (value_by binder scope c)
+  pub value_not : (c : CondNode) → value_by binder scope (text.Not c) ≡ cond.Not (value_by binder scope c)
   unfolding value_by
   value_not c = ap (λ m. m.whole) (meaning_not c)
 
-  pub value_test : (t : TestText) → value_by binder scope (text.Test t) ≡ test_value_by binder scope t
+  pub value_test : (t : TestNode) → value_by binder scope (text.Test t) ≡ test_value_by binder scope t
   unfolding value_by test_value_by
   value_test t = ap (λ m. m.whole) (meaning_test t)
 
-  pub members_and : (cs : List CondText) → members_by binder scope (text.And cs) ≡ flat_map (members_by binder scope) cs
+  pub members_and : (cs : List CondNode) → members_by binder scope (text.And cs) ≡ flat_map (members_by binder scope) cs
   unfolding members_by
   members_and cs = ap (λ m. m.members) (meaning_and cs) ∙ members_map cs
 
-  pub members_or : (cs : List CondText) → members_by binder scope (text.Or cs) ≡ value_by binder scope (text.Or cs) ∷ []
+  pub members_or : (cs : List CondNode) → members_by binder scope (text.Or cs) ≡ value_by binder scope (text.Or cs) ∷ []
   unfolding members_by value_by
   members_or cs = ap (λ m. m.members) (meaning_or cs) ∙ ap (λ m. m.whole ∷ []) (sym (meaning_or cs))
 
-  pub members_not : (c : CondText) → members_by binder scope (text.Not c) ≡ value_by binder scope (text.Not c) ∷ []
+  pub members_not : (c : CondNode) → members_by binder scope (text.Not c) ≡ value_by binder scope (text.Not c) ∷ []
   unfolding members_by value_by
   members_not c = ap (λ m. m.members) (meaning_not c) ∙ ap (λ m. m.whole ∷ []) (sym (meaning_not c))
 
-  pub members_test : (t : TestText) → members_by binder scope (text.Test t) ≡ test_members_by binder scope t
+  pub members_test : (t : TestNode) → members_by binder scope (text.Test t) ≡ test_members_by binder scope t
   unfolding members_by test_members_by
   members_test t = ap (λ m. m.members) (meaning_test t)
 
 -- ---- the tokens of a condition's members
 
-pub told_and : (P : Lexeme → Type 0) (c : CondText) (members items : List CondText) → c ≡ text.And members → items ≡ members → IsCondOf P c → All (IsCondOf P) items
+pub told_and : (P : Lexeme → Type 0) (c : CondNode) (members items : List CondNode) → c ≡ text.And members → items ≡ members → IsCondOf P c → All (IsCondOf P) items
 told_and P c members items is same h = subst (All (IsCondOf P)) (sym same) (members_of_and P members (subst (IsCondOf P) is h))
 
-pub told_or : (P : Lexeme → Type 0) (c : CondText) (members items : List CondText) → c ≡ text.Or members → items ≡ members → IsCondOf P c → All (IsCondOf P) items
+pub told_or : (P : Lexeme → Type 0) (c : CondNode) (members items : List CondNode) → c ≡ text.Or members → items ≡ members → IsCondOf P c → All (IsCondOf P) items
 told_or P c members items is same h = subst (All (IsCondOf P)) (sym same) (members_of_or P members (subst (IsCondOf P) is h))
 
-pub told_not : (P : Lexeme → Type 0) (c member inner : CondText) → c ≡ text.Not member → inner ≡ member → IsCondOf P c → IsCondOf P inner
+pub told_not : (P : Lexeme → Type 0) (c member inner : CondNode) → c ≡ text.Not member → inner ≡ member → IsCondOf P c → IsCondOf P inner
 told_not P c member inner is same h = subst (IsCondOf P) (sym same) (inner_of_not P member (subst (IsCondOf P) is h))
 
-pub told_test : (P : Lexeme → Type 0) (c : CondText) (t : TestText) → c ≡ text.Test t → IsCondOf P c → IsTestOf P t
+pub told_test : (P : Lexeme → Type 0) (c : CondNode) (t : TestNode) → c ≡ text.Test t → IsCondOf P c → IsTestOf P t
 told_test P c t is h = test_in P t (subst (IsCondOf P) is h)
 
 pub if_ok_map : {A E : Type 0} (P Q : A → Type 0) (r : Result A E) → IfOk r P → ((v : A) → P v → Q v) → IfOk r Q

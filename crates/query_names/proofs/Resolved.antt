@@ -4,7 +4,7 @@ use Rattle.std.specs.Prelude.{option_map, option_and_then, slice_get, slice_rang
 use Rattle.std.specs.List.{filter_map, cons_option}
 use Rattle.ll_grammars.specs.declared.lexeme.Lexeme.{Lexeme}
 use Rattle.sql_tokens.specs.Words.{name_of}
-use Rattle.query_grammar.specs.declared.tree.ColumnText.{ColumnText}
+use Rattle.query_grammar.specs.declared.tree.ColumnNode.{ColumnNode}
 use Rattle.schema_types.specs.declared.types.Column.{Column}
 use Rattle.schema_types.specs.declared.types.Table.{Table}
 use Rattle.schema_types.specs.declared.types.Schema.{Schema}
@@ -123,7 +123,7 @@ named_is from scope alias entry same = at (place_of (aliases from) alias) same w
   at None same = absurd cc
   at (Some n) same = held n (is_in scope n) same
 
-pub resolve_stands : (schema : Schema) (text : List ℕ) (from : List Source) (scope : Scope) (reference : ColumnText) (found : EntryColumn) → resolve schema text from scope reference ≡ Some found → Stands schema from found
+pub resolve_stands : (schema : Schema) (text : List ℕ) (from : List Source) (scope : Scope) (reference : ColumnNode) (found : EntryColumn) → resolve schema text from scope reference ≡ Some found → Stands schema from found
 unfolding resolve column_alone
 resolve_stands schema text from scope reference found same = at reference.table same where
   of : (name : List ℕ) (entry : Option Entry) → ((e : Entry) → entry ≡ Some e → IsEntry from e) → option_and_then (column_in schema name) entry ≡ Some found → Stands schema from found

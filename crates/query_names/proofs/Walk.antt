@@ -2,7 +2,7 @@
 use Rattle.std.proofs.Common.{◌≡◌, ℕ, add-one, ◌+◌, ◌<◌, List, [], ◌∷◌, ◌++◌, length, map, take, drop, get_or, Option, Some, None, ap, subst, sym, ◌∙◌, refl}
 use Rattle.std.proofs.Math.Seq.{drop-cons}
 use Rattle.std.proofs.lemmas.List.{take_more, map-append}
-use Rattle.query_grammar.specs.declared.tree.SourceText.{SourceText}
+use Rattle.query_grammar.specs.declared.tree.SourceNode.{SourceNode}
 use Rattle.schema_types.specs.declared.types.Schema.{Schema}
 use Rattle.query_types.specs.declared.types.Source.{Source}
 use Rattle.query_names.specs.declared.errors.QueryError.{QueryError}
@@ -28,7 +28,7 @@ map_push f old new images images' one are more pushed =
     more ∙ ap (λ l. l ++ f one ∷ []) are ∙ sym (map-append f old (one ∷ [])) ∙ ap (map f) (sym pushed)
 
 -- a source that isn't wrong leaves the offences of the rest, behind its alias
-pub no_offence_here : (schema : Schema) (text : List ℕ) (sources : List SourceText) (whole : List ℕ) (earlier earlier' : List (List ℕ)) (i : ℕ) (d : SourceText) (one : Source)
+pub no_offence_here : (schema : Schema) (text : List ℕ) (sources : List SourceNode) (whole : List ℕ) (earlier earlier' : List (List ℕ)) (i : ℕ) (d : SourceNode) (one : Source)
     → i < length sources → whole ≡ offences_behind schema text earlier (drop i sources)
     → (one ≡ entry_of schema text (get_or sources i d)) × (earlier' ≡ earlier ++ one.alias ∷ []) × (source_offences schema text earlier (get_or sources i d) ≡ [])
     → whole ≡ offences_behind schema text earlier' (drop (i + 1) sources)

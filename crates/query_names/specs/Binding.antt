@@ -1,17 +1,17 @@
 -- What the code that binds names knows: the schema, the text and the FROM entries; and the definitions over them.
 use Rattle.std.specs.Prelude.{◌≡◌, ℕ, Bool, List, take, Option}
 use Rattle.std.specs.List.{filter_map, flat_map}
-use Rattle.query_grammar.specs.declared.tree.CondText.{CondText}
+use Rattle.query_grammar.specs.declared.tree.CondNode.{CondNode}
 use Rattle.query_grammar.specs.declared.tree.Op.{Op}
-use Rattle.query_grammar.specs.declared.tree.OutText.{OutText}
-use Rattle.query_grammar.specs.declared.tree.OutsText.{OutsText}
+use Rattle.query_grammar.specs.declared.tree.OutNode.{OutNode}
+use Rattle.query_grammar.specs.declared.tree.OutsNode.{OutsNode}
 use Rattle.query_types.specs.declared.types.Operand.{Operand}
 use Rattle.query_types.specs.declared.types.Cond.{Cond}
 use Rattle.query_names.specs.Offences.{too_long}
 use Rattle.query_names.specs.Values.{operand_value, comparison, test_meaning, meaning}
-use Rattle.query_grammar.specs.declared.tree.ColumnText.{ColumnText}
-use Rattle.query_grammar.specs.declared.tree.OperandText.{OperandText}
-use Rattle.query_grammar.specs.declared.tree.TestText.{TestText}
+use Rattle.query_grammar.specs.declared.tree.ColumnNode.{ColumnNode}
+use Rattle.query_grammar.specs.declared.tree.OperandNode.{OperandNode}
+use Rattle.query_grammar.specs.declared.tree.TestNode.{TestNode}
 use Rattle.schema_types.specs.declared.types.Schema.{Schema}
 use Rattle.query_names.specs.declared.binder.Binder.{Binder}
 use Rattle.query_names.specs.declared.scope.Entry.{Entry}
@@ -39,22 +39,22 @@ pub record Shows (binder : Binder) (visible : Visible) : Type 0 where
       → take 2 (columns_in (schema_of binder) name visible.brief)
       ≡ take 2 (columns_in (schema_of binder) name (in_scope (from_of binder) visible.scope))
 
-abbrev pub resolved_by : Binder → Scope → ColumnText → Option EntryColumn
+abbrev pub resolved_by : Binder → Scope → ColumnNode → Option EntryColumn
 resolved_by binder scope reference = resolve (schema_of binder) binder.text.now (from_of binder) scope reference
 
-unfoldable pub name_offences_of : Binder → Scope → OperandText → List ℕ
+unfoldable pub name_offences_of : Binder → Scope → OperandNode → List ℕ
 name_offences_of binder scope operand = operand_offences (schema_of binder) binder.text.now (from_of binder) scope operand
 
-unfoldable pub is_text_by : Binder → Scope → OperandText → Bool
+unfoldable pub is_text_by : Binder → Scope → OperandNode → Bool
 is_text_by binder scope operand = is_text_operand (schema_of binder) binder.text.now (from_of binder) scope operand
 
-unfoldable pub kind_offence_of : Binder → Scope → Bool → OperandText → List ℕ
+unfoldable pub kind_offence_of : Binder → Scope → Bool → OperandNode → List ℕ
 kind_offence_of binder scope left operand = kind_offence (schema_of binder) binder.text.now (from_of binder) scope left operand
 
-unfoldable pub test_offences_of : Binder → Scope → TestText → List ℕ
+unfoldable pub test_offences_of : Binder → Scope → TestNode → List ℕ
 test_offences_of binder scope test = test_offences (schema_of binder) binder.text.now (from_of binder) scope test
 
-unfoldable pub kind_offences_of : Binder → Scope → TestText → List ℕ
+unfoldable pub kind_offences_of : Binder → Scope → TestNode → List ℕ
 kind_offences_of binder scope test = kind_offences (schema_of binder) binder.text.now (from_of binder) scope test
 
 -- ---- conditions, with the entries in scope there
@@ -70,24 +70,24 @@ lists_in c = flat_map too_long (tests c.condition)
 
 -- ---- values
 
-unfoldable pub operand_by : Binder → Scope → OperandText → Operand
+unfoldable pub operand_by : Binder → Scope → OperandNode → Operand
 operand_by binder scope operand = operand_value (schema_of binder) binder.text.now (from_of binder) scope operand
 
-unfoldable pub compared_by : Binder → Scope → Op → OperandText → OperandText → Cond
+unfoldable pub compared_by : Binder → Scope → Op → OperandNode → OperandNode → Cond
 compared_by binder scope op left right = comparison (schema_of binder) binder.text.now (from_of binder) scope op left right
 
 -- the condition that a test means, and its members
-unfoldable pub test_value_by : Binder → Scope → TestText → Cond
+unfoldable pub test_value_by : Binder → Scope → TestNode → Cond
 test_value_by binder scope test = (test_meaning (schema_of binder) binder.text.now (from_of binder) scope test).whole
 
-unfoldable pub test_members_by : Binder → Scope → TestText → List Cond
+unfoldable pub test_members_by : Binder → Scope → TestNode → List Cond
 test_members_by binder scope test = (test_meaning (schema_of binder) binder.text.now (from_of binder) scope test).members
 
 -- the condition that a text means, and its members
-unfoldable pub value_by : Binder → Scope → CondText → Cond
+unfoldable pub value_by : Binder → Scope → CondNode → Cond
 value_by binder scope condition = (meaning (schema_of binder) binder.text.now (from_of binder) scope condition).whole
 
-unfoldable pub members_by : Binder → Scope → CondText → List Cond
+unfoldable pub members_by : Binder → Scope → CondNode → List Cond
 members_by binder scope condition = (meaning (schema_of binder) binder.text.now (from_of binder) scope condition).members
 
 unfoldable pub members_in : Binder → Scoped → List Cond
@@ -95,8 +95,8 @@ members_in binder c = members_by binder c.scope c.condition
 
 -- ---- outputs
 
-unfoldable pub out_offences_of : Binder → Scope → OutText → List ℕ
+unfoldable pub out_offences_of : Binder → Scope → OutNode → List ℕ
 out_offences_of binder scope out = out_offences (schema_of binder) binder.text.now (from_of binder) scope out
 
-unfoldable pub outs_offences_of : Binder → Scope → OutsText → List ℕ
+unfoldable pub outs_offences_of : Binder → Scope → OutsNode → List ℕ
 outs_offences_of binder scope outs = outs_offences (schema_of binder) binder.text.now (from_of binder) scope outs

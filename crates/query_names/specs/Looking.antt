@@ -1,11 +1,11 @@
 -- What looking at the tests of a condition tells of them, and what is built on the way.
 use Rattle.std.specs.Prelude.{◌≡◌, ◌≤◌, ℕ, Bool, false, not, if◌then◌else◌, List, [], ◌∷◌, ◌++◌, length, map, None}
 use Rattle.std.specs.List.{flat_map}
-use Rattle.query_grammar.specs.declared.tree.LiteralText.{LiteralText}
+use Rattle.query_grammar.specs.declared.tree.LiteralNode.{LiteralNode}
 use Rattle.query_grammar.specs.declared.tree.Op.TheVariants as op
-use Rattle.query_grammar.specs.declared.tree.OperandText.{OperandText}
-use Rattle.query_grammar.specs.declared.tree.TestText.{TestText}
-use Rattle.query_grammar.specs.declared.tree.TestText.TheVariants as test
+use Rattle.query_grammar.specs.declared.tree.OperandNode.{OperandNode}
+use Rattle.query_grammar.specs.declared.tree.TestNode.{TestNode}
+use Rattle.query_grammar.specs.declared.tree.TestNode.TheVariants as test
 use Rattle.query_types.specs.declared.types.Operand.{Operand}
 use Rattle.query_types.specs.declared.types.Cond.{Cond}
 use Rattle.query_types.specs.declared.types.Cond.TheVariants as cond
@@ -22,11 +22,11 @@ use Rattle.query_names.specs.Binding.{from_of, name_offences_of, is_text_by, tes
 -- ---- operands
 
 -- what a literal is
-abbrev pub bound_literal : List ℕ → LiteralText → BoundOperand
+abbrev pub bound_literal : List ℕ → LiteralNode → BoundOperand
 bound_literal text l = record { value = literal_value text l; is_text = is_text_literal l; first = first_of_literal l }
 
 -- what an operand is that has no wrong name. Its value counts where FROM has at most 12 entries
-pub record IsBound (binder : Binder) (scope : Scope) (operand : OperandText) (bound : BoundOperand) : Type 0 where
+pub record IsBound (binder : Binder) (scope : Scope) (operand : OperandNode) (bound : BoundOperand) : Type 0 where
   pub none : name_offences_of binder scope operand ≡ []
   pub text : bound.is_text ≡ is_text_by binder scope operand
   pub first : bound.first ≡ first_of operand
@@ -35,27 +35,27 @@ pub record IsBound (binder : Binder) (scope : Scope) (operand : OperandText) (bo
 -- ---- tests
 
 -- a value of IN that isn't of the left operand's kind, and the equality with a value
-abbrev pub wrong_literal : Bool → LiteralText → List ℕ
+abbrev pub wrong_literal : Bool → LiteralNode → List ℕ
 wrong_literal left l = at (differ left (is_text_literal l)) (first_of_literal l)
 
-abbrev pub equal_to : List ℕ → Operand → LiteralText → Cond
+abbrev pub equal_to : List ℕ → Operand → LiteralNode → Cond
 equal_to text left l = cond.Compare op.Eq left (literal_value text l)
 
 -- the comparisons of a test's left operand with the others
-unfoldable pub comparisons_by : Binder → Scope → TestText → List Cond
+unfoldable pub comparisons_by : Binder → Scope → TestNode → List Cond
 comparisons_by binder scope (test.Compare left how right) = compared_by binder scope how left right ∷ []
 comparisons_by binder scope (test.Between left negated low high) =
     compared_by binder scope op.Ge left low ∷ compared_by binder scope op.Le left high ∷ []
 comparisons_by binder scope (test.In left negated values) = map (λ value. compared_by binder scope op.Eq left (of_literal value)) values
 
 -- the condition that they make together
-abbrev pub whole_of : TestText → List Cond → Cond
-whole_of (test.Compare left how right) parts = (any_of parts).whole
-whole_of (test.Between left negated low high) parts = if negated then cond.Not (cond.And parts) else cond.And parts
-whole_of (test.In left negated values) parts = if negated then cond.Not (any_of parts).whole else (any_of parts).whole
+abbrev pub test_condition : TestNode → List Cond → Cond
+test_condition (test.Compare left how right) parts = (any_of parts).whole
+test_condition (test.Between left negated low high) parts = if negated then cond.Not (cond.And parts) else cond.And parts
+test_condition (test.In left negated values) parts = if negated then cond.Not (any_of parts).whole else (any_of parts).whole
 
 -- whether they are members of the condition in which the test stands
-abbrev pub is_range : TestText → Bool
+abbrev pub is_range : TestNode → Bool
 is_range (test.Compare left how right) = false
 is_range (test.Between left negated low high) = not negated
 is_range (test.In left negated values) = false
@@ -70,11 +70,11 @@ pub record Looked (binder : Binder) (names kinds lists : List ℕ) (held held' :
   pub list : held'.list ≡ or_first held.list lists
   pub built : length (from_of binder) ≤ 12 → held'.list ≡ None → found' ≡ found ++ more
 
-abbrev pub LookedAtTest : Binder → Scope → TestText → HeldOffences → HeldOffences → List Cond → List Cond → List Cond → Type 0
+abbrev pub LookedAtTest : Binder → Scope → TestNode → HeldOffences → HeldOffences → List Cond → List Cond → List Cond → Type 0
 LookedAtTest binder scope t held held' found found' more =
     Looked binder (test_offences_of binder scope t) (kind_offences_of binder scope t) (too_long t) held held' found found' more
 
-abbrev pub LookedAt : Binder → Scope → List TestText → HeldOffences → HeldOffences → List Cond → List Cond → List Cond → Type 0
+abbrev pub LookedAt : Binder → Scope → List TestNode → HeldOffences → HeldOffences → List Cond → List Cond → List Cond → Type 0
 LookedAt binder scope ts held held' found found' more =
     Looked binder (flat_map (test_offences_of binder scope) ts) (flat_map (kind_offences_of binder scope) ts) (flat_map too_long ts)
     held held' found found' more

@@ -3,9 +3,9 @@ use Rattle.std.specs.Prelude.{ℕ, Bool, if◌then◌else◌, List, [], ◌∷�
 use Rattle.std.specs.List.{flat_map}
 use Rattle.ll_grammars.specs.declared.lexeme.Lexeme.{Lexeme}
 use Rattle.sql_tokens.specs.Words.{name_of}
-use Rattle.query_grammar.specs.declared.tree.SourceText.{SourceText}
-use Rattle.query_grammar.specs.declared.tree.PartText.{PartText}
-use Rattle.query_grammar.specs.declared.tree.QueryText.{QueryText}
+use Rattle.query_grammar.specs.declared.tree.SourceNode.{SourceNode}
+use Rattle.query_grammar.specs.declared.tree.PartNode.{PartNode}
+use Rattle.query_grammar.specs.declared.tree.QueryNode.{QueryNode}
 use Rattle.schema_types.specs.declared.types.Table.{Table}
 use Rattle.schema_types.specs.declared.types.Schema.{Schema}
 use Rattle.schema_types.specs.Names.{place_of}
@@ -37,28 +37,28 @@ column_in schema name entry = option_and_then (λ table. column_named entry.numb
 -- ---- the FROM entries
 
 -- the sources in text order
-abbrev pub sources_of : PartText → List SourceText
+abbrev pub sources_of : PartNode → List SourceNode
 sources_of part = part.first ∷ map (λ join. join.source) part.joins
 
-abbrev pub sources : QueryText → List SourceText
+abbrev pub sources : QueryNode → List SourceNode
 sources query = flat_map sources_of query.parts
 
 -- the token that names an entry: the second name, else the table's
-abbrev pub alias_token : SourceText → Lexeme
+abbrev pub alias_token : SourceNode → Lexeme
 alias_token source = unwrap_or source.alias source.table
 
 module _ (schema : Schema) (text : List ℕ) where
-  abbrev pub alias_of : SourceText → List ℕ
+  abbrev pub alias_of : SourceNode → List ℕ
   alias_of source = name_of text (alias_token source)
 
-  abbrev pub table_of : SourceText → Option ℕ
+  abbrev pub table_of : SourceNode → Option ℕ
   table_of source = place_of (table_names schema) (name_of text source.table)
 
-  abbrev pub entry_of : SourceText → Source
+  abbrev pub entry_of : SourceNode → Source
   entry_of source = record { table = unwrap_or (table_of source) 0; alias = alias_of source }
 
   -- the FROM entries, numbered from 0 in text order
-  unfoldable pub entries : QueryText → List Source
+  unfoldable pub entries : QueryNode → List Source
   entries query = map entry_of (sources query)
 
 abbrev pub aliases : List Source → List (List ℕ)
@@ -72,14 +72,14 @@ at wrong token = if wrong then token.start ∷ [] else []
 
 module _ (schema : Schema) (text : List ℕ) where
   -- an unknown table, at its name; then an alias that is equal to an earlier one
-  abbrev pub source_offences : List (List ℕ) → SourceText → List ℕ
+  abbrev pub source_offences : List (List ℕ) → SourceNode → List ℕ
   source_offences earlier source =
       at (is_none (table_of schema text source)) source.table ++ at (is_among earlier (alias_of schema text source)) (alias_token source)
 
-  abbrev pub offences_behind : List (List ℕ) → List SourceText → List ℕ
+  abbrev pub offences_behind : List (List ℕ) → List SourceNode → List ℕ
   offences_behind earlier [] = []
   offences_behind earlier (source ∷ rest) =
       source_offences earlier source ++ offences_behind (earlier ++ alias_of schema text source ∷ []) rest
 
-  unfoldable pub from_offences : QueryText → List ℕ
+  unfoldable pub from_offences : QueryNode → List ℕ
   from_offences query = offences_behind [] (sources query)

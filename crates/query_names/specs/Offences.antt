@@ -4,52 +4,52 @@ use Rattle.std.specs.List.{flat_map}
 use Rattle.limits.specs.Profile.{most_values}
 use Rattle.ll_grammars.specs.declared.lexeme.Lexeme.{Lexeme}
 use Rattle.sql_tokens.specs.Words.{name_of}
-use Rattle.query_grammar.specs.declared.tree.ColumnText.{ColumnText}
-use Rattle.query_grammar.specs.declared.tree.LiteralText.{LiteralText}
-use Rattle.query_grammar.specs.declared.tree.LiteralText.TheVariants as literal
-use Rattle.query_grammar.specs.declared.tree.OperandText.{OperandText}
-use Rattle.query_grammar.specs.declared.tree.OperandText.TheVariants as operand
-use Rattle.query_grammar.specs.declared.tree.TestText.{TestText}
-use Rattle.query_grammar.specs.declared.tree.TestText.TheVariants as test
-use Rattle.query_grammar.specs.declared.tree.OutText.{OutText}
-use Rattle.query_grammar.specs.declared.tree.OutText.TheVariants as out
-use Rattle.query_grammar.specs.declared.tree.OutsText.{OutsText}
-use Rattle.query_grammar.specs.declared.tree.OutsText.TheVariants as outs
-use Rattle.query_grammar.specs.declared.tree.QueryText.{QueryText}
+use Rattle.query_grammar.specs.declared.tree.ColumnNode.{ColumnNode}
+use Rattle.query_grammar.specs.declared.tree.LiteralNode.{LiteralNode}
+use Rattle.query_grammar.specs.declared.tree.LiteralNode.TheVariants as literal
+use Rattle.query_grammar.specs.declared.tree.OperandNode.{OperandNode}
+use Rattle.query_grammar.specs.declared.tree.OperandNode.TheVariants as operand
+use Rattle.query_grammar.specs.declared.tree.TestNode.{TestNode}
+use Rattle.query_grammar.specs.declared.tree.TestNode.TheVariants as test
+use Rattle.query_grammar.specs.declared.tree.OutNode.{OutNode}
+use Rattle.query_grammar.specs.declared.tree.OutNode.TheVariants as out
+use Rattle.query_grammar.specs.declared.tree.OutsNode.{OutsNode}
+use Rattle.query_grammar.specs.declared.tree.OutsNode.TheVariants as outs
+use Rattle.query_grammar.specs.declared.tree.QueryNode.{QueryNode}
 use Rattle.schema_types.specs.declared.types.Schema.{Schema}
 use Rattle.query_names.specs.declared.scope.EntryColumn.{EntryColumn}
 use Rattle.query_names.specs.declared.scope.Scope.{Scope}
 use Rattle.query_types.specs.declared.types.Source.{Source}
 use Rattle.query_types.specs.Validity.{is_text}
 use Rattle.query_names.specs.Names.{at, from_offences}
-use Rattle.query_names.specs.Scopes.{resolve, head_of, entry_named, everything, Scoped, conditions, tests}
+use Rattle.query_names.specs.Scopes.{resolve, head_of, entry_named, whole_scope, Scoped, conditions, tests}
 
 -- ---- what a test compares
 
-abbrev pub of_literal : LiteralText → OperandText
+abbrev pub of_literal : LiteralNode → OperandNode
 of_literal value = operand.Literal value
 
-abbrev pub left_of : TestText → OperandText
+abbrev pub left_of : TestNode → OperandNode
 left_of (test.Compare left op right) = left
 left_of (test.Between left negated low high) = left
 left_of (test.In left negated values) = left
 
 -- the operands and literals that the left operand is compared with, in text order
-abbrev pub others_of : TestText → List OperandText
+abbrev pub others_of : TestNode → List OperandNode
 others_of (test.Compare left op right) = right ∷ []
 others_of (test.Between left negated low high) = low ∷ high ∷ []
 others_of (test.In left negated values) = map of_literal values
 
-abbrev pub first_of_literal : LiteralText → Lexeme
+abbrev pub first_of_literal : LiteralNode → Lexeme
 first_of_literal (literal.Number sign digits) = unwrap_or sign digits
 first_of_literal (literal.Text token) = token
 
 -- the first token of an operand
-abbrev pub first_of : OperandText → Lexeme
+abbrev pub first_of : OperandNode → Lexeme
 first_of (operand.Column reference) = head_of reference
 first_of (operand.Literal value) = first_of_literal value
 
-abbrev pub is_text_literal : LiteralText → Bool
+abbrev pub is_text_literal : LiteralNode → Bool
 is_text_literal (literal.Number sign digits) = false
 is_text_literal (literal.Text token) = true
 
@@ -60,21 +60,21 @@ differ false b = b
 module _ (schema : Schema) (text : List ℕ) (from : List Source) (scope : Scope) where
   -- ---- names
 
-  abbrev pub reference_offences : ColumnText → List ℕ
+  abbrev pub reference_offences : ColumnNode → List ℕ
   reference_offences reference = at (is_none (resolve schema text from scope reference)) (head_of reference)
 
-  abbrev pub operand_offences : OperandText → List ℕ
+  abbrev pub operand_offences : OperandNode → List ℕ
   operand_offences (operand.Column reference) = reference_offences reference
   operand_offences (operand.Literal value) = []
 
-  abbrev pub test_offences : TestText → List ℕ
+  abbrev pub test_offences : TestNode → List ℕ
   test_offences t = flat_map operand_offences (left_of t ∷ others_of t)
 
-  abbrev pub out_offences : OutText → List ℕ
+  abbrev pub out_offences : OutNode → List ℕ
   out_offences (out.All alias) = at (is_none (entry_named from scope (name_of text alias))) alias
   out_offences (out.Column reference name) = reference_offences reference
 
-  abbrev pub outs_offences : OutsText → List ℕ
+  abbrev pub outs_offences : OutsNode → List ℕ
   outs_offences outs.All = []
   outs_offences (outs.Listed list) = flat_map out_offences list
 
@@ -84,15 +84,15 @@ module _ (schema : Schema) (text : List ℕ) (from : List Source) (scope : Scope
   is_text_column None = false
   is_text_column (Some column) = is_text column.kind
 
-  abbrev pub is_text_operand : OperandText → Bool
+  abbrev pub is_text_operand : OperandNode → Bool
   is_text_operand (operand.Column reference) = is_text_column (resolve schema text from scope reference)
   is_text_operand (operand.Literal value) = is_text_literal value
 
   -- another operand that isn't of the left one's kind
-  abbrev pub kind_offence : Bool → OperandText → List ℕ
+  abbrev pub kind_offence : Bool → OperandNode → List ℕ
   kind_offence left other = at (differ left (is_text_operand other)) (first_of other)
 
-  abbrev pub kind_offences : TestText → List ℕ
+  abbrev pub kind_offences : TestNode → List ℕ
   kind_offences t = flat_map (kind_offence (is_text_operand (left_of t))) (others_of t)
 
 module _ (schema : Schema) (text : List ℕ) (from : List Source) where
@@ -103,19 +103,19 @@ module _ (schema : Schema) (text : List ℕ) (from : List Source) where
   kind_offences_in c = flat_map (kind_offences schema text from c.scope) (tests c.condition)
 
   -- the FROM entries, then the SELECT list, then the ON conditions and that of WHERE
-  unfoldable pub name_offences : QueryText → List ℕ
+  unfoldable pub name_offences : QueryNode → List ℕ
   name_offences query =
       from_offences schema text query
-      ++ outs_offences schema text from (everything from) query.outs
+      ++ outs_offences schema text from (whole_scope from) query.outs
       ++ flat_map name_offences_in (conditions from query)
 
-  unfoldable pub all_kind_offences : QueryText → List ℕ
+  unfoldable pub all_kind_offences : QueryNode → List ℕ
   all_kind_offences query = flat_map kind_offences_in (conditions from query)
 
 -- ---- lists of IN
 
 -- the length of a test's list of IN, where that is more than 1,000; of any other test nothing
-abbrev pub too_long : TestText → List ℕ
+abbrev pub too_long : TestNode → List ℕ
 too_long (test.Compare left op right) = []
 too_long (test.Between left negated low high) = []
 too_long (test.In left negated values) = if nat_lt most_values (length values) then length values ∷ [] else []

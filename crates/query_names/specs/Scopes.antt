@@ -3,13 +3,13 @@ use Rattle.std.specs.Prelude.{ℕ, ◌+◌, Bool, ◌&&◌, nat_le, nat_lt, if�
 use Rattle.std.specs.List.{filter_map, flat_map}
 use Rattle.ll_grammars.specs.declared.lexeme.Lexeme.{Lexeme}
 use Rattle.sql_tokens.specs.Words.{name_of}
-use Rattle.query_grammar.specs.declared.tree.ColumnText.{ColumnText}
-use Rattle.query_grammar.specs.declared.tree.CondText.{CondText, fold-CondText}
-use Rattle.query_grammar.specs.declared.tree.CondText.TheOpen.{CondText-F}
-use Rattle.query_grammar.specs.declared.tree.TestText.{TestText}
-use Rattle.query_grammar.specs.declared.tree.JoinText.{JoinText}
-use Rattle.query_grammar.specs.declared.tree.PartText.{PartText}
-use Rattle.query_grammar.specs.declared.tree.QueryText.{QueryText}
+use Rattle.query_grammar.specs.declared.tree.ColumnNode.{ColumnNode}
+use Rattle.query_grammar.specs.declared.tree.CondNode.{CondNode, fold-CondNode}
+use Rattle.query_grammar.specs.declared.tree.CondNode.TheOpen.{CondNode-F}
+use Rattle.query_grammar.specs.declared.tree.TestNode.{TestNode}
+use Rattle.query_grammar.specs.declared.tree.JoinedNode.{JoinedNode}
+use Rattle.query_grammar.specs.declared.tree.PartNode.{PartNode}
+use Rattle.query_grammar.specs.declared.tree.QueryNode.{QueryNode}
 use Rattle.schema_types.specs.declared.types.Schema.{Schema}
 use Rattle.query_names.specs.declared.scope.Entry.{Entry}
 use Rattle.query_names.specs.declared.scope.EntryColumn.{EntryColumn}
@@ -60,50 +60,50 @@ module _ (schema : Schema) (text : List ℕ) (from : List Source) (scope : Scope
   resolved (Some table) column = column_of (name_of text table) (name_of text column)
 
   -- what a reference stands for, where it stands for just one column
-  unfoldable pub resolve : ColumnText → Option EntryColumn
+  unfoldable pub resolve : ColumnNode → Option EntryColumn
   resolve reference = resolved reference.table reference.column
 
 -- the first token of a reference
-abbrev pub head_of : ColumnText → Lexeme
+abbrev pub head_of : ColumnNode → Lexeme
 head_of reference = unwrap_or reference.table reference.column
 
 -- ---- conditions and tests, each with the entries in scope there
 
 pub record Scoped : Type 0 where
   pub scope : Scope
-  pub condition : CondText
+  pub condition : CondNode
 
 -- the conditions of a part's joins: the entries from the part's first one up to the one just joined are in scope
-abbrev pub joined : ℕ → ℕ → List JoinText → List Scoped
+abbrev pub joined : ℕ → ℕ → List JoinedNode → List Scoped
 joined first end [] = []
 joined first end (join ∷ rest) =
     record { scope = record { first = first; end = end + 1 }; condition = join.on } ∷ joined first (end + 1) rest
 
-abbrev pub on_conditions : ℕ → List PartText → List Scoped
+abbrev pub on_conditions : ℕ → List PartNode → List Scoped
 on_conditions first [] = []
 on_conditions first (part ∷ rest) = joined first (first + 1) part.joins ++ on_conditions (first + 1 + length part.joins) rest
 
 -- all entries are in scope
-abbrev pub everything : List Source → Scope
-everything from = record { first = 0; end = length from }
+abbrev pub whole_scope : List Source → Scope
+whole_scope from = record { first = 0; end = length from }
 
-abbrev pub where_scope : List Source → Option CondText → List Scoped
+abbrev pub where_scope : List Source → Option CondNode → List Scoped
 where_scope from None = []
-where_scope from (Some condition) = record { scope = everything from; condition = condition } ∷ []
+where_scope from (Some condition) = record { scope = whole_scope from; condition = condition } ∷ []
 
 -- the ON conditions in text order, then that of WHERE
-unfoldable pub conditions : List Source → QueryText → List Scoped
+unfoldable pub conditions : List Source → QueryNode → List Scoped
 conditions from query = on_conditions 0 query.parts ++ where_scope from query.filter
 
-abbrev pub one_by_one : List (List TestText) → List TestText
+abbrev pub one_by_one : List (List TestNode) → List TestNode
 one_by_one lists = flat_map (λ list. list) lists
 
-abbrev pub tests_step : CondText-F (List TestText) → List TestText
-tests_step (CondText-F.And members) = one_by_one members
-tests_step (CondText-F.Or members) = one_by_one members
-tests_step (CondText-F.Not member) = member
-tests_step (CondText-F.Test test) = test ∷ []
+abbrev pub tests_step : CondNode-F (List TestNode) → List TestNode
+tests_step (CondNode-F.And members) = one_by_one members
+tests_step (CondNode-F.Or members) = one_by_one members
+tests_step (CondNode-F.Not member) = member
+tests_step (CondNode-F.Test test) = test ∷ []
 
 -- the tests of a condition in text order
-abbrev pub tests : CondText → List TestText
-tests = fold-CondText (List TestText) tests_step
+abbrev pub tests : CondNode → List TestNode
+tests = fold-CondNode (List TestNode) tests_step

@@ -4,19 +4,19 @@ use Rattle.std.specs.List.{flat_map}
 use Rattle.sql_tokens.specs.Words.{name_of, literal_of}
 use Rattle.query_grammar.specs.declared.tree.Op.{Op}
 use Rattle.query_grammar.specs.declared.tree.Op.TheVariants as op
-use Rattle.query_grammar.specs.declared.tree.LiteralText.{LiteralText}
-use Rattle.query_grammar.specs.declared.tree.LiteralText.TheVariants as literal
-use Rattle.query_grammar.specs.declared.tree.OperandText.{OperandText}
-use Rattle.query_grammar.specs.declared.tree.OperandText.TheVariants as operand
-use Rattle.query_grammar.specs.declared.tree.TestText.{TestText}
-use Rattle.query_grammar.specs.declared.tree.TestText.TheVariants as test
-use Rattle.query_grammar.specs.declared.tree.CondText.{CondText, fold-CondText}
-use Rattle.query_grammar.specs.declared.tree.CondText.TheOpen.{CondText-F}
-use Rattle.query_grammar.specs.declared.tree.OutText.{OutText}
-use Rattle.query_grammar.specs.declared.tree.OutText.TheVariants as out
-use Rattle.query_grammar.specs.declared.tree.OutsText.{OutsText}
-use Rattle.query_grammar.specs.declared.tree.OutsText.TheVariants as outs
-use Rattle.query_grammar.specs.declared.tree.QueryText.{QueryText}
+use Rattle.query_grammar.specs.declared.tree.LiteralNode.{LiteralNode}
+use Rattle.query_grammar.specs.declared.tree.LiteralNode.TheVariants as literal
+use Rattle.query_grammar.specs.declared.tree.OperandNode.{OperandNode}
+use Rattle.query_grammar.specs.declared.tree.OperandNode.TheVariants as operand
+use Rattle.query_grammar.specs.declared.tree.TestNode.{TestNode}
+use Rattle.query_grammar.specs.declared.tree.TestNode.TheVariants as test
+use Rattle.query_grammar.specs.declared.tree.CondNode.{CondNode, fold-CondNode}
+use Rattle.query_grammar.specs.declared.tree.CondNode.TheOpen.{CondNode-F}
+use Rattle.query_grammar.specs.declared.tree.OutNode.{OutNode}
+use Rattle.query_grammar.specs.declared.tree.OutNode.TheVariants as out
+use Rattle.query_grammar.specs.declared.tree.OutsNode.{OutsNode}
+use Rattle.query_grammar.specs.declared.tree.OutsNode.TheVariants as outs
+use Rattle.query_grammar.specs.declared.tree.QueryNode.{QueryNode}
 use Rattle.schema_types.specs.declared.types.Column.{Column}
 use Rattle.schema_types.specs.declared.types.Table.{Table}
 use Rattle.schema_types.specs.declared.types.Schema.{Schema}
@@ -32,7 +32,7 @@ use Rattle.query_types.specs.declared.types.Source.{Source}
 use Rattle.query_types.specs.declared.types.Out.{Out}
 use Rattle.query_types.specs.declared.types.Query.{Query}
 use Rattle.query_names.specs.Names.{entries}
-use Rattle.query_names.specs.Scopes.{resolve, entry_named, in_scope, everything, Scoped, conditions}
+use Rattle.query_names.specs.Scopes.{resolve, entry_named, in_scope, whole_scope, Scoped, conditions}
 use Rattle.query_names.specs.Numbers.{number_value}
 use Rattle.query_names.specs.Offences.{of_literal}
 
@@ -61,48 +61,48 @@ any_of (one ∷ []) = alone one
 any_of (one ∷ other ∷ rest) = alone (cond.Or (one ∷ other ∷ rest))
 
 -- the column that a reference stands for. None comes only from a wrong name, and such a query is refused, so that column is never used
-abbrev pub reference_to : Option EntryColumn → ColumnRef
-reference_to None = record { from = 0; column = 0 }
-reference_to (Some column) = record { from = column.from; column = column.column }
+abbrev pub resolved_column : Option EntryColumn → ColumnRef
+resolved_column None = record { from = 0; column = 0 }
+resolved_column (Some column) = record { from = column.from; column = column.column }
 
-abbrev pub literal_value : List ℕ → LiteralText → Operand
+abbrev pub literal_value : List ℕ → LiteralNode → Operand
 literal_value text (literal.Number sign digits) = value.Int (number_value text sign digits)
 literal_value text (literal.Text token) = value.Text (literal_of text token)
 
 module _ (schema : Schema) (text : List ℕ) (from : List Source) (scope : Scope) where
-  abbrev pub operand_value : OperandText → Operand
-  operand_value (operand.Column reference) = value.Column (reference_to (resolve schema text from scope reference))
+  abbrev pub operand_value : OperandNode → Operand
+  operand_value (operand.Column reference) = value.Column (resolved_column (resolve schema text from scope reference))
   operand_value (operand.Literal l) = literal_value text l
 
-  abbrev pub comparison : Op → OperandText → OperandText → Cond
+  abbrev pub comparison : Op → OperandNode → OperandNode → Cond
   comparison how left right = cond.Compare how (operand_value left) (operand_value right)
 
-  abbrev pub equality : OperandText → LiteralText → Cond
+  abbrev pub equality : OperandNode → LiteralNode → Cond
   equality left l = comparison op.Eq left (of_literal l)
 
   -- BETWEEN means the AND of >= and <=, and IN the OR of equalities. NOT BETWEEN and NOT IN are the NOT of these
-  abbrev pub test_meaning : TestText → Meaning
+  abbrev pub test_meaning : TestNode → Meaning
   test_meaning (test.Compare left how right) = alone (comparison how left right)
   test_meaning (test.Between left negated low high) =
       negated_where negated (all_of (alone (comparison op.Ge left low) ∷ alone (comparison op.Le left high) ∷ []))
   test_meaning (test.In left negated values) = negated_where negated (any_of (map (equality left) values))
 
-  abbrev pub meaning_step : CondText-F Meaning → Meaning
-  meaning_step (CondText-F.And members) = all_of members
-  meaning_step (CondText-F.Or members) = alone (cond.Or (wholes members))
-  meaning_step (CondText-F.Not member) = alone (cond.Not member.whole)
-  meaning_step (CondText-F.Test t) = test_meaning t
+  abbrev pub meaning_step : CondNode-F Meaning → Meaning
+  meaning_step (CondNode-F.And members) = all_of members
+  meaning_step (CondNode-F.Or members) = alone (cond.Or (wholes members))
+  meaning_step (CondNode-F.Not member) = alone (cond.Not member.whole)
+  meaning_step (CondNode-F.Test t) = test_meaning t
 
   -- what a condition's text means
-  abbrev pub meaning : CondText → Meaning
-  meaning = fold-CondText Meaning meaning_step
+  abbrev pub meaning : CondNode → Meaning
+  meaning = fold-CondNode Meaning meaning_step
 
 module _ (schema : Schema) (text : List ℕ) (from : List Source) where
   abbrev pub members_in : Scoped → List Cond
   members_in c = (meaning schema text from c.scope c.condition).members
 
   -- the members of the ON conditions in text order, then those of WHERE
-  unfoldable pub conjuncts : QueryText → List Cond
+  unfoldable pub conjuncts : QueryNode → List Cond
   conjuncts query = flat_map members_in (conditions from query)
 
 -- ---- outputs (SQL-92 7.9)
@@ -126,21 +126,21 @@ outs_of_found schema (Some entry) = outs_of_entry schema entry
 
 module _ (schema : Schema) (text : List ℕ) (from : List Source) where
   -- the outputs of one item: all columns of an alias's entry, or one column, under the name that is written after it, else its own
-  abbrev pub outs_of : OutText → List Out
-  outs_of (out.All alias) = outs_of_found schema (entry_named from (everything from) (name_of text alias))
+  abbrev pub outs_of : OutNode → List Out
+  outs_of (out.All alias) = outs_of_found schema (entry_named from (whole_scope from) (name_of text alias))
   outs_of (out.Column reference name) =
       record {
-        column = reference_to (resolve schema text from (everything from) reference);
+        column = resolved_column (resolve schema text from (whole_scope from) reference);
         name = name_of text (unwrap_or name reference.column);
       } ∷ []
 
   -- the outputs of the whole list. * means all columns of all entries, in the order of FROM
-  abbrev pub selected : OutsText → List Out
-  selected outs.All = flat_map (outs_of_entry schema) (in_scope from (everything from))
+  abbrev pub selected : OutsNode → List Out
+  selected outs.All = flat_map (outs_of_entry schema) (in_scope from (whole_scope from))
   selected (outs.Listed list) = flat_map outs_of list
 
 -- the query that a syntax tree means, where no name and no kind is wrong
-unfoldable pub query_of : Schema → List ℕ → QueryText → Query
+unfoldable pub query_of : Schema → List ℕ → QueryNode → Query
 query_of schema text query = record {
   from = entries schema text query;
   conjuncts = conjuncts schema text (entries schema text query) query;

@@ -1,7 +1,7 @@
 //! What references to columns stand for.
 ghost use Rattle.std.specs.Prelude.{◌≡◌, ◌≤◌, ◌<◌, ◌+◌, IfOk, length, ◌==◌, count_by, option_map, slice_get};
 ghost use Rattle.sql_tokens.specs.Words.{IsLexemeOf};
-ghost use Rattle.query_names.specs.Scopes.{only, entry_named, everything, column_of};
+ghost use Rattle.query_names.specs.Scopes.{only, entry_named, whole_scope, column_of};
 ghost use Rattle.query_grammar.specs.Lexemes.{IsColumnOf};
 ghost use Rattle.query_names.specs.Binding.{schema_of, from_of, columns_in, Shows, resolved_by};
 
@@ -9,7 +9,7 @@ use crate::catalog::Catalog;
 use crate::scope::{Entry, EntryColumn, Scope, Visible};
 use crate::sources::Entries;
 use base_io::{NoMemory, Seq};
-use query_grammar::ColumnText;
+use query_grammar::ColumnNode;
 use schema_types::Table;
 use sql_tokens::name;
 use std::alloc::Global;
@@ -76,7 +76,7 @@ impl<'a> Binder<'a> {
     pub fn resolve(
         &self,
         visible: &Visible,
-        reference: &ColumnText,
+        reference: &ColumnNode,
     ) -> Result<Option<EntryColumn>, NoMemory>
         requires shows { Shows self.now visible.now }
         requires tokens { IsColumnOf (IsLexemeOf self.now.text.now) reference.now }
@@ -136,7 +136,7 @@ impl<'a> Binder<'a> {
     /// All entries in scope.
     pub fn all_visible(&self) -> Result<Visible, NoMemory>
         ensures shows { IfOk result (λ visible. Shows self.now visible) }
-        ensures scope { IfOk result (λ visible. visible.scope ≡ everything (from_of self.now)) }
+        ensures scope { IfOk result (λ visible. visible.scope ≡ whole_scope (from_of self.now)) }
     {
         let mut visible = self.none_visible(0);
         'all: for _ in 0..self.entries.sources.len() {

@@ -6,7 +6,7 @@ ghost use Rattle.query_names.specs.Answers.{or_first};
 
 use limits::MOST_VALUES;
 use ll_grammars::Lexeme;
-use query_grammar::TestText;
+use query_grammar::TestNode;
 
 /// What was found so far that is refused only after all names were looked at: the place of the first operand of
 /// the wrong kind, and the length of the first list of IN that is too long.
@@ -28,11 +28,11 @@ impl HeldOffences {
     }
 
     /// Keeps the length of a list of IN that is too long.
-    pub(crate) fn note_list(&mut self, test: &TestText)
+    pub(crate) fn note_list(&mut self, test: &TestNode)
         ensures list { self.new.list ≡ or_first self.old.list (too_long test.now) }
         ensures kind { self.new.kind ≡ self.old.kind }
     {
-        if let TestText::In { values, .. } = test {
+        if let TestNode::In { values, .. } = test {
             let count = values.len();
             if count > MOST_VALUES && self.list.is_none() {
                 self.list = Some(count);

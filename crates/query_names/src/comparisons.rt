@@ -15,30 +15,30 @@ use crate::binder::Binder;
 use crate::checks::HeldOffences;
 use crate::operands::{BoundOperand, bind_literal, copied};
 use crate::scope::Visible;
-use crate::values::whole_of;
+use crate::values::test_condition;
 use base_io::{NoMemory, Seq};
 use limits::MOST_ENTRIES;
-use query_grammar::{LiteralText, OperandText, TestText};
+use query_grammar::{LiteralNode, OperandNode, TestNode};
 use query_types::{Cond, Op};
 
 /// The left operand of a test.
-fn left_of(test: &TestText) -> OperandText
+fn left_of(test: &TestNode) -> OperandNode
     ensures { result ≡ left_of test.now }
 {
     match test {
-        TestText::Compare { left, .. } => *left,
-        TestText::Between { operand, .. } => *operand,
-        TestText::In { operand, .. } => *operand,
+        TestNode::Compare { left, .. } => *left,
+        TestNode::Between { operand, .. } => *operand,
+        TestNode::In { operand, .. } => *operand,
     }
 }
 
 /// Whether a test is two comparisons that hold together, and so two members of what it stands in.
-fn is_range(test: &TestText) -> bool
+fn is_range(test: &TestNode) -> bool
     ensures { result ≡ is_range test.now }
 {
     match test {
-        TestText::Between { negated, .. } => !*negated,
-        TestText::Compare { .. } | TestText::In { .. } => false,
+        TestNode::Between { negated, .. } => !*negated,
+        TestNode::Compare { .. } | TestNode::In { .. } => false,
     }
 }
 
@@ -80,7 +80,7 @@ impl<'a> Binder<'a> {
     fn add_equalities(
         &self,
         left: &BoundOperand,
-        values: &[LiteralText],
+        values: &[LiteralNode],
         held: &mut HeldOffences,
         found: &mut Seq<Cond>,
     ) -> Result<(), NoMemory>
@@ -99,7 +99,7 @@ impl<'a> Binder<'a> {
     fn add_comparisons(
         &self,
         visible: &Visible,
-        test: &TestText,
+        test: &TestNode,
         held: &mut HeldOffences,
         found: &mut Seq<Cond>,
     ) -> Result<(), QueryError>
@@ -111,17 +111,17 @@ impl<'a> Binder<'a> {
     {
         let left = self.bind_operand(visible, &left_of(test))?;
         match test {
-            TestText::Compare { op, right, .. } => {
+            TestNode::Compare { op, right, .. } => {
                 let right = self.bind_operand(visible, right)?;
                 Ok(self.compare(&left, *op, right, held, found)?)
             }
-            TestText::Between { low, high, .. } => {
+            TestNode::Between { low, high, .. } => {
                 let low = self.bind_operand(visible, low)?;
                 let high = self.bind_operand(visible, high)?;
                 self.compare(&left, Op::Ge, low, held, found)?;
                 Ok(self.compare(&left, Op::Le, high, held, found)?)
             }
-            TestText::In { values, .. } => {
+            TestNode::In { values, .. } => {
                 held.note_list(test);
                 Ok(self.add_equalities(&left, values.as_slice(), held, found)?)
             }
@@ -132,7 +132,7 @@ impl<'a> Binder<'a> {
     pub(crate) fn add_test(
         &self,
         visible: &Visible,
-        test: &TestText,
+        test: &TestNode,
         held: &mut HeldOffences,
         found: &mut Seq<Cond>,
     ) -> Result<(), QueryError>
@@ -145,7 +145,7 @@ impl<'a> Binder<'a> {
         let mut parts = Seq::new(self.alloc);
         self.add_comparisons(visible, test, held, &mut parts)?;
         if self.builds(held) {
-            found.push(whole_of(self.alloc, test, parts)?)?;
+            found.push(test_condition(self.alloc, test, parts)?)?;
         }
         Ok(())
     }
@@ -154,7 +154,7 @@ impl<'a> Binder<'a> {
     pub(crate) fn add_test_members(
         &self,
         visible: &Visible,
-        test: &TestText,
+        test: &TestNode,
         held: &mut HeldOffences,
         found: &mut Seq<Cond>,
     ) -> Result<(), QueryError>

@@ -13,7 +13,7 @@ use crate::binder::Binder;
 use crate::checks::HeldOffences;
 use crate::scope::Visible;
 use base_io::{Boxed, Seq};
-use query_grammar::CondText;
+use query_grammar::CondNode;
 use query_types::Cond;
 
 impl<'a> Binder<'a> {
@@ -22,7 +22,7 @@ impl<'a> Binder<'a> {
     fn values(
         &self,
         visible: &Visible,
-        conditions: &[CondText],
+        conditions: &[CondNode],
         held: &mut HeldOffences,
     ) -> Result<Seq<Cond>, QueryError>
         requires shows { Shows self.now visible.now }
@@ -43,7 +43,7 @@ impl<'a> Binder<'a> {
     fn add_value(
         &self,
         visible: &Visible,
-        condition: &CondText,
+        condition: &CondNode,
         held: &mut HeldOffences,
         found: &mut Seq<Cond>,
     ) -> Result<(), QueryError>
@@ -54,21 +54,21 @@ impl<'a> Binder<'a> {
         ensures err { IfErr result (IsNameError (flat_map (test_offences_of self.now visible.now.scope) (tests condition.now))) }
     {
         match condition {
-            CondText::And(members) => {
+            CondNode::And(members) => {
                 let parts = self.values(visible, members.as_slice(), held)?;
                 if self.builds(held) {
                     found.push(Cond::And(parts))?;
                 }
                 Ok(())
             }
-            CondText::Or(members) => {
+            CondNode::Or(members) => {
                 let parts = self.values(visible, members.as_slice(), held)?;
                 if self.builds(held) {
                     found.push(Cond::Or(parts))?;
                 }
                 Ok(())
             }
-            CondText::Not(member) => {
+            CondNode::Not(member) => {
                 let mut parts = Seq::new(self.alloc);
                 self.add_value(visible, member.get(), held, &mut parts)?;
                 if let Some(part) = parts.pop() {
@@ -76,7 +76,7 @@ impl<'a> Binder<'a> {
                 }
                 Ok(())
             }
-            CondText::Test(test) => self.add_test(visible, test, held, found),
+            CondNode::Test(test) => self.add_test(visible, test, held, found),
         }
     }
 
@@ -85,7 +85,7 @@ impl<'a> Binder<'a> {
     pub fn add_members(
         &self,
         visible: &Visible,
-        condition: &CondText,
+        condition: &CondNode,
         held: &mut HeldOffences,
         found: &mut Seq<Cond>,
     ) -> Result<(), QueryError>
@@ -96,14 +96,14 @@ impl<'a> Binder<'a> {
         ensures err { IfErr result (IsNameError (flat_map (test_offences_of self.now visible.now.scope) (tests condition.now))) }
     {
         match condition {
-            CondText::And(members) => {
+            CondNode::And(members) => {
                 'all: for member in members.as_slice() {
                     self.add_members(visible, member, held, found)?;
                 }
                 Ok(())
             }
-            CondText::Or(_) | CondText::Not(_) => self.add_value(visible, condition, held, found),
-            CondText::Test(test) => self.add_test_members(visible, test, held, found),
+            CondNode::Or(_) | CondNode::Not(_) => self.add_value(visible, condition, held, found),
+            CondNode::Test(test) => self.add_test_members(visible, test, held, found),
         }
     }
 }

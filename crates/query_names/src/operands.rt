@@ -3,7 +3,7 @@ ghost use Rattle.std.specs.Prelude.{◌≡◌, ◌<◌, Some, IfOk, IfErr};
 ghost use Rattle.sql_tokens.specs.Words.{IsLexemeOf};
 ghost use Rattle.query_grammar.specs.Lexemes.{IsLiteralOf, IsOperandOf};
 ghost use Rattle.query_types.specs.Validity.{is_text};
-ghost use Rattle.query_names.specs.Values.{reference_to};
+ghost use Rattle.query_names.specs.Values.{resolved_column};
 ghost use Rattle.query_names.specs.Answers.{IsNameError};
 ghost use Rattle.query_names.specs.Binding.{Shows, name_offences_of};
 ghost use Rattle.query_names.specs.Looking.{bound_literal, IsBound};
@@ -14,7 +14,7 @@ use crate::scope::{EntryColumn, Visible};
 use crate::values::number_value;
 use base_io::{Name, NoMemory};
 use ll_grammars::Lexeme;
-use query_grammar::{LiteralText, OperandText};
+use query_grammar::{LiteralNode, OperandNode};
 use query_types::{ColumnRef, Operand};
 use schema_types::Kind;
 use sql_tokens::literal;
@@ -51,7 +51,7 @@ pub fn copied(alloc: Global, operand: &Operand) -> Result<Operand, NoMemory>
 /// The reference to a column that was found.
 pub fn reference_to(column: EntryColumn) -> ColumnRef
     requires { column.from < 256 }
-    ensures { result ≡ reference_to (Some column) }
+    ensures { result ≡ resolved_column (Some column) }
 {
     ColumnRef {
         from: column.from as u8,
@@ -61,7 +61,7 @@ pub fn reference_to(column: EntryColumn) -> ColumnRef
 
 /// The same, for an entry of any number. A query with so many entries is refused, and nothing is built for it.
 fn capped_reference(column: EntryColumn) -> ColumnRef
-    ensures { column.from < 256 → result ≡ reference_to (Some column) }
+    ensures { column.from < 256 → result ≡ resolved_column (Some column) }
 {
     reference_to(EntryColumn {
         from: column.from.min(255),
@@ -73,18 +73,18 @@ fn capped_reference(column: EntryColumn) -> ColumnRef
 pub fn bind_literal(
     alloc: Global,
     text: &[u8],
-    value: &LiteralText,
+    value: &LiteralNode,
 ) -> Result<BoundOperand, NoMemory>
     requires { IsLiteralOf (IsLexemeOf text.now) value.now }
     ensures { IfOk result (λ found. found ≡ bound_literal text.now value.now) }
 {
     match value {
-        LiteralText::Number { sign, digits } => Ok(BoundOperand {
+        LiteralNode::Number { sign, digits } => Ok(BoundOperand {
             value: Operand::Int(number_value(text, sign, digits)),
             is_text: false,
             first: sign.unwrap_or(*digits),
         }),
-        LiteralText::Text(token) => Ok(BoundOperand {
+        LiteralNode::Text(token) => Ok(BoundOperand {
             value: Operand::Text(literal(alloc, text, token)?),
             is_text: true,
             first: *token,
@@ -98,7 +98,7 @@ impl<'a> Binder<'a> {
     pub(crate) fn bind_operand(
         &self,
         visible: &Visible,
-        operand: &OperandText,
+        operand: &OperandNode,
     ) -> Result<BoundOperand, QueryError>
         requires shows { Shows self.now visible.now }
         requires tokens { IsOperandOf (IsLexemeOf self.now.text.now) operand.now }
@@ -106,7 +106,7 @@ impl<'a> Binder<'a> {
         ensures err { IfErr result (IsNameError (name_offences_of self.now visible.now.scope operand.now)) }
     {
         match operand {
-            OperandText::Column(reference) => {
+            OperandNode::Column(reference) => {
                 let first = reference.table.unwrap_or(reference.column);
                 match self.resolve(visible, reference)? {
                     Some(column) => Ok(BoundOperand {
@@ -117,7 +117,7 @@ impl<'a> Binder<'a> {
                     None => Err(QueryError::Name { at: first.start }),
                 }
             }
-            OperandText::Literal(value) => Ok(bind_literal(self.alloc, self.text, value)?),
+            OperandNode::Literal(value) => Ok(bind_literal(self.alloc, self.text, value)?),
         }
     }
 }

@@ -10,7 +10,7 @@ use crate::QueryError;
 use crate::catalog::Catalog;
 use base_io::{NoMemory, Seq};
 use ll_grammars::Lexeme;
-use query_grammar::{PartText, SourceText};
+use query_grammar::{PartNode, SourceNode};
 use query_types::Source;
 use schema_types::NameList;
 use sql_tokens::name;
@@ -24,7 +24,7 @@ pub struct Entries {
     ghost named: { aliases ≡ map (λ source. source.alias) sources },
 }
 
-fn add_sources(found: &mut Seq<SourceText>, part: &PartText) -> Result<(), NoMemory>
+fn add_sources(found: &mut Seq<SourceNode>, part: &PartNode) -> Result<(), NoMemory>
     ensures { IfOk result (λ _. found.new ≡ found.old ++ sources_of part.now) }
 {
     found.push(part.first)?;
@@ -35,7 +35,7 @@ fn add_sources(found: &mut Seq<SourceText>, part: &PartText) -> Result<(), NoMem
 }
 
 /// The sources of FROM in text order.
-pub fn all_sources(alloc: Global, parts: &[PartText]) -> Result<Seq<SourceText>, NoMemory>
+pub fn all_sources(alloc: Global, parts: &[PartNode]) -> Result<Seq<SourceNode>, NoMemory>
     ensures { IfOk result (λ found. found ≡ flat_map sources_of parts.now) }
 {
     let mut found = Seq::new(alloc);
@@ -46,7 +46,7 @@ pub fn all_sources(alloc: Global, parts: &[PartText]) -> Result<Seq<SourceText>,
 }
 
 /// The token that names an entry.
-fn alias_token(source: &SourceText) -> Lexeme
+fn alias_token(source: &SourceNode) -> Lexeme
     ensures { result ≡ alias_token source.now }
 {
     source.alias.unwrap_or(source.table)
@@ -58,7 +58,7 @@ fn entry(
     catalog: &Catalog<'_>,
     text: &[u8],
     aliases: &mut NameList,
-    source: &SourceText,
+    source: &SourceNode,
 ) -> Result<Source, QueryError>
     requires { IsSourceOf (IsLexemeOf text.now) source.now }
     ensures ok { IfOk result (λ found. (found ≡ entry_of catalog.now.schema.now text.now source.now)
@@ -85,7 +85,7 @@ pub fn read_entries(
     alloc: Global,
     catalog: &Catalog<'_>,
     text: &[u8],
-    sources: &[SourceText],
+    sources: &[SourceNode],
 ) -> Result<Entries, QueryError>
     requires { All (IsSourceOf (IsLexemeOf text.now)) sources.now }
     ensures ok { IfOk result (λ found. (found.sources ≡ map (entry_of catalog.now.schema.now text.now) sources.now)

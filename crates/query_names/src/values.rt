@@ -4,11 +4,11 @@ ghost use Rattle.sql_tokens.specs.Words.{IsLexemeOf};
 ghost use Rattle.query_types.specs.declared.types.Cond.TheVariants as cond;
 ghost use Rattle.query_names.specs.Numbers.{signed, is_negative, number_value};
 ghost use Rattle.query_names.specs.Values.{any_of};
-ghost use Rattle.query_names.specs.Looking.{whole_of};
+ghost use Rattle.query_names.specs.Looking.{test_condition};
 
 use base_io::{Boxed, NoMemory, Seq};
 use ll_grammars::{Lexeme, Terminal};
-use query_grammar::TestText;
+use query_grammar::TestNode;
 use query_types::Cond;
 use sql_tokens::number;
 use std::alloc::Global;
@@ -79,12 +79,12 @@ fn negated_if(alloc: Global, negated: bool, condition: Cond) -> Result<Cond, NoM
 
 /// The condition of a test, from its comparisons: BETWEEN is the AND of them, and IN the OR. With NOT before the word it is NOT of that. A test
 /// with one operator is its only comparison.
-pub fn whole_of(alloc: Global, test: &TestText, parts: Seq<Cond>) -> Result<Cond, NoMemory>
-    ensures { IfOk result (λ found. found ≡ whole_of test.now parts) }
+pub fn test_condition(alloc: Global, test: &TestNode, parts: Seq<Cond>) -> Result<Cond, NoMemory>
+    ensures { IfOk result (λ found. found ≡ test_condition test.now parts) }
 {
     match test {
-        TestText::Compare { .. } => Ok(any_of(parts)),
-        TestText::Between { negated, .. } => negated_if(alloc, *negated, Cond::And(parts)),
-        TestText::In { negated, .. } => negated_if(alloc, *negated, any_of(parts)),
+        TestNode::Compare { .. } => Ok(any_of(parts)),
+        TestNode::Between { negated, .. } => negated_if(alloc, *negated, Cond::And(parts)),
+        TestNode::In { negated, .. } => negated_if(alloc, *negated, any_of(parts)),
     }
 }

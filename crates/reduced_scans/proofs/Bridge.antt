@@ -13,7 +13,7 @@ use Rattle.counted_sets.specs.Sets as sets
 use Rattle.level_bounds.specs.Keys.{Keys}
 use Rattle.join_steps.specs.Lists.{list_at}
 use Rattle.reduced_scans.specs.Families.{AreAscending, HasPartner, HavePartners, IsConsistent, IsReduced}
-use Rattle.reduced_scans.specs.Wiring.{ClassesAreDifferent, AreWired, Classes, IsNumbered, IsUseFor, IsUseForRow, TellsByKey, first_item, key_on, marked_family, near, opposite, row_at, slot_of}
+use Rattle.reduced_scans.specs.Wiring.{ValuesAreDifferent, AreWired, Classes, IsNumbered, IsUseFor, IsUseForRow, TellsByKey, first_item, key_on, marked_family, near, opposite, row_at, slot_of}
 use Rattle.reduced_scans.proofs.Members.{behind, in_cases, in_front, not_in_none}
 use Rattle.reduced_scans.proofs.MarkedRows.{MarkedAt, at_place, from_family, is_family, place_in, to_family}
 
@@ -93,7 +93,7 @@ same_value classes a b m n k l p q same =
     (ap (λ (x : ℕ × ℕ). x.0) pair, ap (λ (x : ℕ × ℕ). x.1) pair)
 
 -- and one value has one class
-only_class : (classes : Classes) (a b : ℕ) (v : ℕ × ℕ) → ClassesAreDifferent classes → slice_get classes a ≡ Some v → slice_get classes b ≡ Some v → a ≡ b
+only_class : (classes : Classes) (a b : ℕ) (v : ℕ × ℕ) → ValuesAreDifferent classes → slice_get classes a ≡ Some v → slice_get classes b ≡ Some v → a ≡ b
 only_class classes a b v different p q = elim (cases_lt a b) [
   | inl before ↦ absurd (different a b v before (slice_get_within classes b v q) (get_or_from_slice_get classes a v v p ∙ sym (get_or_from_slice_get classes b v v q)))
   | inr not_before ↦ elim (cases_eq a b) [
@@ -129,7 +129,7 @@ module _ (scans : List (List ℕ)) (equalities : List Edge) (key : Keys) (equal 
   partners family e true consistent has = consistent.from_left e has
   partners family e false consistent has = consistent.from_right e has
 
-  module _ (classes : Classes) (uses : List Use) (different : ClassesAreDifferent classes) (wired : AreWired scans equalities key classes (length equalities) uses) where
+  module _ (classes : Classes) (uses : List Use) (different : ValuesAreDifferent classes) (wired : AreWired scans equalities key classes (length equalities) uses) where
     -- the rows of a consistent set of items have their partners
     from_marks : (kept : ℕ → Bool) → sets.IsConsistent (first_item scans (length scans)) uses kept → (number : ℕ) (e : Edge) (on : Bool) → IsNumbered equalities number e
         → HavePartners (equal_from equal e on) (list_at (marked_family kept 0 scans) (near e on).entry) (list_at (marked_family kept 0 scans) (near e (opposite on)).entry)

@@ -5,7 +5,7 @@ use Rattle.std.specs.Bool.{Decides}
 use Rattle.std.specs.List.{IsDistinct}
 use Rattle.std.proofs.lemmas.Bool.{and_parts, eq-eqb, eqb-true}
 use Rattle.std.proofs.lemmas.Map.Made.{AllPairs-from_IsDistinct}
-use Rattle.reduced_scans.specs.Wiring.{ClassesAreDifferent}
+use Rattle.reduced_scans.specs.Wiring.{ValuesAreDifferent}
 
 abbrev pub same_pair : ℕ × ℕ → ℕ × ℕ → Bool
 same_pair a b = nat_eq a.0 b.0 && nat_eq a.1 b.1
@@ -19,5 +19,5 @@ tells a b = (
   λ e. rw (eq-eqb a.0 b.0 (ap (λ (p : ℕ × ℕ). p.0) e), eq-eqb a.1 b.1 (ap (λ (p : ℕ × ℕ). p.1) e)) refl,
 )
 
-pub different_pairs : (pairs : List (ℕ × ℕ)) → IsDistinct same_pair pairs → ClassesAreDifferent pairs
+pub different_pairs : (pairs : List (ℕ × ℕ)) → IsDistinct same_pair pairs → ValuesAreDifferent pairs
 different_pairs pairs distinct = AllPairs-from_IsDistinct {eq = same_pair} tells pairs distinct

@@ -14,28 +14,28 @@ use Rattle.row_buf.specs.Rows.{Rows}
 use Rattle.level_bounds.specs.Keys.{Keys}
 use Rattle.join_steps.specs.Lists.{list_at, lists_of}
 use Rattle.limits.specs.Profile.{most_rows}
-use Rattle.reduced_scans.specs.Wiring.{AddsUses, AreWired, ClassesBeginWith, Classes, IsNumbered, IsUseFor, IsUseForRow, first_item, key_on, near, opposite, row_at, slot_of}
+use Rattle.reduced_scans.specs.Wiring.{AddsUses, AreWired, ValuesBeginWith, Classes, IsNumbered, IsUseFor, IsUseForRow, first_item, key_on, near, opposite, row_at, slot_of}
 use Rattle.reduced_scans.proofs.MarkedRows.{items_within}
 use Rattle.reduced_scans.proofs.Members.{in_front}
 
 -- ---- classes that go on
 
-pub begins_same : (classes : Classes) → ClassesBeginWith classes classes
+pub begins_same : (classes : Classes) → ValuesBeginWith classes classes
 begins_same classes = record { more = []; grew = sym (append-nil classes) }
 
-pub begins_more : (a b c : Classes) → ClassesBeginWith a b → ClassesBeginWith b c → ClassesBeginWith a c
+pub begins_more : (a b c : Classes) → ValuesBeginWith a b → ValuesBeginWith b c → ValuesBeginWith a c
 begins_more a b c f g = record {
   more = f.more ++ g.more;
   grew = g.grew ∙ ap (λ l. l ++ g.more) f.grew ∙ append_assoc a f.more g.more;
 }
 
-same_class : (old new : Classes) (class : ℕ) (v : ℕ × ℕ) → ClassesBeginWith old new → slice_get old class ≡ Some v → slice_get new class ≡ Some v
+same_class : (old new : Classes) (class : ℕ) (v : ℕ × ℕ) → ValuesBeginWith old new → slice_get old class ≡ Some v → slice_get new class ≡ Some v
 same_class old new class v begins is =
     let low : class < length old = slice_get_within old class v is in
     let here : get_or (old ++ begins.more) class v ≡ v = get_or-append old begins.more v class low ∙ get_or_from_slice_get old class v v is in
     ap (λ (l : Classes). slice_get l class) begins.grew ∙ slice_get-get_or (old ++ begins.more) class v (omega (arith, length-append old begins.more)) ∙ ap Some here
 
-pub use_later : (old new : Classes) (equality : ℕ) (on : Bool) (cell item : ℕ) (u : Use) → ClassesBeginWith old new → IsUseFor old equality on cell item u → IsUseFor new equality on cell item u
+pub use_later : (old new : Classes) (equality : ℕ) (on : Bool) (cell item : ℕ) (u : Use) → ValuesBeginWith old new → IsUseFor old equality on cell item u → IsUseFor new equality on cell item u
 use_later old new equality on cell item u begins is = record {
   class = is.class;
   is_class = same_class old new is.class (equality, cell) begins is.is_class;
@@ -57,7 +57,7 @@ adds_none equality on first cells list classes uses = record {
 }
 
 pub adds_one : (equality : ℕ) (on : Bool) (first : ℕ) (cells list : List ℕ) (count : ℕ) (old mid new : Classes) (old_uses mid_uses new_uses : List Use) (u : Use) (cell item : ℕ)
-    → AddsUses equality on first cells list count old mid old_uses mid_uses → ClassesBeginWith mid new → length new ≤ length mid + 1 → new_uses ≡ mid_uses ++ u ∷ []
+    → AddsUses equality on first cells list count old mid old_uses mid_uses → ValuesBeginWith mid new → length new ≤ length mid + 1 → new_uses ≡ mid_uses ++ u ∷ []
     → cell ≡ slice_index cells (slice_index list count) → item ≡ first + count → IsUseFor new equality on cell item u
     → AddsUses equality on first cells list (count + 1) old new old_uses new_uses
 adds_one equality on first cells list count old mid new old_uses mid_uses new_uses u cell item so_far begins few more is_cell is_item is_use =
@@ -100,7 +100,7 @@ module _ (scans : List (List ℕ)) (equalities : List Edge) (key : Keys) (number
   abbrev AreKeysOf : Bool → List ℕ → Type 0
   AreKeysOf on cells = (row : ℕ) → slice_index cells row ≡ key_on key (near e on) row
 
-  stands_later : (old new : Classes) (count more : ℕ) (u : Use) → count ≤ more → ClassesBeginWith old new → IsUseForRow scans equalities key old count u → IsUseForRow scans equalities key new more u
+  stands_later : (old new : Classes) (count more : ℕ) (u : Use) → count ≤ more → ValuesBeginWith old new → IsUseForRow scans equalities key old count u → IsUseForRow scans equalities key new more u
   stands_later old new count more u within begins is = record {
     number = is.number;
     edge = is.edge;
@@ -113,7 +113,7 @@ module _ (scans : List (List ℕ)) (equalities : List Edge) (key : Keys) (number
   }
 
   -- what a side adds stands for its rows
-  side_sound : (on : Bool) (cells : List ℕ) (old new last : Classes) (old_uses new_uses : List Use) → AreKeysOf on cells → AddsSide on cells old new old_uses new_uses → ClassesBeginWith new last
+  side_sound : (on : Bool) (cells : List ℕ) (old new last : Classes) (old_uses new_uses : List Use) → AreKeysOf on cells → AddsSide on cells old new old_uses new_uses → ValuesBeginWith new last
       → (u : Use) → Contains new_uses u → Contains old_uses u ⊎ IsUseForRow scans equalities key last (number + 1) u
   side_sound on cells old new last old_uses new_uses keys adds begins u has = elim (adds.sound u has) [
     | inl before ↦ inl before
@@ -134,7 +134,7 @@ module _ (scans : List (List ℕ)) (equalities : List Edge) (key : Keys) (number
   Found classes uses on place =
       (u : Use) × Contains uses u × IsUseFor classes number on (key_on key (near e on) (row_at scans (near e on).entry place)) (first_item scans (near e on).entry + place) u
 
-  side_complete : (on : Bool) (cells : List ℕ) (old new last : Classes) (old_uses new_uses : List Use) → AreKeysOf on cells → AddsSide on cells old new old_uses new_uses → ClassesBeginWith new last
+  side_complete : (on : Bool) (cells : List ℕ) (old new last : Classes) (old_uses new_uses : List Use) → AreKeysOf on cells → AddsSide on cells old new old_uses new_uses → ValuesBeginWith new last
       → (place : ℕ) → place < length (list_at scans (near e on).entry) → Found last new_uses on place
   side_complete on cells old new last old_uses new_uses keys adds begins place low =
       let found : (u : Use) × Contains new_uses u × IsUseFor new number on (slice_index cells (slice_index (list_at scans (near e on).entry) place)) (first_item scans (near e on).entry + place) u = adds.complete place low in (

@@ -35,11 +35,11 @@ marked_family kept first (scan ∷ scans) = marked_rows kept first scan ∷ mark
 abbrev pub Classes : Type 0
 Classes = List (ℕ × ℕ)
 
-abbrev pub ClassesAreDifferent : Classes → Type 0
-ClassesAreDifferent classes = AllPairs (λ a b. a ≢ b) classes
+abbrev pub ValuesAreDifferent : Classes → Type 0
+ValuesAreDifferent classes = AllPairs (λ a b. a ≢ b) classes
 
 -- the new ones begin with the old ones, in their places
-pub record ClassesBeginWith (old new : Classes) : Type 0 where
+pub record ValuesBeginWith (old new : Classes) : Type 0 where
   pub more : Classes
   pub grew : new ≡ old ++ more
 
@@ -68,7 +68,7 @@ pub record IsUseFor (classes : Classes) (equality : ℕ) (on : Bool) (cell item 
 -- the uses of the first so many rows of a list are added, and the values that they need
 pub record AddsUses (equality : ℕ) (on : Bool) (first : ℕ) (cells list : List ℕ) (count : ℕ)
     (old_classes new_classes : Classes) (old new : List Use) : Type 0 where
-  pub begins : ClassesBeginWith old_classes new_classes
+  pub begins : ValuesBeginWith old_classes new_classes
   pub size : length new ≡ length old + count
   pub few : length new_classes ≤ length old_classes + count
   pub kept : (u : Use) → Contains old u → Contains new u

@@ -1,6 +1,6 @@
 //! Gives a number to each value that stands in a column of an equality. `wiring` makes two slots of each number.
 ghost use Rattle.std.specs.Prelude.{◌≡◌, ◌+◌, ◌^◌, ◌<◌, ◌≤◌, [], IfOk, OnOk, Some, length, slice_get};
-ghost use Rattle.reduced_scans.specs.Wiring.{ClassesAreDifferent, ClassesBeginWith};
+ghost use Rattle.reduced_scans.specs.Wiring.{ValuesAreDifferent, ValuesBeginWith};
 
 use base_io::NoMemory;
 use indexmap::IndexSet;
@@ -10,11 +10,11 @@ use std::marker::Model;
 /// The values that were numbered so far, each as its cell with the number of its equality. Texts are equal if their numbers in the pool are
 /// equal. Contracts see these pairs as a list, in which the place of a pair is its number.
 #[derive(Drop)]
-pub(crate) struct ClassSet {
+pub(crate) struct EqualityValues {
     pairs: IndexSet<(u32, u64)>,
 }
 
-impl Model for ClassSet {
+impl Model for EqualityValues {
     ghost use Rattle.reduced_scans.specs.Wiring.{Classes};
 
     ghost Value = { Classes };
@@ -22,12 +22,12 @@ impl Model for ClassSet {
     ghost view = { λ classes. classes.pairs.keys };
 }
 
-impl ClassSet {
+impl EqualityValues {
     /// The empty list. It allocates nothing.
-    pub(crate) fn new(alloc: Global) -> ClassSet
+    pub(crate) fn new(alloc: Global) -> EqualityValues
         ensures { result ≡ [] }
     {
-        ClassSet {
+        EqualityValues {
             pairs: IndexSet::new(alloc),
         }
     }
@@ -35,7 +35,7 @@ impl ClassSet {
     /// How many values were numbered. No pair of equality and cell stands twice.
     pub(crate) fn len(&self) -> usize
         ensures len { result ≡ length self.now }
-        ensures different { ClassesAreDifferent self.now }
+        ensures different { ValuesAreDifferent self.now }
     {
         self.pairs.len()
     }
@@ -44,7 +44,7 @@ impl ClassSet {
     pub(crate) fn number(&mut self, equality: u32, cell: u64) -> Result<u32, NoMemory>
         requires { length self.old < 2 ^ 31 }
         ensures class { IfOk result (λ class. slice_get self.new class ≡ Some (equality, cell)) }
-        ensures begins { OnOk result (ClassesBeginWith self.old self.new) }
+        ensures begins { OnOk result (ValuesBeginWith self.old self.new) }
         ensures few { OnOk result (length self.new ≤ length self.old + 1) }
     {
         let (class, _) = self.pairs.insert_full((equality, cell))?;

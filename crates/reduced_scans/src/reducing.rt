@@ -13,7 +13,7 @@ ghost use Rattle.reduced_scans.specs.Lists.{AreRowLists, HaveNoSpare, JoinsColum
 ghost use Rattle.reduced_scans.specs.Scans.{AreReducedScans};
 ghost use Rattle.reduced_scans.specs.Wiring.{first_item, marked_family, marked_rows, TellsByKey};
 
-use crate::classes::ClassSet;
+use crate::classes::EqualityValues;
 use crate::semi_joins::sifted;
 use crate::wiring::{count_uses, first_item, wire};
 use base_io::NoMemory;
@@ -41,7 +41,7 @@ fn marks_of(
         → AreAscending (lists_of scans.now)
         → IsReduced (lists_of scans.now) equalities.now equal (marked_family (marked marks.items) 0 (lists_of scans.now))) }
 {
-    let mut classes = ClassSet::new(alloc);
+    let mut classes = EqualityValues::new(alloc);
     let mut uses = RowBuf::new(alloc);
     uses.reserve(count_uses(scans, equalities))?;
     wire(db, scans, equalities, &mut classes, &mut uses)?;

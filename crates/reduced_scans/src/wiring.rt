@@ -8,9 +8,9 @@ ghost use Rattle.join_steps.specs.Columns.{column_cells};
 ghost use Rattle.level_bounds.specs.Keys.{cell_at};
 ghost use Rattle.join_steps.specs.Lists.{list_at, lists_of};
 ghost use Rattle.reduced_scans.specs.Lists.{column_of, AreRowLists, JoinsColumns};
-ghost use Rattle.reduced_scans.specs.Wiring.{first_item, slot_of, AddsUses, AreWired, ClassesBeginWith, IsNumbered, IsUseFor};
+ghost use Rattle.reduced_scans.specs.Wiring.{first_item, slot_of, AddsUses, AreWired, ValuesBeginWith, IsNumbered, IsUseFor};
 
-use crate::classes::ClassSet;
+use crate::classes::EqualityValues;
 use base_io::NoMemory;
 use berge_tree::{Edge, Place};
 use counted_sets::Use;
@@ -29,7 +29,7 @@ fn slot_of(class: u32, on_left: bool) -> u32
 
 // Adds the use of an item whose row has this cell.
 fn add_use(
-    classes: &mut ClassSet,
+    classes: &mut EqualityValues,
     uses: &mut RowBuf<Use>,
     equality: u32,
     on_left: bool,
@@ -38,7 +38,7 @@ fn add_use(
 ) -> Result<(), NoMemory>
     requires few { length classes.old < 2 ^ 31 }
     requires room { 1 ≤ uses.old.spare }
-    ensures begins { OnOk result (ClassesBeginWith classes.old classes.new) }
+    ensures begins { OnOk result (ValuesBeginWith classes.old classes.new) }
     ensures few { OnOk result (length classes.new ≤ length classes.old + 1) }
     ensures added { OnOk result ((u : Use) × (uses.new.items ≡ uses.old.items ++ u ∷ [])
         × IsUseFor classes.new equality on_left cell item u) }
@@ -55,7 +55,7 @@ fn add_use(
 
 // Adds the uses of the rows of a list, for the cells of a column.
 fn add_side(
-    classes: &mut ClassSet,
+    classes: &mut EqualityValues,
     uses: &mut RowBuf<Use>,
     equality: u32,
     on_left: bool,
@@ -99,7 +99,7 @@ fn add_column(
     column: Place,
     equality: u32,
     on_left: bool,
-    classes: &mut ClassSet,
+    classes: &mut EqualityValues,
     uses: &mut RowBuf<Use>,
 ) -> Result<(), NoMemory>
     requires lists { AreRowLists db.now scans.now }
@@ -126,7 +126,7 @@ fn add_equality(
     scans: &[RowBuf<u32>],
     edge: Edge,
     equality: u32,
-    classes: &mut ClassSet,
+    classes: &mut EqualityValues,
     uses: &mut RowBuf<Use>,
 ) -> Result<(), NoMemory>
     requires lists { AreRowLists db.now scans.now }
@@ -148,7 +148,7 @@ pub(crate) fn wire(
     db: &Database,
     scans: &[RowBuf<u32>],
     equalities: &[Edge],
-    classes: &mut ClassSet,
+    classes: &mut EqualityValues,
     uses: &mut RowBuf<Use>,
 ) -> Result<(), NoMemory>
     requires lists { AreRowLists db.now scans.now }

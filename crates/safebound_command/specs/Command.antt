@@ -64,7 +64,7 @@ pub record Ran (words : List (List ℕ)) (files : Files) (out notes : Written) (
   })
 
 -- The program was not run, since a word isn't UTF-8. The code is 15, and both texts are empty.
-pub record HasNoWords (words : List (List ℕ)) (out notes : Written) (code : ℕ) : Type 0 where
+pub record HasBadWord (words : List (List ℕ)) (out notes : Written) (code : ℕ) : Type 0 where
   pub told : code ≡ 15
   pub word : Any (λ word. ¬ (IsUtf8 word)) words
   pub no_out : out.count ≡ 0
@@ -72,4 +72,4 @@ pub record HasNoWords (words : List (List ℕ)) (out notes : Written) (code : �
 
 -- the program was run, or a word isn't UTF-8. To copy the words takes no memory; where the run lacks some, its exit status says so
 abbrev pub CallEnds : List (List ℕ) → Files → Written → Written → ℕ → Type 0
-CallEnds words files out notes code = ((misses : ℕ) × Ran words files out notes misses code) ⊎ HasNoWords words out notes code
+CallEnds words files out notes code = ((misses : ℕ) × Ran words files out notes misses code) ⊎ HasBadWord words out notes code

@@ -8,7 +8,7 @@ use Rattle.safebound_words.specs.CommandLines.{CommandReading, requested}
 use Rattle.safebound_words.specs.Commands.{demo_of, most_budget_of, over_query, plan_work, shape_by, source_by, with_rows}
 use Rattle.safebound_words.specs.InRange.{HasRanges}
 use Rattle.safebound_words.specs.Numbers.{is_number, number_of, number_within}
-use Rattle.safebound_words.specs.Table.{Given, command_row, count_alone, option_file, from_file, is_set, limit_of, of_append, of_number, of_stats, over_files, over_two, plan_from_stats_or_tables, stands_alone, value_of, ◌>>=◌}
+use Rattle.safebound_words.specs.Table.{Given, command_row, count_alone, option_file, from_file, is_set, limit_of, of_append, of_number, of_stats, over_files, over_schema_and_query, plan_from_stats_or_tables, stands_alone, value_of, ◌>>=◌}
 use Rattle.safebound_words.specs.Words.{Word}
 use Rattle.safebound_words.specs.declared.command.Command.{Command}
 use Rattle.safebound_words.specs.declared.command.OutText.{OutText}
@@ -107,7 +107,7 @@ values_in out memory (Some b) (Some a) (Some s) (Some t) (Some k) (Some c) by_it
       budget = most_if (most_budget_of (shape_by t)) b made.0;
     }))
 
-two_in : (out : OutText) (memory : Option ℕ) (places : List Word) (given : Given) (r : Command) → over_two out memory places given ≡ Some r → IsAsked r
+two_in : (out : OutText) (memory : Option ℕ) (places : List Word) (given : Given) (r : Command) → over_schema_and_query out memory places given ≡ Some r → IsAsked r
 two_in out memory [] given r is = absurd (cc)
 two_in out memory (schema ∷ []) given r is = absurd (cc)
 two_in out memory (schema ∷ query ∷ []) given r is =
@@ -118,7 +118,7 @@ two_in out memory (schema ∷ query ∷ more ∷ places) given r is = absurd (cc
 files_in : (out : OutText) (places : List Word) (given : Given) (r : Command) → over_files out places given ≡ Some r → IsAsked r
 unfolding over_files
 files_in out places given r is =
-    by_value (value_of option.Memory (given.values option.Memory)) (λ bytes. over_two out (limit_of bytes) places given) r
+    by_value (value_of option.Memory (given.values option.Memory)) (λ bytes. over_schema_and_query out (limit_of bytes) places given) r
     (λ bytes h. two_in out (limit_of bytes) places given r h) is
 
 -- from a statistics file

@@ -12,7 +12,7 @@ use Rattle.safebound_words.specs.Answer.{Kind, Ends, IsPlace, Sets, Wants, Gives
 use Rattle.safebound_words.specs.Collected.{asked_by, asked_from, asked_with, collected, given_of, given_to, given_with, times_of, words_of}
 use Rattle.safebound_words.specs.CommandLines.{Alone, Beside, Item, Joined, Place, given_by, given_in, has_flag, has_option, place_words, same_flag, same_option, set_by}
 use Rattle.safebound_words.specs.Commands.{most_budget_of, over_query, plan_work, shape_by, source_by}
-use Rattle.safebound_words.specs.Table.{Given, command_row, count_alone, option_file, flag_word, from_file, is_set, limit_of, of_append, of_number, of_stats, option_row, over_files, over_two, plan_from_stats_or_tables, stands_alone, value_of, with_limit, ◌>>=◌}
+use Rattle.safebound_words.specs.Table.{Given, command_row, count_alone, option_file, flag_word, from_file, is_set, limit_of, of_append, of_number, of_stats, option_row, over_files, over_schema_and_query, plan_from_stats_or_tables, stands_alone, value_of, with_limit, ◌>>=◌}
 use Rattle.safebound_words.specs.Words.{Word}
 use Rattle.safebound_words.specs.declared.command.Command.{Command}
 use Rattle.safebound_words.specs.declared.command.OutText.{OutText}
@@ -126,7 +126,7 @@ none_behind (Some a) rest all = all a
 
 -- Where too much is collected, nothing is asked for.
 
-two_at_most : (out : OutText) (limit : Option ℕ) (places : List Word) (given : Given) → 4 < length places → over_two out limit places given ≡ None
+two_at_most : (out : OutText) (limit : Option ℕ) (places : List Word) (given : Given) → 4 < length places → over_schema_and_query out limit places given ≡ None
 two_at_most out limit [] given many = absurd (omega arith)
 two_at_most out limit (a ∷ []) given many = absurd (omega arith)
 two_at_most out limit (a ∷ b ∷ []) given many = absurd (omega arith)
@@ -144,7 +144,7 @@ two_limits asks places given none = none_first (value_of option.Memory (given.va
 files_of_two : (out : OutText) (places : List Word) (given : Given) → 4 < length places → over_files out places given ≡ None
 unfolding over_files
 files_of_two out places given many =
-    whatever_limit (over_two out) places given (λ limit. two_at_most out limit places given many)
+    whatever_limit (over_schema_and_query out) places given (λ limit. two_at_most out limit places given many)
 
 one_at_most : (places : List Word) (given : Given) → 4 < length places → of_number places given ≡ None
 one_at_most [] given many = absurd (omega arith)
@@ -197,7 +197,7 @@ HasNumbers option.Memory = ⊥
 HasNumbers option.Stats = ⊥
 
 no_value : (out : OutText) (limit : Option ℕ) (places : List Word) (given : Given) (o : OptionName) → HasNumbers o
-    → 1 < length (given.values o) → over_two out limit places given ≡ None
+    → 1 < length (given.values o) → over_schema_and_query out limit places given ≡ None
 no_value out limit [] given o has many = refl
 no_value out limit (a ∷ []) given o has many = refl
 no_value out limit (a ∷ b ∷ []) given option.Budget has many = none_first _ _ (too_often option.Budget _ many)
@@ -209,14 +209,14 @@ no_value out limit (a ∷ b ∷ d ∷ rest) given o has many = refl
 no_file_value : (out : OutText) (places : List Word) (given : Given) (o : OptionName) → HasNumbers o → 1 < length (given.values o) → over_files out places given ≡ None
 unfolding over_files
 no_file_value out places given o has many =
-    whatever_limit (over_two out) places given (λ limit. no_value out limit places given o has many)
+    whatever_limit (over_schema_and_query out) places given (λ limit. no_value out limit places given o has many)
 
 no_limit : (asks : Option ℕ → List Word → Given → Option Command) (places : List Word) (given : Given) → 1 < length (given.values option.Memory) → with_limit asks places given ≡ None
 no_limit asks places given many = two_limits asks places given (too_often option.Memory (given.values option.Memory) many)
 
 no_file_limit : (out : OutText) (places : List Word) (given : Given) → 1 < length (given.values option.Memory) → over_files out places given ≡ None
 unfolding over_files
-no_file_limit out places given many = no_limit (over_two out) places given many
+no_file_limit out places given many = no_limit (over_schema_and_query out) places given many
 
 -- nothing comes of a flag that stands twice
 set_once : (n : ℕ) → 1 < n → is_set n ≡ None
@@ -266,13 +266,13 @@ module _ (out : OutText) (limit : Option ℕ) (a b : Word) (given : Given) where
       none_behind (is_set (given.times flag.Reduce)) (λ reduce. by_reduce budget accuracy reduce)
       (λ reduce. none_behind (is_set (given.times flag.Bushy)) (λ bushy. by_bushy budget accuracy reduce bushy) (λ bushy. many_counts budget accuracy reduce bushy many))
 
-  no_flag_of_two : (f : FlagName) → 1 < given.times f → over_two out limit (a ∷ b ∷ []) given ≡ None
+  no_flag_of_two : (f : FlagName) → 1 < given.times f → over_schema_and_query out limit (a ∷ b ∷ []) given ≡ None
   no_flag_of_two f many =
       none_behind (value_of option.Budget (given.values option.Budget)) (λ budget. by_budget budget)
       (λ budget. none_behind (value_of option.Accuracy (given.values option.Accuracy)) (λ accuracy. by_accuracy budget accuracy) (λ accuracy. many_flags budget accuracy f many))
 
 no_flag : (out : OutText) (limit : Option ℕ) (places : List Word) (given : Given) (f : FlagName)
-    → 1 < given.times f → over_two out limit places given ≡ None
+    → 1 < given.times f → over_schema_and_query out limit places given ≡ None
 no_flag out limit [] given f many = refl
 no_flag out limit (a ∷ []) given f many = refl
 no_flag out limit (a ∷ b ∷ []) given f many = no_flag_of_two out limit a b given f many
@@ -281,7 +281,7 @@ no_flag out limit (a ∷ b ∷ d ∷ rest) given f many = refl
 no_file_flag : (out : OutText) (places : List Word) (given : Given) (f : FlagName) → 1 < given.times f → over_files out places given ≡ None
 unfolding over_files
 no_file_flag out places given f many =
-    whatever_limit (over_two out) places given (λ limit. no_flag out limit places given f many)
+    whatever_limit (over_schema_and_query out) places given (λ limit. no_flag out limit places given f many)
 
 -- the same of a plan, which may be from a statistics file
 

@@ -9,7 +9,7 @@ use Rattle.std.proofs.lemmas.Slice.Eq.{bytes_eq-Decides}
 use Rattle.safebound_words.specs.Answer.{command_of}
 use Rattle.safebound_words.specs.CommandLines.{Alone, Beside, IsEnd, IsItemOf, Item, Joined, Place, given_by, given_in, place_words, same_flag, same_option, set_by, spelling}
 use Rattle.safebound_words.specs.Commands.{over_query}
-use Rattle.safebound_words.specs.Table.{Given, command_row, option_file, flag_word, from_file, is_set, limit_of, of_append, of_number, of_stats, option_row, over_files, over_two, plan_from_stats_or_tables, value_of}
+use Rattle.safebound_words.specs.Table.{Given, command_row, option_file, flag_word, from_file, is_set, limit_of, of_append, of_number, of_stats, option_row, over_files, over_schema_and_query, plan_from_stats_or_tables, value_of}
 use Rattle.safebound_words.specs.Words.{Word}
 use Rattle.safebound_words.specs.declared.command.Command.{Command}
 use Rattle.safebound_words.specs.declared.command.OutText.{OutText}
@@ -148,7 +148,7 @@ record AreFew (places : List Word) (given : Given) : Type 0 where
   keys : given.times flag.Keys ≤ 1
   count : given.times flag.Count ≤ 1
 
-two_few : (out : OutText) (memory : Option ℕ) (places : List Word) (given : Given) (r : Command) → over_two out memory places given ≡ Some r → AreFew places given
+two_few : (out : OutText) (memory : Option ℕ) (places : List Word) (given : Given) (r : Command) → over_schema_and_query out memory places given ≡ Some r → AreFew places given
 two_few out memory [] given r is = absurd (cc)
 two_few out memory (schema ∷ []) given r is = absurd (cc)
 two_few out memory (schema ∷ query ∷ []) given r is =

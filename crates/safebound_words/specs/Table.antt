@@ -104,8 +104,8 @@ abbrev pub count_alone : Given → Bool → Bool → Bool
 count_alone given reduce keys = not (reduce || (keys || not (length (given.values option.Accuracy) == 0)))
 
 -- exactly two place words, SCHEMA and QUERY. With `--keys` no other flag is given. The budget is at most the greatest one for the plan's shape
-abbrev pub over_two : OutText → Option ℕ → List Word → Given → Option Command
-over_two out limit (schema ∷ query ∷ []) given = do
+abbrev pub over_schema_and_query : OutText → Option ℕ → List Word → Given → Option Command
+over_schema_and_query out limit (schema ∷ query ∷ []) given = do
   budget ← value_of option.Budget (given.values option.Budget)
   accuracy ← value_of option.Accuracy (given.values option.Accuracy)
   reduce ← is_set (given.times flag.Reduce)
@@ -117,14 +117,14 @@ over_two out limit (schema ∷ query ∷ []) given = do
       else if nat_le budget (most_budget_of (shape_by bushy))
       then Some (over_query None schema query (plan_work out budget accuracy (source_by reduce keys count) bushy limit))
       else None
-over_two out limit places given = None
+over_schema_and_query out limit places given = None
 
 -- what is asked for with the limit of memory, if one is given
 abbrev pub with_limit : (Option ℕ → List Word → Given → Option Command) → List Word → Given → Option Command
 with_limit asks places given = value_of option.Memory (given.values option.Memory) >>= λ bytes. asks (limit_of bytes) places given
 
 unfoldable pub over_files : OutText → List Word → Given → Option Command
-over_files out places given = with_limit (over_two out) places given
+over_files out places given = with_limit (over_schema_and_query out) places given
 
 -- whether neither an accuracy nor a flag is given, as a statistics file requires: it has its accuracy. A budget and a limit of memory may be
 abbrev pub stands_alone : Given → Bool

@@ -9,7 +9,7 @@ use Rattle.ll_grammars.specs.Rules.{all, second, word, listed, in_parentheses}
 use Rattle.ll_grammars.specs.Keeping.{Keeps, IsOneOf}
 use Rattle.ll_grammars.proofs.Keeping.{keeps_one, keeps_then, keeps_made, keeps_union, keeps_maybe, keeps_many, kept_of_text}
 use Rattle.ll_grammars.proofs.KeepingRules.{keeps_any, keeps_inside}
-use Rattle.schema_grammar.specs.declared.tree.TableText.{TableText}
+use Rattle.schema_grammar.specs.declared.tree.TableNode.{TableNode}
 use Rattle.schema_grammar.specs.Grammar.{nothing, target, number_type, text_type, varying_type, not_null, primary_key, unique, references, column, primary_key_over, unique_over, foreign_key, of_column, of_rule, table, tables, name_terminals, number_types, Name, Names, Length, DataType, TriggeredAction, Target, ConstraintName, named, ColumnConstraint, TableConstraint, ColumnDefinition, TableElement, TableDefinition, SchemaText}
 use Rattle.schema_grammar.specs.Lexemes.{IsNameOf, IsTargetOf, IsTypeOf, IsColumnRuleOf, IsColumnOf, IsTableRuleOf, IsElementOf, IsTableOf, AreOf}
 
@@ -73,8 +73,8 @@ module _ (P : Lexeme → Type 0) where
       (keeps_then table_of (keeps_then (keeps_many (keeps_made second (IsTableOf P) (keeps_then (a_word terminal.Semicolon) table_of) (λ parts q. q.1))) (keeps_maybe (a_word terminal.Semicolon))))
       (λ parts q. All-cons (IsTableOf P) parts.0 parts.1.0 q.0 q.1.0)
 
-pub from_text : (tokens : List Lexeme) (trees : List TableText) → SchemaText tokens trees → AreOf (Contains tokens) trees
+pub from_text : (tokens : List Lexeme) (trees : List TableNode) → SchemaText tokens trees → AreOf (Contains tokens) trees
 from_text tokens trees l = kept_of_text AreOf tables_of tokens trees l
 
-pub are_of : (P : Lexeme → Type 0) (tokens : List Lexeme) (trees : List TableText) → SchemaText tokens trees → All P tokens → AreOf P trees
+pub are_of : (P : Lexeme → Type 0) (tokens : List Lexeme) (trees : List TableNode) → SchemaText tokens trees → All P tokens → AreOf P trees
 are_of P tokens trees l h = (tables_of P).kept tokens trees l h

@@ -12,7 +12,7 @@ use Rattle.ll_grammars.proofs.Steps.{one_shape, then_shape, either_shape, maybe_
 use Rattle.ll_grammars.proofs.Repeats.{many_shape}
 use Rattle.ll_grammars.proofs.Tails.{tails, tails_shape, reads_tails, are_tails, tails_are}
 use Rattle.ll_grammars.proofs.Combined.{row, value, choice, option, repeat, some_token, word_shape, a_word, parentheses_shape, inside, next_shape, listed_shape, reads_same}
-use Rattle.schema_grammar.specs.declared.tree.TableText.{TableText}
+use Rattle.schema_grammar.specs.declared.tree.TableNode.{TableNode}
 use Rattle.schema_grammar.specs.Grammar.{nothing, target, number_type, text_type, varying_type, not_null, primary_key, unique, references, column, primary_key_over, unique_over, foreign_key, of_column, of_rule, table, name_terminals, number_types, Name, Names, Length, DataType, ReferentialAction, TriggeredAction, Target, ConstraintName, named, ColumnConstraint, TableConstraint, ColumnDefinition, TableElement, TableDefinition, SchemaText}
 use Rattle.schema_grammar.specs.Readers.{read_name, read_next_name, read_names, read_name_list, read_length, read_type, read_action, read_triggered_action, read_triggered_actions, read_target, read_constraint_name, read_column_constraint, read_column_rule, read_column_rules, read_foreign_key, read_table_constraint, read_table_rule, read_column, read_element, read_next_element, read_elements, read_element_list, read_table, read_other_tables, read_all_tables}
 
@@ -200,14 +200,14 @@ reads_other_tables = reads_tails (terminal.Semicolon ∷ []) reads_table refl re
 abbrev pub schema_shape : FirstAndFollow
 schema_shape = then_shape table_shape (tails_shape (terminal.Semicolon ∷ []) table_shape)
 
-to_schema : (text : List Lexeme) (v : List TableText) → made all (TableDefinition ▸ tails (terminal.Semicolon ∷ []) TableDefinition) text v → SchemaText text v
+to_schema : (text : List Lexeme) (v : List TableNode) → made all (TableDefinition ▸ tails (terminal.Semicolon ∷ []) TableDefinition) text v → SchemaText text v
 unfolding SchemaText
 to_schema text v l =
     let t = l.2 in
     let others = are_tails (terminal.Semicolon ∷ []) TableDefinition l.0.1 t.rest t.second in
     ((l.0.0, (l.0.1, others.0)), l.1, record { front = t.front; rest = t.rest; whole = t.whole; first = t.first; second = others.1 })
 
-from_schema : (text : List Lexeme) (v : List TableText) → SchemaText text v → made all (TableDefinition ▸ tails (terminal.Semicolon ∷ []) TableDefinition) text v
+from_schema : (text : List Lexeme) (v : List TableNode) → SchemaText text v → made all (TableDefinition ▸ tails (terminal.Semicolon ∷ []) TableDefinition) text v
 unfolding SchemaText
 from_schema text v l =
     let t = l.2 in

@@ -10,7 +10,7 @@ use Rattle.ll_grammars.specs.Reading.{Answer, ◌>>=◌, starts, read_one, read_
 use Rattle.ll_grammars.specs.Rules.{IsReadAs}
 use Rattle.ll_grammars.proofs.Tails.{tails_more, tails_last, tails_none}
 use Rattle.ll_grammars.proofs.Loops.{front_others, shorter}
-use Rattle.schema_grammar.specs.declared.tree.TableText.{TableText}
+use Rattle.schema_grammar.specs.declared.tree.TableNode.{TableNode}
 use Rattle.schema_grammar.specs.Grammar.{TableDefinition}
 use Rattle.schema_grammar.specs.Readers.{Follows, read_table, read_other_tables}
 use Rattle.schema_grammar.proofs.Rules.{table_shape, reads_table}
@@ -34,21 +34,21 @@ pub follows_not : (old new : List Lexeme) → starts (terminal.Semicolon ∷ [])
 follows_not [] new h e = rw e (none_follows [] h)
 follows_not (t ∷ rest) new h e = let k : new ≡ t ∷ rest = rw h at e in rw k (none_follows (t ∷ rest) h)
 
-pub table_shorter : (text : List Lexeme) (a : TableText) (rest : List Lexeme) → read_table text ≡ (Some a, rest) → length rest < length text
+pub table_shorter : (text : List Lexeme) (a : TableNode) (rest : List Lexeme) → read_table text ≡ (Some a, rest) → length rest < length text
 table_shorter text a rest e = shorter TableDefinition table_shape read_table reads_table refl text a rest e
 
-pub tables_keep : (front longer : List TableText) (old new : List Lexeme) (a : TableText) (rest : List Lexeme) (total : Answer (List TableText)) → Follows true old new → read_table new ≡ (Some a, rest) → longer ≡ front ++ a ∷ []
+pub tables_keep : (front longer : List TableNode) (old new : List Lexeme) (a : TableNode) (rest : List Lexeme) (total : Answer (List TableNode)) → Follows true old new → read_table new ≡ (Some a, rest) → longer ≡ front ++ a ∷ []
     → with_front front (read_other_tables old) ≡ total → with_front longer (read_other_tables rest) ≡ total
 tables_keep front longer old new a rest total f e pushed so_far =
     let step : read_other_tables old ≡ read_others read_other_tables a rest = f.0 ∙ ap (λ x. x >>= read_others read_other_tables) e in
     rw pushed (sym (front_others front a (read_other_tables rest).0 (read_other_tables rest).1) ∙ ap (with_front front) (sym step) ∙ so_far)
 
-pub tables_stop : (e : Stop) (front : List TableText) (old new rest : List Lexeme) (total : Answer (List TableText)) → Follows true old new → IsReadAs {A = TableText} (Err e) rest (read_table new)
-    → with_front front (read_other_tables old) ≡ total → IsReadAs {A = List TableText} (Err e) rest total
+pub tables_stop : (e : Stop) (front : List TableNode) (old new rest : List Lexeme) (total : Answer (List TableNode)) → Follows true old new → IsReadAs {A = TableNode} (Err e) rest (read_table new)
+    → with_front front (read_other_tables old) ≡ total → IsReadAs {A = List TableNode} (Err e) rest total
 tables_stop stop.NoMemory front old new rest total f g so_far = tt
 tables_stop stop.Syntax front old new rest total f g so_far =
     let step : read_other_tables old ≡ (None, rest) = f.0 ∙ ap (λ x. x >>= read_others read_other_tables) g in
     sym so_far ∙ ap (with_front front) step
 
-pub tables_end : (front : List TableText) (old new : List Lexeme) (total : Answer (List TableText)) → Follows false old new → with_front front (read_other_tables old) ≡ total → total ≡ (Some front, new)
+pub tables_end : (front : List TableNode) (old new : List Lexeme) (total : Answer (List TableNode)) → Follows false old new → with_front front (read_other_tables old) ≡ total → total ≡ (Some front, new)
 tables_end front old new total f so_far = sym so_far ∙ ap (with_front front) f ∙ ap (λ x. (Some x, new)) (append-nil front)

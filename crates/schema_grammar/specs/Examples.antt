@@ -3,10 +3,10 @@ use Rattle.std.specs.Prelude.{ℕ, List, [], ◌∷◌}
 use Rattle.ll_grammars.specs.declared.lexeme.Lexeme.{Lexeme}
 use Rattle.ll_grammars.specs.declared.terminal.Terminal.{Terminal}
 use Rattle.ll_grammars.specs.declared.terminal.Terminal.TheVariants as terminal
-use Rattle.schema_grammar.specs.declared.tree.TypeText.TheVariants as type
+use Rattle.schema_grammar.specs.declared.tree.TypeNode.TheVariants as type
 use Rattle.schema_grammar.specs.declared.tree.ColumnRule.TheVariants as column_rule
 use Rattle.schema_grammar.specs.declared.tree.Element.TheVariants as element
-use Rattle.schema_grammar.specs.declared.tree.TableText.{TableText}
+use Rattle.schema_grammar.specs.declared.tree.TableNode.{TableNode}
 
 abbrev pub token : Terminal → ℕ → ℕ → Lexeme
 token terminal start end = record { terminal = terminal; start = start; end = end }
@@ -22,7 +22,7 @@ whole =
     ∷ token terminal.Name 16 17 ∷ token terminal.Int 18 21 ∷ token terminal.Unique 22 28 ∷ token terminal.Close 28 29
     ∷ token terminal.Semicolon 29 30 ∷ []
 
-abbrev pub table_of_whole : TableText
+abbrev pub table_of_whole : TableNode
 table_of_whole = record {
   name = token terminal.Name 13 14;
   elements = element.Column

@@ -6,17 +6,17 @@ use Rattle.ll_grammars.specs.declared.terminal.Terminal.{Terminal}
 use Rattle.ll_grammars.specs.declared.terminal.Terminal.TheVariants as terminal
 use Rattle.ll_grammars.specs.Language.{Language, one, ◌▸◌, made, ◌∪◌, maybe, many}
 use Rattle.ll_grammars.specs.Rules.{second, word, listed, in_parentheses}
-use Rattle.schema_grammar.specs.declared.tree.TargetText.{TargetText}
-use Rattle.schema_grammar.specs.declared.tree.TypeText.{TypeText}
-use Rattle.schema_grammar.specs.declared.tree.TypeText.TheVariants as type
+use Rattle.schema_grammar.specs.declared.tree.TargetNode.{TargetNode}
+use Rattle.schema_grammar.specs.declared.tree.TypeNode.{TypeNode}
+use Rattle.schema_grammar.specs.declared.tree.TypeNode.TheVariants as type
 use Rattle.schema_grammar.specs.declared.tree.ColumnRule.{ColumnRule}
 use Rattle.schema_grammar.specs.declared.tree.ColumnRule.TheVariants as column_rule
-use Rattle.schema_grammar.specs.declared.tree.ColumnText.{ColumnText}
+use Rattle.schema_grammar.specs.declared.tree.ColumnNode.{ColumnNode}
 use Rattle.schema_grammar.specs.declared.tree.TableRule.{TableRule}
 use Rattle.schema_grammar.specs.declared.tree.TableRule.TheVariants as table_rule
 use Rattle.schema_grammar.specs.declared.tree.Element.{Element}
 use Rattle.schema_grammar.specs.declared.tree.Element.TheVariants as element
-use Rattle.schema_grammar.specs.declared.tree.TableText.{TableText}
+use Rattle.schema_grammar.specs.declared.tree.TableNode.{TableNode}
 
 -- ---- the values of texts put together
 
@@ -24,16 +24,16 @@ use Rattle.schema_grammar.specs.declared.tree.TableText.{TableText}
 abbrev pub nothing : {A : Type 0} → A → Unit {0}
 nothing value = tt
 
-abbrev pub target : Lexeme × (Option (List Lexeme) × Unit {0}) → TargetText
+abbrev pub target : Lexeme × (Option (List Lexeme) × Unit {0}) → TargetNode
 target parts = record { table = parts.0; columns = parts.1.0 }
 
-abbrev pub number_type : Lexeme → TypeText
+abbrev pub number_type : Lexeme → TypeNode
 number_type word = type.Number
 
-abbrev pub text_type : Lexeme × Lexeme → TypeText
+abbrev pub text_type : Lexeme × Lexeme → TypeNode
 text_type parts = type.Text parts.1
 
-abbrev pub varying_type : Lexeme × (Lexeme × Lexeme) → TypeText
+abbrev pub varying_type : Lexeme × (Lexeme × Lexeme) → TypeNode
 varying_type parts = type.Text parts.1.1
 
 abbrev pub not_null : Lexeme × Lexeme → ColumnRule
@@ -45,10 +45,10 @@ primary_key words = column_rule.PrimaryKey words.0
 abbrev pub unique : Lexeme → ColumnRule
 unique word = column_rule.Unique
 
-abbrev pub references : Lexeme × TargetText → ColumnRule
+abbrev pub references : Lexeme × TargetNode → ColumnRule
 references parts = column_rule.References parts.1
 
-abbrev pub column : Lexeme × (TypeText × List ColumnRule) → ColumnText
+abbrev pub column : Lexeme × (TypeNode × List ColumnRule) → ColumnNode
 column parts = record { name = parts.0; kind = parts.1.0; rules = parts.1.1 }
 
 abbrev pub primary_key_over : Lexeme × (Lexeme × List Lexeme) → TableRule
@@ -57,19 +57,19 @@ primary_key_over parts = table_rule.PrimaryKey parts.0 parts.1.1
 abbrev pub unique_over : Lexeme × List Lexeme → TableRule
 unique_over parts = table_rule.Unique parts.1
 
-abbrev pub foreign_key : Lexeme × (Lexeme × (List Lexeme × (Lexeme × TargetText))) → TableRule
+abbrev pub foreign_key : Lexeme × (Lexeme × (List Lexeme × (Lexeme × TargetNode))) → TableRule
 foreign_key parts = table_rule.ForeignKey parts.1.1.0 parts.1.1.1.1
 
-abbrev pub of_column : ColumnText → Element
+abbrev pub of_column : ColumnNode → Element
 of_column c = element.Column c
 
 abbrev pub of_rule : TableRule → Element
 of_rule rule = element.Rule rule
 
-abbrev pub table : Lexeme × (Lexeme × (Lexeme × List Element)) → TableText
+abbrev pub table : Lexeme × (Lexeme × (Lexeme × List Element)) → TableNode
 table parts = record { name = parts.1.1.0; elements = parts.1.1.1 }
 
-abbrev pub tables : TableText × (List TableText × Option Lexeme) → List TableText
+abbrev pub tables : TableNode × (List TableNode × Option Lexeme) → List TableNode
 tables parts = parts.0 ∷ parts.1.0
 
 -- ---- names
@@ -95,7 +95,7 @@ number_types = terminal.Int ∷ terminal.Integer ∷ terminal.Smallint ∷ termi
 abbrev pub Length : Language Lexeme
 Length = in_parentheses (word terminal.Number)
 
-abbrev pub DataType : Language TypeText
+abbrev pub DataType : Language TypeNode
 DataType = made number_type (one number_types)
     ∪ made text_type (word terminal.Varchar ▸ Length)
     ∪ made varying_type (one (terminal.Char ∷ terminal.Character ∷ []) ▸ word terminal.Varying ▸ Length)
@@ -113,7 +113,7 @@ abbrev pub TriggeredAction : Language (Unit {0})
 TriggeredAction = made nothing (word terminal.On ▸ one (terminal.Delete ∷ terminal.Update ∷ []) ▸ ReferentialAction)
 
 -- name [ "(" names ")" ] { ON .. }
-abbrev pub Target : Language TargetText
+abbrev pub Target : Language TargetNode
 Target = made target (Name ▸ maybe (in_parentheses Names) ▸ made nothing (many TriggeredAction))
 
 -- ---- rules of columns and of tables
@@ -139,7 +139,7 @@ TableConstraint = made primary_key_over (word terminal.Primary ▸ word terminal
 -- ---- tables
 
 -- name type { [ CONSTRAINT name ] rule }
-abbrev pub ColumnDefinition : Language ColumnText
+abbrev pub ColumnDefinition : Language ColumnNode
 ColumnDefinition = made column (Name ▸ DataType ▸ many (named ColumnConstraint))
 
 -- column | [ CONSTRAINT name ] rule
@@ -147,10 +147,10 @@ abbrev pub TableElement : Language Element
 TableElement = made of_column ColumnDefinition ∪ made of_rule (named TableConstraint)
 
 -- CREATE TABLE name "(" element { "," element } ")"
-abbrev pub TableDefinition : Language TableText
+abbrev pub TableDefinition : Language TableNode
 TableDefinition = made table (word terminal.Create ▸ word terminal.Table ▸ Name ▸ in_parentheses (listed terminal.Comma TableElement))
 
 -- table { ";" table } [ ";" ]
-unfoldable pub SchemaText : Language (List TableText)
+unfoldable pub SchemaText : Language (List TableNode)
 SchemaText = made tables
     (TableDefinition ▸ many (made second (word terminal.Semicolon ▸ TableDefinition)) ▸ maybe (word terminal.Semicolon))

@@ -4,26 +4,26 @@ use Rattle.std.specs.Prelude.{All, IfSome, ⊤, List, [], ◌∷◌}
 use Rattle.ll_grammars.specs.declared.lexeme.Lexeme.{Lexeme}
 use Rattle.ll_grammars.specs.declared.terminal.Terminal.TheVariants as terminal
 use Rattle.ll_grammars.specs.Keeping.{IsOneOf}
-use Rattle.schema_grammar.specs.declared.tree.TargetText.{TargetText}
-use Rattle.schema_grammar.specs.declared.tree.TypeText.{TypeText}
-use Rattle.schema_grammar.specs.declared.tree.TypeText.TheVariants as type
+use Rattle.schema_grammar.specs.declared.tree.TargetNode.{TargetNode}
+use Rattle.schema_grammar.specs.declared.tree.TypeNode.{TypeNode}
+use Rattle.schema_grammar.specs.declared.tree.TypeNode.TheVariants as type
 use Rattle.schema_grammar.specs.declared.tree.ColumnRule.{ColumnRule}
 use Rattle.schema_grammar.specs.declared.tree.ColumnRule.TheVariants as column_rule
-use Rattle.schema_grammar.specs.declared.tree.ColumnText.{ColumnText}
+use Rattle.schema_grammar.specs.declared.tree.ColumnNode.{ColumnNode}
 use Rattle.schema_grammar.specs.declared.tree.TableRule.{TableRule}
 use Rattle.schema_grammar.specs.declared.tree.TableRule.TheVariants as table_rule
 use Rattle.schema_grammar.specs.declared.tree.Element.{Element}
 use Rattle.schema_grammar.specs.declared.tree.Element.TheVariants as element
-use Rattle.schema_grammar.specs.declared.tree.TableText.{TableText}
+use Rattle.schema_grammar.specs.declared.tree.TableNode.{TableNode}
 use Rattle.schema_grammar.specs.Grammar.{name_terminals}
 
 abbrev pub IsNameOf : (Lexeme → Type 0) → Lexeme → Type 0
 IsNameOf P token = IsOneOf name_terminals P token
 
-abbrev pub IsTargetOf : (Lexeme → Type 0) → TargetText → Type 0
+abbrev pub IsTargetOf : (Lexeme → Type 0) → TargetNode → Type 0
 IsTargetOf P target = IsNameOf P target.table × IfSome target.columns (All (IsNameOf P))
 
-abbrev pub IsTypeOf : (Lexeme → Type 0) → TypeText → Type 0
+abbrev pub IsTypeOf : (Lexeme → Type 0) → TypeNode → Type 0
 IsTypeOf P type.Number = ⊤
 IsTypeOf P (type.Text length) = IsOneOf (terminal.Number ∷ []) P length
 
@@ -33,7 +33,7 @@ IsColumnRuleOf P (column_rule.PrimaryKey word) = IsOneOf (terminal.Primary ∷ [
 IsColumnRuleOf P column_rule.Unique = ⊤
 IsColumnRuleOf P (column_rule.References target) = IsTargetOf P target
 
-abbrev pub IsColumnOf : (Lexeme → Type 0) → ColumnText → Type 0
+abbrev pub IsColumnOf : (Lexeme → Type 0) → ColumnNode → Type 0
 IsColumnOf P column = IsNameOf P column.name × IsTypeOf P column.kind × All (IsColumnRuleOf P) column.rules
 
 abbrev pub IsTableRuleOf : (Lexeme → Type 0) → TableRule → Type 0
@@ -45,9 +45,9 @@ abbrev pub IsElementOf : (Lexeme → Type 0) → Element → Type 0
 IsElementOf P (element.Column column) = IsColumnOf P column
 IsElementOf P (element.Rule rule) = IsTableRuleOf P rule
 
-abbrev pub IsTableOf : (Lexeme → Type 0) → TableText → Type 0
+abbrev pub IsTableOf : (Lexeme → Type 0) → TableNode → Type 0
 IsTableOf P table = IsNameOf P table.name × All (IsElementOf P) table.elements
 
 -- every token of the trees has P
-unfoldable pub AreOf : (Lexeme → Type 0) → List TableText → Type 0
+unfoldable pub AreOf : (Lexeme → Type 0) → List TableNode → Type 0
 AreOf P tables = All (IsTableOf P) tables

@@ -5,13 +5,13 @@ use Rattle.ll_grammars.specs.declared.terminal.Terminal.{Terminal}
 use Rattle.ll_grammars.specs.declared.terminal.Terminal.TheVariants as terminal
 use Rattle.ll_grammars.specs.Reading.{◌>>=◌, Parser, read_one, read_then, read_made, read_either, read_maybe, read_many, read_others, read_tails}
 use Rattle.ll_grammars.specs.Rules.{all, second, read_word, read_in_parentheses}
-use Rattle.schema_grammar.specs.declared.tree.TargetText.{TargetText}
-use Rattle.schema_grammar.specs.declared.tree.TypeText.{TypeText}
+use Rattle.schema_grammar.specs.declared.tree.TargetNode.{TargetNode}
+use Rattle.schema_grammar.specs.declared.tree.TypeNode.{TypeNode}
 use Rattle.schema_grammar.specs.declared.tree.ColumnRule.{ColumnRule}
-use Rattle.schema_grammar.specs.declared.tree.ColumnText.{ColumnText}
+use Rattle.schema_grammar.specs.declared.tree.ColumnNode.{ColumnNode}
 use Rattle.schema_grammar.specs.declared.tree.TableRule.{TableRule}
 use Rattle.schema_grammar.specs.declared.tree.Element.{Element}
-use Rattle.schema_grammar.specs.declared.tree.TableText.{TableText}
+use Rattle.schema_grammar.specs.declared.tree.TableNode.{TableNode}
 use Rattle.schema_grammar.specs.Grammar.{nothing, target, number_type, text_type, varying_type, not_null, primary_key, unique, references, column, primary_key_over, unique_over, foreign_key, of_column, of_rule, table, name_terminals, number_types}
 
 -- ---- names
@@ -33,7 +33,7 @@ read_name_list = read_in_parentheses read_names
 unfoldable pub read_length : Parser Lexeme
 read_length = read_in_parentheses (read_word terminal.Number)
 
-unfoldable pub read_type : Parser TypeText
+unfoldable pub read_type : Parser TypeNode
 read_type = read_either number_types (read_made number_type (read_one number_types))
     (read_either (terminal.Varchar ∷ []) (read_made text_type (read_then (read_word terminal.Varchar) read_length))
     (read_made varying_type (read_then (read_one (terminal.Char ∷ terminal.Character
@@ -53,7 +53,7 @@ read_triggered_action = read_made nothing (read_then (read_word terminal.On) (re
 unfoldable pub read_triggered_actions : Parser (Unit {0})
 read_triggered_actions = read_made nothing (read_many (terminal.On ∷ []) read_triggered_action)
 
-unfoldable pub read_target : Parser TargetText
+unfoldable pub read_target : Parser TargetNode
 read_target = read_made target (read_then read_name (read_then (read_maybe (terminal.Open ∷ []) read_name_list) read_triggered_actions))
 
 -- ---- rules of columns and of tables
@@ -92,7 +92,7 @@ read_table_rule = read_made second (read_then read_constraint_name read_table_co
 
 -- ---- tables
 
-unfoldable pub read_column : Parser ColumnText
+unfoldable pub read_column : Parser ColumnNode
 read_column = read_made column (read_then read_name (read_then read_type read_column_rules))
 
 unfoldable pub read_element : Parser Element
@@ -107,14 +107,14 @@ read_elements = read_made all (read_then read_element (read_many (terminal.Comma
 unfoldable pub read_element_list : Parser (List Element)
 read_element_list = read_in_parentheses read_elements
 
-unfoldable pub read_table : Parser TableText
+unfoldable pub read_table : Parser TableNode
 read_table = read_made table
     (read_then (read_word terminal.Create) (read_then (read_word terminal.Table) (read_then read_name read_element_list)))
 
-unfoldable pub read_other_tables : Parser (List TableText)
+unfoldable pub read_other_tables : Parser (List TableNode)
 read_other_tables = read_tails (terminal.Semicolon ∷ []) (terminal.Create ∷ []) read_table
 
-unfoldable pub read_all_tables : Parser (List TableText)
+unfoldable pub read_all_tables : Parser (List TableNode)
 read_all_tables = read_made all (read_then read_table read_other_tables)
 
 -- whether another table follows, where its semicolon, or one at the end, was read

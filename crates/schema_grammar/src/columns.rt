@@ -8,7 +8,7 @@ use crate::terminals::{
     CHARACTER, CLOSE, COLUMN_RULE, CONSTRAINT, KEY, NOT, NULL, NUMBER, NUMBER_TYPE, OPEN, PRIMARY,
     REFERENCES, UNIQUE, VARCHAR, VARYING,
 };
-use crate::tree::{ColumnRule, ColumnText, TypeText};
+use crate::tree::{ColumnNode, ColumnRule, TypeNode};
 use base_io::Seq;
 use ll_grammars::{Lexeme, Reader, Stop};
 
@@ -24,21 +24,21 @@ fn length(reader: &mut Reader<'_>) -> Result<Lexeme, Stop>
 }
 
 #[tactic(auto, unfolding(crate::specs::Readers::read_type))]
-fn data_type(reader: &mut Reader<'_>) -> Result<TypeText, Stop>
+fn data_type(reader: &mut Reader<'_>) -> Result<TypeNode, Stop>
     ensures { IsReadAs result reader.new (read_type reader.old) }
 {
     if reader.starts(NUMBER_TYPE) {
         reader.one(NUMBER_TYPE)?;
-        Ok(TypeText::Number)
+        Ok(TypeNode::Number)
     } else if reader.starts(VARCHAR) {
         reader.one(VARCHAR)?;
         let length = length(reader)?;
-        Ok(TypeText::Text { length })
+        Ok(TypeNode::Text { length })
     } else {
         reader.one(CHARACTER)?;
         reader.one(VARYING)?;
         let length = length(reader)?;
-        Ok(TypeText::Text { length })
+        Ok(TypeNode::Text { length })
     }
 }
 
@@ -98,11 +98,11 @@ fn column_rules(reader: &mut Reader<'_>) -> Result<Seq<ColumnRule>, Stop>
 
 // name type { rule }
 #[tactic(auto, unfolding(crate::specs::Readers::read_column))]
-pub fn column(reader: &mut Reader<'_>) -> Result<ColumnText, Stop>
+pub fn column(reader: &mut Reader<'_>) -> Result<ColumnNode, Stop>
     ensures { IsReadAs result reader.new (read_column reader.old) }
 {
     let name = name(reader)?;
     let kind = data_type(reader)?;
     let rules = column_rules(reader)?;
-    Ok(ColumnText { name, kind, rules })
+    Ok(ColumnNode { name, kind, rules })
 }

@@ -20,14 +20,14 @@ mod tree;
 ghost use Rattle.std.specs.Prelude.{◌≡◌, Contains, IfErr, IfOk, List, MatchResult};
 ghost use Rattle.ll_grammars.specs.declared.lexeme.Lexeme.{Lexeme as Token};
 ghost use Rattle.ll_grammars.specs.Places.{IsSyntaxError};
-ghost use Rattle.schema_grammar.specs.declared.tree.TableText.{TableText as Table};
+ghost use Rattle.schema_grammar.specs.declared.tree.TableText.{TableNode as Table};
 ghost use Rattle.schema_grammar.specs.Grammar.{SchemaText};
 ghost use Rattle.schema_grammar.specs.Lexemes.{AreOf};
 
 use base_io::Seq;
 use ll_grammars::{Lexeme, Reader, Stop, SyntaxError};
 use std::alloc::Global;
-pub use tree::{ColumnRule, ColumnText, Element, TableRule, TableText, TargetText, TypeText};
+pub use tree::{ColumnNode, ColumnRule, Element, TableNode, TableRule, TargetNode, TypeNode};
 
 /// The tables that the tokens spell, in order. `text_len` is the length of their text in bytes.
 ///
@@ -38,7 +38,7 @@ pub fn read_tables(
     alloc: Global,
     tokens: &[Lexeme],
     text_len: u32,
-) -> Result<Seq<TableText>, SyntaxError>
+) -> Result<Seq<TableNode>, SyntaxError>
     ensures ok { IfOk result (λ tables. SchemaText tokens.now tables) }
     ensures from_tokens { IfOk result (λ tables. AreOf (Contains tokens.now) tables) }
     ensures syntax { IfErr result (λ e. IsSyntaxError SchemaText tokens.now text_len e) }

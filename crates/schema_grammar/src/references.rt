@@ -4,7 +4,7 @@ ghost use Rattle.schema_grammar.specs.Readers.{read_action, read_target, read_tr
 
 use crate::names::{name, name_list};
 use crate::terminals::{ACTION, CASCADE, CHANGE, NO, NULL_OR_DEFAULT, ON, OPEN, SET};
-use crate::tree::TargetText;
+use crate::tree::TargetNode;
 use ll_grammars::{Reader, Stop};
 
 // NO ACTION | CASCADE | SET NULL | SET DEFAULT
@@ -46,7 +46,7 @@ fn triggered_actions(reader: &mut Reader<'_>) -> Result<(), Stop>
 
 // name [ "(" names ")" ] { ON .. }
 #[tactic(auto, unfolding(crate::specs::Readers::read_target))]
-pub fn target(reader: &mut Reader<'_>) -> Result<TargetText, Stop>
+pub fn target(reader: &mut Reader<'_>) -> Result<TargetNode, Stop>
     ensures { IsReadAs result reader.new (read_target reader.old) }
 {
     let table = name(reader)?;
@@ -56,5 +56,5 @@ pub fn target(reader: &mut Reader<'_>) -> Result<TargetText, Stop>
         None
     };
     triggered_actions(reader)?;
-    Ok(TargetText { table, columns })
+    Ok(TargetNode { table, columns })
 }

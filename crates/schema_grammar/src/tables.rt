@@ -8,7 +8,7 @@ use crate::references::target;
 use crate::terminals::{
     CLOSE, COMMA, CREATE, FOREIGN, KEY, NAME, OPEN, PRIMARY, REFERENCES, SEMICOLON, TABLE, UNIQUE,
 };
-use crate::tree::{Element, TableRule, TableText};
+use crate::tree::{Element, TableNode, TableRule};
 use base_io::Seq;
 use ll_grammars::{Reader, Stop};
 
@@ -95,14 +95,14 @@ fn element_list(reader: &mut Reader<'_>) -> Result<Seq<Element>, Stop>
 }
 
 #[tactic(auto, unfolding(crate::specs::Readers::read_table))]
-fn table(reader: &mut Reader<'_>) -> Result<TableText, Stop>
+fn table(reader: &mut Reader<'_>) -> Result<TableNode, Stop>
     ensures { IsReadAs result reader.new (read_table reader.old) }
 {
     reader.one(CREATE)?;
     reader.one(TABLE)?;
     let name = name(reader)?;
     let elements = element_list(reader)?;
-    Ok(TableText { name, elements })
+    Ok(TableNode { name, elements })
 }
 
 // Whether another table follows. Its semicolon, or one at the end, is read.
@@ -115,7 +115,7 @@ fn another(reader: &mut Reader<'_>) -> bool
 
 // table { ";" table } [ ";" ]
 #[tactic(auto, using(ll_grammars::proofs::Loops::listed_start), unfolding(crate::specs::Readers::read_all_tables))]
-pub fn tables(reader: &mut Reader<'_>) -> Result<Seq<TableText>, Stop>
+pub fn tables(reader: &mut Reader<'_>) -> Result<Seq<TableNode>, Stop>
     ensures { IsReadAs result reader.new (read_all_tables reader.old) }
 {
     let mut tables = Seq::new(reader.allocator());

@@ -4,14 +4,14 @@ use ll_grammars::Lexeme;
 
 /// The target of a foreign key: the name of the table that it refers to, and the names of that table's columns if they are written.
 #[derive(Debug, Drop)]
-pub struct TargetText {
+pub struct TargetNode {
     pub table: Lexeme,
     pub columns: Option<Seq<Lexeme>>,
 }
 
 /// A column's type. `length` is the number in the parentheses of VARCHAR or CHAR VARYING.
 #[derive(Clone, Copy, Debug)]
-pub enum TypeText {
+pub enum TypeNode {
     Number,
     Text { length: Lexeme },
 }
@@ -22,14 +22,14 @@ pub enum ColumnRule {
     NotNull,
     PrimaryKey { word: Lexeme },
     Unique,
-    References(TargetText),
+    References(TargetNode),
 }
 
 /// A column's definition (SQL-92 11.4).
 #[derive(Debug, Drop)]
-pub struct ColumnText {
+pub struct ColumnNode {
     pub name: Lexeme,
-    pub kind: TypeText,
+    pub kind: TypeNode,
     pub rules: Seq<ColumnRule>,
 }
 
@@ -45,20 +45,20 @@ pub enum TableRule {
     },
     ForeignKey {
         columns: Seq<Lexeme>,
-        target: TargetText,
+        target: TargetNode,
     },
 }
 
 /// One item of the list in a table's definition: a column, or a constraint.
 #[derive(Debug, Drop)]
 pub enum Element {
-    Column(ColumnText),
+    Column(ColumnNode),
     Rule(TableRule),
 }
 
 /// A table's definition (SQL-92 11.3).
 #[derive(Debug, Drop)]
-pub struct TableText {
+pub struct TableNode {
     pub name: Lexeme,
     pub elements: Seq<Element>,
 }

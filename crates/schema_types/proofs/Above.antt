@@ -7,7 +7,7 @@ use Rattle.std.proofs.Math.Seq.{drop-cons}
 use Rattle.std.proofs.lemmas.List.{length-map, take-append-drop}
 use Rattle.std.proofs.lemmas.List.Concat.{flat_map-append}
 use Rattle.std.proofs.lemmas.List.Elements.{filter-append}
-use Rattle.schema_grammar.specs.declared.tree.TableText.{TableText}
+use Rattle.schema_grammar.specs.declared.tree.TableNode.{TableNode}
 use Rattle.schema_types.specs.Declarations.{columns, column_names}
 use Rattle.schema_types.specs.Index.{table_index}
 use Rattle.schema_types.specs.Refusals.{above, column_counts, element_lengths, text_lengths}
@@ -21,7 +21,7 @@ above-flat_map most f [] = refl
 above-flat_map most f (x ∷ xs) = filter-append (nat_lt most) (f x) (flat_map f xs) ∙ ap (λ rest. above most (f x) ++ rest) (above-flat_map most f xs)
 
 -- the numbers of columns above a limit, by the tables' indexes
-pub column_counts_above : (text : List ℕ) (most : ℕ) (tables : List TableText) → flat_map (λ index. above most (length index.columns ∷ [])) (map (table_index text) tables) ≡ above most (column_counts tables)
+pub column_counts_above : (text : List ℕ) (most : ℕ) (tables : List TableNode) → flat_map (λ index. above most (length index.columns ∷ [])) (map (table_index text) tables) ≡ above most (column_counts tables)
 unfolding table_index
 column_counts_above text most [] = refl
 column_counts_above text most (table ∷ tables) =
@@ -29,13 +29,13 @@ column_counts_above text most (table ∷ tables) =
     rw (same, column_counts_above text most tables) (sym (kept_front (nat_lt most (length (columns table.elements))) (length (columns table.elements)) [] (above most (column_counts tables))))
 
 -- the lengths above a limit, table by table and element by element
-pub text_lengths_above : (text : List ℕ) (most : ℕ) (tables : List TableText) → flat_map (λ table. flat_map (λ element. above most (element_lengths text element)) table.elements) tables ≡ above most (text_lengths text tables)
+pub text_lengths_above : (text : List ℕ) (most : ℕ) (tables : List TableNode) → flat_map (λ table. flat_map (λ element. above most (element_lengths text element)) table.elements) tables ≡ above most (text_lengths text tables)
 unfolding text_lengths
 text_lengths_above text most [] = refl
 text_lengths_above text most (table ∷ tables) =
-    ap (λ front. front ++ flat_map (λ (t : TableText). flat_map (λ element. above most (element_lengths text element)) t.elements) tables) (sym (above-flat_map most (element_lengths text) table.elements))
+    ap (λ front. front ++ flat_map (λ (t : TableNode). flat_map (λ element. above most (element_lengths text element)) t.elements) tables) (sym (above-flat_map most (element_lengths text) table.elements))
     ∙ ap (λ rest. above most (flat_map (element_lengths text) table.elements) ++ rest) (text_lengths_above text most tables)
-    ∙ sym (filter-append (nat_lt most) (flat_map (element_lengths text) table.elements) (flat_map (λ (t : TableText). flat_map (element_lengths text) t.elements) tables))
+    ∙ sym (filter-append (nat_lt most) (flat_map (element_lengths text) table.elements) (flat_map (λ (t : TableNode). flat_map (element_lengths text) t.elements) tables))
 
 pub not_above : (most n : ℕ) → above most (n ∷ []) ≡ [] → n ≤ most
 not_above most n none = elim (cases_lt most n) [ inl more ↦ absurd (passed more none) | inr fits ↦ fits ]

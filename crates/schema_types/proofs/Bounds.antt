@@ -6,13 +6,13 @@ use Rattle.std.proofs.lemmas.List.{length-map}
 use Rattle.std.proofs.lemmas.List.Elements.{All-nil, All-cons, All-append, All-map, All-weaker, All-same}
 use Rattle.std.proofs.lemmas.Option.{slice_get-map, slice_get_within, get_or_from_slice_get}
 use Rattle.ll_grammars.specs.declared.lexeme.Lexeme.{Lexeme}
-use Rattle.schema_grammar.specs.declared.tree.TargetText.{TargetText}
+use Rattle.schema_grammar.specs.declared.tree.TargetNode.{TargetNode}
 use Rattle.schema_grammar.specs.declared.tree.ColumnRule.{ColumnRule}
 use Rattle.schema_grammar.specs.declared.tree.ColumnRule.TheVariants as column_rule
 use Rattle.schema_grammar.specs.declared.tree.TableRule.TheVariants as table_rule
 use Rattle.schema_grammar.specs.declared.tree.Element.{Element}
 use Rattle.schema_grammar.specs.declared.tree.Element.TheVariants as element
-use Rattle.schema_grammar.specs.declared.tree.TableText.{TableText}
+use Rattle.schema_grammar.specs.declared.tree.TableNode.{TableNode}
 use Rattle.schema_types.specs.declared.types.Reference.{Reference}
 use Rattle.schema_types.specs.declared.types.Table.{Table}
 use Rattle.schema_types.specs.Declarations.{columns, column_names, referenced_columns, target_place, target_table, table_names}
@@ -70,7 +70,7 @@ element_keys_within text declared (element.Rule (table_rule.Unique columns)) som
 element_keys_within text declared (element.Rule (table_rule.ForeignKey columns target)) some = All-nil (Within (length declared))
 
 -- a table's keys are over its columns
-pub keys_valid : (text : List ℕ) (tables : List TableText) (table : TableText) → 0 < length (column_names text table.elements) → All (AreColumnsOf (table_of text tables table)) (table_of text tables table).keys
+pub keys_valid : (text : List ℕ) (tables : List TableNode) (table : TableNode) → 0 < length (column_names text table.elements) → All (AreColumnsOf (table_of text tables table)) (table_of text tables table).keys
 unfolding table_of
 keys_valid text tables table some =
     rw (count_of_columns text table.elements)
@@ -78,7 +78,7 @@ keys_valid text tables table some =
 
 -- ---- references
 
-abbrev pub HasColumns : List ℕ → TableText → Type 0
+abbrev pub HasColumns : List ℕ → TableNode → Type 0
 HasColumns text table = 0 < length (column_names text table.elements)
 
 resolved_within : (text : List ℕ) (declared : List (List ℕ)) (chosen : Option (List Lexeme)) → 0 < length declared → Within (length declared) (unwrap_or (option_map (numbers_in text declared) chosen) [])
@@ -86,7 +86,7 @@ resolved_within text declared None some = All-nil (λ n. n < length declared)
 resolved_within text declared (Some tokens) some = numbers_within text declared tokens some
 
 -- a reference to the table at a place leads to its columns
-reference_to : (text : List ℕ) (tables : List TableText) (table : Table) (from : List ℕ) (written : Option (List Lexeme)) (place : ℕ) (target : TableText) → AreColumnsOf table from → slice_get tables place ≡ Some target → HasColumns text target → IsReference (map (table_of text tables) tables) table (record { columns = from; table = place; targets = led_numbers text written (Some target) })
+reference_to : (text : List ℕ) (tables : List TableNode) (table : Table) (from : List ℕ) (written : Option (List Lexeme)) (place : ℕ) (target : TableNode) → AreColumnsOf table from → slice_get tables place ≡ Some target → HasColumns text target → IsReference (map (table_of text tables) tables) table (record { columns = from; table = place; targets = led_numbers text written (Some target) })
 unfolding table_of
 reference_to text tables table from written place target within here some = record {
   columns = within;
@@ -96,7 +96,7 @@ reference_to text tables table from written place target within here some = reco
 }
 
 -- no table has the name: none of the first table's columns
-reference_to_none : (text : List ℕ) (tables : List TableText) (table : Table) (from : List ℕ) (first : TableText) → AreColumnsOf table from → slice_get tables 0 ≡ Some first → IsReference (map (table_of text tables) tables) table (record { columns = from; table = 0; targets = [] })
+reference_to_none : (text : List ℕ) (tables : List TableNode) (table : Table) (from : List ℕ) (first : TableNode) → AreColumnsOf table from → slice_get tables 0 ≡ Some first → IsReference (map (table_of text tables) tables) table (record { columns = from; table = 0; targets = [] })
 reference_to_none text tables table from first within here = record {
   columns = within;
   target = table_of text tables first;
@@ -109,10 +109,10 @@ some_at [] i h = absurd (omega arith)
 some_at (x ∷ xs) zero h = (x, refl)
 some_at (x ∷ xs) (suc i) h = some_at xs i (omega arith)
 
-has_columns_at : (text : List ℕ) (tables : List TableText) (place : ℕ) (target : TableText) → All (HasColumns text) tables → slice_get tables place ≡ Some target → HasColumns text target
+has_columns_at : (text : List ℕ) (tables : List TableNode) (place : ℕ) (target : TableNode) → All (HasColumns text) tables → slice_get tables place ≡ Some target → HasColumns text target
 has_columns_at text tables place target all here = subst (HasColumns text) (get_or_from_slice_get tables place target target here) (all place target (slice_get_within tables place target here))
 
-reference_valid : (text : List ℕ) (tables : List TableText) (table : Table) (from : List ℕ) (target : TargetText) → 0 < length tables → All (HasColumns text) tables → AreColumnsOf table from → IsReference (map (table_of text tables) tables) table (reference_of text tables from target)
+reference_valid : (text : List ℕ) (tables : List TableNode) (table : Table) (from : List ℕ) (target : TargetNode) → 0 < length tables → All (HasColumns text) tables → AreColumnsOf table from → IsReference (map (table_of text tables) tables) table (reference_of text tables from target)
 unfolding reference_of
 reference_valid text tables table from target some all within = at (target_place text tables target) (place_of_within (table_names text tables) _)
   where
@@ -122,7 +122,7 @@ reference_valid text tables table from target some all within = at (target_place
         let here = some_at tables p (simp (length-map) at (inside p refl)) in
         rw here.1 (reference_to text tables table from target.columns p here.0 within here.1 (has_columns_at text tables p here.0 all here.1))
 
-element_references_valid : (text : List ℕ) (tables : List TableText) (table : Table) (declared : List (List ℕ)) (e : Element) → 0 < length tables → All (HasColumns text) tables → 0 < length declared → length table.columns ≡ length declared → All (IsReference (map (table_of text tables) tables) table) (element_references text tables declared e)
+element_references_valid : (text : List ℕ) (tables : List TableNode) (table : Table) (declared : List (List ℕ)) (e : Element) → 0 < length tables → All (HasColumns text) tables → 0 < length declared → length table.columns ≡ length declared → All (IsReference (map (table_of text tables) tables) table) (element_references text tables declared e)
 element_references_valid text tables table declared (element.Column column) some all columns same =
     all_flat_map (IsReference (map (table_of text tables) tables) table) (rule_references text tables (number_in text declared column.name)) of_rule column.rules
   where
@@ -141,16 +141,16 @@ element_references_valid text tables table declared (element.Rule (table_rule.Fo
     (reference_valid text tables table (numbers_in text declared listed) target some all (rw same (numbers_within text declared listed columns)))
     (All-nil (IsReference (map (table_of text tables) tables) table))
 
-counted : (text : List ℕ) (tables : List TableText) (table : TableText) → length (table_of text tables table).columns ≡ length (column_names text table.elements)
+counted : (text : List ℕ) (tables : List TableNode) (table : TableNode) → length (table_of text tables table).columns ≡ length (column_names text table.elements)
 unfolding table_of
 counted text tables table = count_of_columns text table.elements
 
-listed_references : (text : List ℕ) (tables : List TableText) (table : TableText) → (table_of text tables table).references ≡ flat_map (element_references text tables (column_names text table.elements)) table.elements
+listed_references : (text : List ℕ) (tables : List TableNode) (table : TableNode) → (table_of text tables table).references ≡ flat_map (element_references text tables (column_names text table.elements)) table.elements
 unfolding table_of
 listed_references text tables table = refl
 
 -- a table's references lead to columns of tables
-pub references_valid : (text : List ℕ) (tables : List TableText) (table : TableText) → 0 < length tables → All (HasColumns text) tables → HasColumns text table → All (IsReference (map (table_of text tables) tables) (table_of text tables table)) (table_of text tables table).references
+pub references_valid : (text : List ℕ) (tables : List TableNode) (table : TableNode) → 0 < length tables → All (HasColumns text) tables → HasColumns text table → All (IsReference (map (table_of text tables) tables) (table_of text tables table)) (table_of text tables table).references
 references_valid text tables table some all filled = of_table (table_of text tables table) (counted text tables table) (listed_references text tables table)
   where
     of_table : (t : Table) → length t.columns ≡ length (column_names text table.elements) → t.references ≡ flat_map (element_references text tables (column_names text table.elements)) table.elements → All (IsReference (map (table_of text tables) tables) t) t.references

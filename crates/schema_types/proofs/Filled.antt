@@ -12,7 +12,7 @@ use Rattle.schema_grammar.specs.declared.tree.TableRule.{TableRule}
 use Rattle.schema_grammar.specs.declared.tree.TableRule.TheVariants as table_rule
 use Rattle.schema_grammar.specs.declared.tree.Element.{Element}
 use Rattle.schema_grammar.specs.declared.tree.Element.TheVariants as element
-use Rattle.schema_grammar.specs.declared.tree.TableText.{TableText}
+use Rattle.schema_grammar.specs.declared.tree.TableNode.{TableNode}
 use Rattle.schema_grammar.specs.Grammar.{primary_key_over, unique_over, foreign_key, of_column, of_rule, table, tables, Names, TableConstraint, TableElement, TableDefinition, SchemaText}
 
 abbrev pub IsFilled : {A : Type 0} → List A → Type 0
@@ -33,7 +33,7 @@ abbrev pub FirstFilled : List Element → Type 0
 FirstFilled [] = ⊥
 FirstFilled (x ∷ xs) = ElementFilled x
 
-abbrev pub TableFilled : TableText → Type 0
+abbrev pub TableFilled : TableNode → Type 0
 TableFilled t = FirstFilled t.elements
 
 abbrev Any : Lexeme → Type 0
@@ -65,7 +65,7 @@ one_table =
     (keeps_then keeps_any (keeps_then keeps_any (keeps_then keeps_any (keeps_inside (keeps_made all FirstFilled (keeps_then one_element keeps_any) (λ parts q. q.0))))))
     (λ parts q. q.1.1.1)
 
-abbrev pub AreFilled : List TableText → Type 0
+abbrev pub AreFilled : List TableNode → Type 0
 AreFilled ts = IsFilled ts × All TableFilled ts
 
 all_tables : Keeps Any SchemaText AreFilled
@@ -75,5 +75,5 @@ all_tables =
     (keeps_then one_table (keeps_then (keeps_many (keeps_made second TableFilled (keeps_then keeps_any one_table) (λ parts q. q.1))) keeps_any))
     (λ parts q. (tt, All-cons TableFilled parts.0 parts.1.0 q.0 q.1.0))
 
-pub filled : (tokens : List Lexeme) (trees : List TableText) → SchemaText tokens trees → AreFilled trees
+pub filled : (tokens : List Lexeme) (trees : List TableNode) → SchemaText tokens trees → AreFilled trees
 filled tokens trees l = all_tables.kept tokens trees l (λ k d h. tt)

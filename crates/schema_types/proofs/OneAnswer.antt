@@ -1,7 +1,7 @@
 -- A schema text has one answer at most, want of memory aside.
 use Rattle.std.proofs.Common.{◌≡◌, ◌≢◌, ℕ, ◌⊎◌, List, map, length, Result, Ok, Err, refl, sym, ◌∙◌, ap, subst, inl, inr}
 use Rattle.ll_grammars.specs.Places.{IsSyntaxPlace}
-use Rattle.schema_grammar.specs.declared.tree.TableText.{TableText}
+use Rattle.schema_grammar.specs.declared.tree.TableNode.{TableNode}
 use Rattle.schema_grammar.specs.Grammar.{SchemaText}
 use Rattle.schema_grammar.proofs.Ends.{one_schema}
 use Rattle.sql_tokens.specs.declared.token.Token.{Token}
@@ -27,14 +27,14 @@ one_wrong text at other (inr p) (inr q) =
     one_place SchemaText (map (lexeme_of text) p.tokens) (length text) at other p.place
     (subst (λ (tokens : List Token). IsSyntaxPlace SchemaText (map (lexeme_of text) tokens) (length text) other) same q.place)
 
-not_wrong_text : (text : List ℕ) (at : ℕ) (tables : List TableText) → Wrong text at → Spells text tables → ⊥
+not_wrong_text : (text : List ℕ) (at : ℕ) (tables : List TableNode) → Wrong text at → Spells text tables → ⊥
 not_wrong_text text at tables (inl p) s = whole.never_both text s.tokens at s.lexed p
 not_wrong_text text at tables (inr p) s =
     let same : s.tokens ≡ p.tokens = whole.one_list text s.tokens p.tokens s.lexed p.lexed in
     not_spelled SchemaText (map (lexeme_of text) p.tokens) (length text) at tables
     (subst (λ (tokens : List Token). SchemaText (map (lexeme_of text) tokens) tables) same s.spelled) p.place
 
-one_tables : (text : List ℕ) (a b : List TableText) → Spells text a → Spells text b → a ≡ b
+one_tables : (text : List ℕ) (a b : List TableNode) → Spells text a → Spells text b → a ≡ b
 one_tables text a b s t =
     let same : t.tokens ≡ s.tokens = whole.one_list text t.tokens s.tokens t.lexed s.lexed in
     one_schema (map (lexeme_of text) s.tokens) a b s.spelled

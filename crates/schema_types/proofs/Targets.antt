@@ -4,7 +4,7 @@ use Rattle.std.specs.List.{slice_get}
 use Rattle.std.specs.Option.{option_map, option_and_then}
 use Rattle.std.proofs.lemmas.Option.{slice_get-map}
 use Rattle.std.proofs.lemmas.List.{length-map}
-use Rattle.schema_grammar.specs.declared.tree.TableText.{TableText}
+use Rattle.schema_grammar.specs.declared.tree.TableNode.{TableNode}
 use Rattle.schema_types.specs.Declarations.{table_names}
 use Rattle.schema_types.specs.Names.{place_of}
 use Rattle.schema_types.proofs.Places.{place_of_within}
@@ -30,7 +30,7 @@ some_map f None y e = cc
 some_map f (Some x) y e = (x, refl, cc)
 
 -- a named table has an index
-pub indexed_within : {B : Type 0} (f : TableText → B) (text : List ℕ) (tables : List TableText) (indexes : List B) (name : List ℕ) (place : ℕ) → indexes ≡ map f tables → place_of (table_names text tables) name ≡ Some place → place < length indexes
+pub indexed_within : {B : Type 0} (f : TableNode → B) (text : List ℕ) (tables : List TableNode) (indexes : List B) (name : List ℕ) (place : ℕ) → indexes ≡ map f tables → place_of (table_names text tables) name ≡ Some place → place < length indexes
 indexed_within f text tables indexes name place indexed here =
     let within : place < length (table_names text tables) = place_of_within (table_names text tables) name place here in
     rw indexed (simp length-map (simp length-map at within))

@@ -14,7 +14,7 @@ use Rattle.schema_grammar.specs.declared.tree.TableRule.{TableRule}
 use Rattle.schema_grammar.specs.declared.tree.TableRule.TheVariants as table_rule
 use Rattle.schema_grammar.specs.declared.tree.Element.{Element}
 use Rattle.schema_grammar.specs.declared.tree.Element.TheVariants as element
-use Rattle.schema_grammar.specs.declared.tree.TableText.{TableText}
+use Rattle.schema_grammar.specs.declared.tree.TableNode.{TableNode}
 use Rattle.sql_tokens.specs.Words.{name_of}
 use Rattle.schema_types.specs.declared.types.Schema.{Schema}
 use Rattle.schema_types.specs.declared.types.Table.{Table}
@@ -69,24 +69,24 @@ columns_push : (text : List ℕ) (earlier : List Element) (x : Element) → colu
 columns_push text earlier x = simp (flat_map-append, map-append)
 
 -- an element leaves the names of columns different
-differ_after : (text : List ℕ) (tables : List TableText) (declared : List (List ℕ)) (earlier : List Element) (x : Element) → Differ (column_names text earlier) → element_offences text tables declared earlier x ≡ [] → Differ (column_names text earlier ++ column_names text (x ∷ []))
+differ_after : (text : List ℕ) (tables : List TableNode) (declared : List (List ℕ)) (earlier : List Element) (x : Element) → Differ (column_names text earlier) → element_offences text tables declared earlier x ≡ [] → Differ (column_names text earlier ++ column_names text (x ∷ []))
 unfolding element_offences column_offences
 differ_after text tables declared earlier (element.Column column) differ none =
     let free : is_taken (name_of text column.name) (column_names text earlier) ≡ false = when_none _ column.name.start (empty_left _ _ none) in
     differ_push (column_names text earlier) (name_of text column.name) differ free
 differ_after text tables declared earlier (element.Rule rule) differ none = subst Differ (sym (append-nil (column_names text earlier))) differ
 
-columns_differ : (text : List ℕ) (tables : List TableText) (declared : List (List ℕ)) (earlier rest : List Element) → told_from (element_offences text tables declared) earlier rest ≡ [] → Differ (column_names text earlier) → Differ (column_names text (earlier ++ rest))
+columns_differ : (text : List ℕ) (tables : List TableNode) (declared : List (List ℕ)) (earlier rest : List Element) → told_from (element_offences text tables declared) earlier rest ≡ [] → Differ (column_names text earlier) → Differ (column_names text (earlier ++ rest))
 columns_differ text tables declared earlier [] none differ = subst (λ elements. Differ (column_names text elements)) (sym (append-nil earlier)) differ
 columns_differ text tables declared earlier (x ∷ rest) none differ =
     subst (λ elements. Differ (column_names text elements)) (append_assoc earlier (x ∷ []) rest)
     (columns_differ text tables declared (earlier ++ x ∷ []) rest (told_later (element_offences text tables declared) earlier x rest none)
     (subst Differ (sym (columns_push text earlier x)) (differ_after text tables declared earlier x differ (told_here (element_offences text tables declared) earlier x rest none))))
 
-tables_push : (text : List ℕ) (earlier : List TableText) (x : TableText) → table_names text (earlier ++ x ∷ []) ≡ table_names text earlier ++ name_of text x.name ∷ []
+tables_push : (text : List ℕ) (earlier : List TableNode) (x : TableNode) → table_names text (earlier ++ x ∷ []) ≡ table_names text earlier ++ name_of text x.name ∷ []
 tables_push text earlier x = simp map-append
 
-table_free : (text : List ℕ) (tables earlier : List TableText) (x : TableText) → table_offences text tables earlier x ≡ [] → (is_plain (name_of text x.name) ≡ true) × (is_taken (name_of text x.name) (table_names text earlier) ≡ false)
+table_free : (text : List ℕ) (tables earlier : List TableNode) (x : TableNode) → table_offences text tables earlier x ≡ [] → (is_plain (name_of text x.name) ≡ true) × (is_taken (name_of text x.name) (table_names text earlier) ≡ false)
 unfolding table_offences
 table_free text tables earlier x none =
     let parts = or_parts (not (is_plain (name_of text x.name))) (is_taken (name_of text x.name) (table_names text earlier)) (when_none _ x.name.start (empty_left _ _ none)) in
@@ -96,7 +96,7 @@ table_free text tables earlier x none =
     not_not true e = refl
     not_not false e = cc
 
-tables_differ : (text : List ℕ) (tables earlier rest : List TableText) → told_from (table_offences text tables) earlier rest ≡ [] → Differ (table_names text earlier) → Differ (table_names text (earlier ++ rest))
+tables_differ : (text : List ℕ) (tables earlier rest : List TableNode) → told_from (table_offences text tables) earlier rest ≡ [] → Differ (table_names text earlier) → Differ (table_names text (earlier ++ rest))
 tables_differ text tables earlier [] none differ = subst (λ ts. Differ (table_names text ts)) (sym (append-nil earlier)) differ
 tables_differ text tables earlier (x ∷ rest) none differ =
     subst (λ ts. Differ (table_names text ts)) (append_assoc earlier (x ∷ []) rest)
@@ -121,13 +121,13 @@ list_some text declared (token ∷ tokens) is none =
     let parts = or_parts (is_none (place_of declared (name_of text token))) _ (when_none _ token.start (told_here (listed_offences text declared) [] token tokens none)) in
     some_names declared (name_of text token) parts.0
 
-rule_some : (text : List ℕ) (tables : List TableText) (declared : List (List ℕ)) (rule : TableRule) → RuleFilled rule → table_rule_offences text tables declared [] rule ≡ [] → 0 < length declared
+rule_some : (text : List ℕ) (tables : List TableNode) (declared : List (List ℕ)) (rule : TableRule) → RuleFilled rule → table_rule_offences text tables declared [] rule ≡ [] → 0 < length declared
 unfolding table_rule_offences
 rule_some text tables declared (table_rule.PrimaryKey word listed) is none = list_some text declared listed is none
 rule_some text tables declared (table_rule.Unique listed) is none = list_some text declared listed is none
 rule_some text tables declared (table_rule.ForeignKey listed target) is none = list_some text declared listed is (empty_left (list_offences text declared listed) (target_offences text tables (length listed) target) none)
 
-elements_some : (text : List ℕ) (tables : List TableText) (declared : List (List ℕ)) (elements : List Element) → FirstFilled elements → declared ≡ column_names text elements → each_told (element_offences text tables declared) elements ≡ [] → 0 < length declared
+elements_some : (text : List ℕ) (tables : List TableNode) (declared : List (List ℕ)) (elements : List Element) → FirstFilled elements → declared ≡ column_names text elements → each_told (element_offences text tables declared) elements ≡ [] → 0 < length declared
 unfolding element_offences
 elements_some text tables declared [] is same none = absurd is
 elements_some text tables declared (element.Column column ∷ rest) is same none = rw same (omega arith)
@@ -136,17 +136,17 @@ elements_some text tables declared (element.Rule rule ∷ rest) is same none =
 
 -- ---- each table
 
-record Facts (text : List ℕ) (table : TableText) : Type 0 where
+record Facts (text : List ℕ) (table : TableNode) : Type 0 where
   plain : is_plain (name_of text table.name) ≡ true
   some : TableFilled table → HasColumns text table
   differ : Differ (column_names text table.elements)
 
-elements_clean : (text : List ℕ) (tables earlier : List TableText) (x : TableText) → table_offences text tables earlier x ≡ [] → each_told (element_offences text tables (column_names text x.elements)) x.elements ≡ []
+elements_clean : (text : List ℕ) (tables earlier : List TableNode) (x : TableNode) → table_offences text tables earlier x ≡ [] → each_told (element_offences text tables (column_names text x.elements)) x.elements ≡ []
 unfolding table_offences
 elements_clean text tables earlier x none =
     empty_right (when (not (is_plain (name_of text x.name)) || is_taken (name_of text x.name) (table_names text earlier)) x.name.start) (each_told (element_offences text tables (column_names text x.elements)) x.elements) none
 
-table_facts : (text : List ℕ) (tables earlier : List TableText) (x : TableText) → table_offences text tables earlier x ≡ [] → Facts text x
+table_facts : (text : List ℕ) (tables earlier : List TableNode) (x : TableNode) → table_offences text tables earlier x ≡ [] → Facts text x
 unfolding table_offences
 table_facts text tables earlier x none = record {
   plain = (table_free text tables earlier x none).0;
@@ -154,15 +154,15 @@ table_facts text tables earlier x none = record {
   differ = columns_differ text tables (column_names text x.elements) [] x.elements (elements_clean text tables earlier x none) differ_none;
 }
 
-all_counts : (tables : List TableText) → above 64 (column_counts tables) ≡ [] → All (λ table. length (columns table.elements) ≤ 64) tables
-all_counts [] none = All-nil (λ (table : TableText). length (columns table.elements) ≤ 64)
+all_counts : (tables : List TableNode) → above 64 (column_counts tables) ≡ [] → All (λ table. length (columns table.elements) ≤ 64) tables
+all_counts [] none = All-nil (λ (table : TableNode). length (columns table.elements) ≤ 64)
 all_counts (table ∷ tables) none =
     let parts : above 64 (column_counts (table ∷ tables)) ≡ above 64 (length (columns table.elements) ∷ []) ++ above 64 (column_counts tables) = filter-append (nat_lt 64) (length (columns table.elements) ∷ []) (column_counts tables) in
-    All-cons (λ (table : TableText). length (columns table.elements) ≤ 64) table tables
+    All-cons (λ (table : TableNode). length (columns table.elements) ≤ 64) table tables
     (not_above 64 (length (columns table.elements)) (empty_left (above 64 (length (columns table.elements) ∷ [])) (above 64 (column_counts tables)) (sym parts ∙ none)))
     (all_counts tables (empty_right (above 64 (length (columns table.elements) ∷ [])) (above 64 (column_counts tables)) (sym parts ∙ none)))
 
-table_valid : (text : List ℕ) (tables : List TableText) (table : TableText) → Facts text table → TableFilled table → length (columns table.elements) ≤ 64 → IsValidTable (table_of text tables table)
+table_valid : (text : List ℕ) (tables : List TableNode) (table : TableNode) → Facts text table → TableFilled table → length (columns table.elements) ≤ 64 → IsValidTable (table_of text tables table)
 unfolding table_of
 table_valid text tables table facts is few = record {
   some = rw (count_of_columns text table.elements) (facts.some is);
@@ -178,12 +178,12 @@ filled_some : {A : Type 0} (xs : List A) → IsFilled xs → 0 < length xs
 filled_some [] is = absurd is
 filled_some (x ∷ xs) is = omega arith
 
-names_of_tables : (text : List ℕ) (tables listed : List TableText) → map (λ table. table.name) (map (table_of text tables) listed) ≡ table_names text listed
+names_of_tables : (text : List ℕ) (tables listed : List TableNode) → map (λ table. table.name) (map (table_of text tables) listed) ≡ table_names text listed
 unfolding table_of
 names_of_tables text tables [] = refl
 names_of_tables text tables (table ∷ listed) = ap (λ rest. name_of text table.name ∷ rest) (names_of_tables text tables listed)
 
-schema_valid : (text : List ℕ) (tables : List TableText) → AreFilled tables → offences text tables ≡ [] → above 64 (length tables ∷ []) ≡ [] → above 64 (column_counts tables) ≡ [] → IsValid (schema_of text tables)
+schema_valid : (text : List ℕ) (tables : List TableNode) → AreFilled tables → offences text tables ≡ [] → above 64 (length tables ∷ []) ≡ [] → above 64 (column_counts tables) ≡ [] → IsValid (schema_of text tables)
 unfolding schema_of offences
 schema_valid text tables are none few counts =
     let facts : All (Facts text) tables = told_all (table_offences text tables) (Facts text) (table_facts text tables) [] tables none in

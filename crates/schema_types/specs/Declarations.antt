@@ -2,24 +2,24 @@
 use Rattle.std.specs.Prelude.{ℕ, Bool, true, false, List, [], ◌∷◌, map, Option, Some, None, option_and_then, slice_get}
 use Rattle.std.specs.List.{flat_map, list_any}
 use Rattle.ll_grammars.specs.declared.lexeme.Lexeme.{Lexeme}
-use Rattle.schema_grammar.specs.declared.tree.TargetText.{TargetText}
+use Rattle.schema_grammar.specs.declared.tree.TargetNode.{TargetNode}
 use Rattle.schema_grammar.specs.declared.tree.ColumnRule.{ColumnRule}
 use Rattle.schema_grammar.specs.declared.tree.ColumnRule.TheVariants as column_rule
-use Rattle.schema_grammar.specs.declared.tree.ColumnText.{ColumnText}
+use Rattle.schema_grammar.specs.declared.tree.ColumnNode.{ColumnNode}
 use Rattle.schema_grammar.specs.declared.tree.TableRule.{TableRule}
 use Rattle.schema_grammar.specs.declared.tree.TableRule.TheVariants as table_rule
 use Rattle.schema_grammar.specs.declared.tree.Element.{Element}
 use Rattle.schema_grammar.specs.declared.tree.Element.TheVariants as element
-use Rattle.schema_grammar.specs.declared.tree.TableText.{TableText}
+use Rattle.schema_grammar.specs.declared.tree.TableNode.{TableNode}
 use Rattle.sql_tokens.specs.Words.{name_of}
 use Rattle.schema_types.specs.Names.{first, when, names_of, place_of}
 
-abbrev pub element_columns : Element → List ColumnText
+abbrev pub element_columns : Element → List ColumnNode
 element_columns (element.Column column) = column ∷ []
 element_columns (element.Rule _) = []
 
 -- the columns among a table's elements
-abbrev pub columns : List Element → List ColumnText
+abbrev pub columns : List Element → List ColumnNode
 columns elements = flat_map element_columns elements
 
 abbrev pub column_tokens : List Element → List Lexeme
@@ -28,10 +28,10 @@ column_tokens elements = map (λ column. column.name) (columns elements)
 abbrev pub column_names : List ℕ → List Element → List (List ℕ)
 column_names text elements = names_of text (column_tokens elements)
 
-abbrev pub table_tokens : List TableText → List Lexeme
+abbrev pub table_tokens : List TableNode → List Lexeme
 table_tokens tables = map (λ table. table.name) tables
 
-abbrev pub table_names : List ℕ → List TableText → List (List ℕ)
+abbrev pub table_names : List ℕ → List TableNode → List (List ℕ)
 table_names text tables = names_of text (table_tokens tables)
 
 -- ---- primary keys
@@ -43,7 +43,7 @@ is_primary_rule column_rule.Unique = false
 is_primary_rule (column_rule.References _) = false
 
 -- the primary key that a column's definition declares: this column alone
-abbrev pub column_primary_key : ColumnText → List (List Lexeme)
+abbrev pub column_primary_key : ColumnNode → List (List Lexeme)
 column_primary_key column = when (list_any is_primary_rule column.rules) (column.name ∷ [])
 
 abbrev pub rule_primary_key : TableRule → List (List Lexeme)
@@ -63,10 +63,10 @@ primary_key elements = first (flat_map element_primary_key elements)
 -- ---- references
 
 -- the number of the table that a reference names: the first of that name
-abbrev pub target_place : List ℕ → List TableText → TargetText → Option ℕ
+abbrev pub target_place : List ℕ → List TableNode → TargetNode → Option ℕ
 target_place text tables target = place_of (table_names text tables) (name_of text target.table)
 
-abbrev pub target_table : List ℕ → List TableText → TargetText → Option TableText
+abbrev pub target_table : List ℕ → List TableNode → TargetNode → Option TableNode
 target_table text tables target = option_and_then (slice_get tables) (target_place text tables target)
 
 -- the columns to which a reference leads: those that are written, else the target's primary key

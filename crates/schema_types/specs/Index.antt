@@ -1,13 +1,13 @@
 -- What look-ups need to know of tables.
 use Rattle.std.specs.Prelude.{ℕ, List, [], option_map, unwrap_or}
-use Rattle.schema_grammar.specs.declared.tree.TableText.{TableText}
+use Rattle.schema_grammar.specs.declared.tree.TableNode.{TableNode}
 use Rattle.schema_types.specs.declared.index.TableIndex.{TableIndex}
 use Rattle.schema_types.specs.Names.{names_of}
 use Rattle.schema_types.specs.Declarations.{column_names, primary_key}
 use Rattle.schema_types.specs.Numbers.{numbers_in}
 
 -- the names of a table's columns, those in its first primary key, and the numbers of these columns
-unfoldable pub table_index : List ℕ → TableText → TableIndex
+unfoldable pub table_index : List ℕ → TableNode → TableIndex
 table_index text table = record {
   columns = column_names text table.elements;
   key = option_map (names_of text) (primary_key table.elements);

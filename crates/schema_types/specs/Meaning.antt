@@ -3,17 +3,17 @@ use Rattle.std.specs.Prelude.{ℕ, List, [], ◌∷◌, map, length, Option, Som
 use Rattle.std.specs.List.{flat_map}
 use Rattle.limits.specs.Profile.{most_columns, most_length, most_tables}
 use Rattle.ll_grammars.specs.declared.lexeme.Lexeme.{Lexeme}
-use Rattle.schema_grammar.specs.declared.tree.TargetText.{TargetText}
-use Rattle.schema_grammar.specs.declared.tree.TypeText.{TypeText}
-use Rattle.schema_grammar.specs.declared.tree.TypeText.TheVariants as type_text
+use Rattle.schema_grammar.specs.declared.tree.TargetNode.{TargetNode}
+use Rattle.schema_grammar.specs.declared.tree.TypeNode.{TypeNode}
+use Rattle.schema_grammar.specs.declared.tree.TypeNode.TheVariants as type_text
 use Rattle.schema_grammar.specs.declared.tree.ColumnRule.{ColumnRule}
 use Rattle.schema_grammar.specs.declared.tree.ColumnRule.TheVariants as column_rule
-use Rattle.schema_grammar.specs.declared.tree.ColumnText.{ColumnText}
+use Rattle.schema_grammar.specs.declared.tree.ColumnNode.{ColumnNode}
 use Rattle.schema_grammar.specs.declared.tree.TableRule.{TableRule}
 use Rattle.schema_grammar.specs.declared.tree.TableRule.TheVariants as table_rule
 use Rattle.schema_grammar.specs.declared.tree.Element.{Element}
 use Rattle.schema_grammar.specs.declared.tree.Element.TheVariants as element
-use Rattle.schema_grammar.specs.declared.tree.TableText.{TableText}
+use Rattle.schema_grammar.specs.declared.tree.TableNode.{TableNode}
 use Rattle.sql_tokens.specs.Words.{name_of, number_of, slice}
 use Rattle.schema_types.specs.declared.errors.LimitKind.TheVariants as limit
 use Rattle.schema_types.specs.declared.errors.SchemaError.{SchemaError}
@@ -39,7 +39,7 @@ rule_keys number (column_rule.PrimaryKey _) = (number ∷ []) ∷ []
 rule_keys number column_rule.Unique = (number ∷ []) ∷ []
 rule_keys number (column_rule.References _) = []
 
-abbrev pub column_keys : List ℕ → List (List ℕ) → ColumnText → List (List ℕ)
+abbrev pub column_keys : List ℕ → List (List ℕ) → ColumnNode → List (List ℕ)
 column_keys text declared column = flat_map (rule_keys (number_in text declared column.name)) column.rules
 
 abbrev pub table_rule_keys : List ℕ → List (List ℕ) → TableRule → List (List ℕ)
@@ -55,54 +55,54 @@ element_keys text declared (element.Rule rule) = table_rule_keys text declared r
 -- ---- references
 
 -- the numbers of the columns of a table to which a reference leads, a left-out list resolved
-abbrev pub led_numbers : List ℕ → Option (List Lexeme) → Option TableText → List ℕ
+abbrev pub led_numbers : List ℕ → Option (List Lexeme) → Option TableNode → List ℕ
 led_numbers text written None = []
 led_numbers text written (Some table) =
     unwrap_or (option_map (numbers_in text (column_names text table.elements)) (referenced_columns written table.elements)) []
 
 -- the reference from these columns to a target. The rows of files aren't tested against it
-unfoldable pub reference_of : List ℕ → List TableText → List ℕ → TargetText → Reference
+unfoldable pub reference_of : List ℕ → List TableNode → List ℕ → TargetNode → Reference
 reference_of text tables from target = record {
   columns = from;
   table = unwrap_or (target_place text tables target) 0;
   targets = led_numbers text target.columns (target_table text tables target);
 }
 
-abbrev pub rule_references : List ℕ → List TableText → ℕ → ColumnRule → List Reference
+abbrev pub rule_references : List ℕ → List TableNode → ℕ → ColumnRule → List Reference
 rule_references text tables number column_rule.NotNull = []
 rule_references text tables number (column_rule.PrimaryKey _) = []
 rule_references text tables number column_rule.Unique = []
 rule_references text tables number (column_rule.References target) = reference_of text tables (number ∷ []) target ∷ []
 
-abbrev pub column_references : List ℕ → List TableText → List (List ℕ) → ColumnText → List Reference
+abbrev pub column_references : List ℕ → List TableNode → List (List ℕ) → ColumnNode → List Reference
 column_references text tables declared column = flat_map (rule_references text tables (number_in text declared column.name)) column.rules
 
-abbrev pub table_rule_references : List ℕ → List TableText → List (List ℕ) → TableRule → List Reference
+abbrev pub table_rule_references : List ℕ → List TableNode → List (List ℕ) → TableRule → List Reference
 table_rule_references text tables declared (table_rule.PrimaryKey _ _) = []
 table_rule_references text tables declared (table_rule.Unique _) = []
 table_rule_references text tables declared (table_rule.ForeignKey columns target) =
     reference_of text tables (numbers_in text declared columns) target ∷ []
 
 -- the references that an element declares
-abbrev pub element_references : List ℕ → List TableText → List (List ℕ) → Element → List Reference
+abbrev pub element_references : List ℕ → List TableNode → List (List ℕ) → Element → List Reference
 element_references text tables declared (element.Column column) = column_references text tables declared column
 element_references text tables declared (element.Rule rule) = table_rule_references text tables declared rule
 
 -- ---- the schema
 
 -- all number types are one kind, of 64 bits; a text has at most so many characters
-abbrev pub kind_of : List ℕ → TypeText → Kind
+abbrev pub kind_of : List ℕ → TypeNode → Kind
 kind_of text type_text.Number = kind.Int
 kind_of text (type_text.Text length) = kind.Text (number_of (slice text length.start length.end))
 
-abbrev pub column_of : List ℕ → ColumnText → Column
+abbrev pub column_of : List ℕ → ColumnNode → Column
 column_of text column = record { name = name_of text column.name; kind = kind_of text column.kind }
 
 abbrev pub element_column : List ℕ → Element → List Column
 element_column text (element.Column column) = column_of text column ∷ []
 element_column text (element.Rule _) = []
 
-unfoldable pub table_of : List ℕ → List TableText → TableText → Table
+unfoldable pub table_of : List ℕ → List TableNode → TableNode → Table
 table_of text tables table = record {
   name = name_of text table.name;
   columns = flat_map (element_column text) table.elements;
@@ -110,7 +110,7 @@ table_of text tables table = record {
   references = flat_map (element_references text tables (column_names text table.elements)) table.elements;
 }
 
-unfoldable pub schema_of : List ℕ → List TableText → Schema
+unfoldable pub schema_of : List ℕ → List TableNode → Schema
 schema_of text tables = record { tables = map (table_of text tables) tables }
 
 -- ---- the answer
@@ -121,14 +121,14 @@ unless_found None cause rest = rest
 unless_found (Some found) cause rest = Err (cause found)
 
 -- at most 64 tables, 64 columns in each table, and 1,000,000 characters in a text, in this order
-unfoldable pub within_limits : List ℕ → List TableText → Result Schema SchemaError → Result Schema SchemaError
+unfoldable pub within_limits : List ℕ → List TableNode → Result Schema SchemaError → Result Schema SchemaError
 within_limits text tables rest =
     unless_found (first (above most_tables (length tables ∷ []))) (λ found. error.Limit limit.Tables (in_64_bits found))
     (unless_found (first (above most_columns (column_counts tables))) (λ found. error.Limit limit.Columns (in_64_bits found))
     (unless_found (first (above most_length (text_lengths text tables))) (λ found. error.Limit limit.TextLength (in_64_bits found)) rest))
 
 -- the schema that these tables declare, or the first refusal: names, then nullability, then limits
-unfoldable pub schema_or_refusal : List ℕ → List TableText → Result Schema SchemaError
+unfoldable pub schema_or_refusal : List ℕ → List TableNode → Result Schema SchemaError
 schema_or_refusal text tables =
     unless_found (first (offences text tables)) (λ at. error.Name at)
     (unless_found (first (nullable_places text tables)) (λ at. error.Nullable at)

@@ -4,15 +4,15 @@ use Rattle.std.specs.Prelude.{ℕ, Bool, true, false, not, ◌||◌, ◌==◌, L
 use Rattle.std.specs.List.{list_any}
 use Rattle.std.specs.Str.{bytes_eq}
 use Rattle.ll_grammars.specs.declared.lexeme.Lexeme.{Lexeme}
-use Rattle.schema_grammar.specs.declared.tree.TargetText.{TargetText}
+use Rattle.schema_grammar.specs.declared.tree.TargetNode.{TargetNode}
 use Rattle.schema_grammar.specs.declared.tree.ColumnRule.{ColumnRule}
 use Rattle.schema_grammar.specs.declared.tree.ColumnRule.TheVariants as column_rule
-use Rattle.schema_grammar.specs.declared.tree.ColumnText.{ColumnText}
+use Rattle.schema_grammar.specs.declared.tree.ColumnNode.{ColumnNode}
 use Rattle.schema_grammar.specs.declared.tree.TableRule.{TableRule}
 use Rattle.schema_grammar.specs.declared.tree.TableRule.TheVariants as table_rule
 use Rattle.schema_grammar.specs.declared.tree.Element.{Element}
 use Rattle.schema_grammar.specs.declared.tree.Element.TheVariants as element
-use Rattle.schema_grammar.specs.declared.tree.TableText.{TableText}
+use Rattle.schema_grammar.specs.declared.tree.TableNode.{TableNode}
 use Rattle.sql_tokens.specs.Words.{name_of}
 use Rattle.schema_types.specs.Names.{when, place_of, names_of, each_told}
 use Rattle.schema_types.specs.Declarations.{column_names, table_names, is_primary_rule, primary_key, target_table}
@@ -50,12 +50,12 @@ led_offences text count name None elements = key_offences (primary_key elements)
     key_offences None = name.start ∷ []
     key_offences (Some key) = when (not (length key == count)) name.start
 
-abbrev pub target_offences_in : List ℕ → ℕ → TargetText → Option TableText → List ℕ
+abbrev pub target_offences_in : List ℕ → ℕ → TargetNode → Option TableNode → List ℕ
 target_offences_in text count target None = target.table.start ∷ []
 target_offences_in text count target (Some table) = led_offences text count target.table target.columns table.elements
 
 -- a reference from so many columns
-unfoldable pub target_offences : List ℕ → List TableText → ℕ → TargetText → List ℕ
+unfoldable pub target_offences : List ℕ → List TableNode → ℕ → TargetNode → List ℕ
 target_offences text tables count target = target_offences_in text count target (target_table text tables target)
 
 -- ---- elements of a table
@@ -68,20 +68,20 @@ is_primary (element.Rule (table_rule.Unique _)) = false
 is_primary (element.Rule (table_rule.ForeignKey _ _)) = false
 
 -- a column's rule, where a primary key stands before the column or not, told the rules before it
-unfoldable pub rule_offences : List ℕ → List TableText → Bool → List ColumnRule → ColumnRule → List ℕ
+unfoldable pub rule_offences : List ℕ → List TableNode → Bool → List ColumnRule → ColumnRule → List ℕ
 rule_offences text tables keyed earlier column_rule.NotNull = []
 rule_offences text tables keyed earlier (column_rule.PrimaryKey word) = when (keyed || list_any is_primary_rule earlier) word.start
 rule_offences text tables keyed earlier column_rule.Unique = []
 rule_offences text tables keyed earlier (column_rule.References target) = target_offences text tables 1 target
 
 -- a column: its name is equal to an earlier one, or one of its rules offends
-unfoldable pub column_offences : List ℕ → List TableText → List Element → ColumnText → List ℕ
+unfoldable pub column_offences : List ℕ → List TableNode → List Element → ColumnNode → List ℕ
 column_offences text tables earlier column =
     when (is_taken (name_of text column.name) (column_names text earlier)) column.name.start
     ++ each_told (rule_offences text tables (list_any is_primary earlier)) column.rules
 
 -- a rule of a table of these columns
-unfoldable pub table_rule_offences : List ℕ → List TableText → List (List ℕ) → List Element → TableRule → List ℕ
+unfoldable pub table_rule_offences : List ℕ → List TableNode → List (List ℕ) → List Element → TableRule → List ℕ
 table_rule_offences text tables declared earlier (table_rule.PrimaryKey word columns) =
     when (list_any is_primary earlier) word.start ++ list_offences text declared columns
 table_rule_offences text tables declared earlier (table_rule.Unique columns) = list_offences text declared columns
@@ -89,18 +89,18 @@ table_rule_offences text tables declared earlier (table_rule.ForeignKey columns 
     list_offences text declared columns ++ target_offences text tables (length columns) target
 
 -- an element of a table of these columns, told the elements before it
-unfoldable pub element_offences : List ℕ → List TableText → List (List ℕ) → List Element → Element → List ℕ
+unfoldable pub element_offences : List ℕ → List TableNode → List (List ℕ) → List Element → Element → List ℕ
 element_offences text tables declared earlier (element.Column column) = column_offences text tables earlier column
 element_offences text tables declared earlier (element.Rule rule) = table_rule_offences text tables declared earlier rule
 
 -- ---- tables
 
 -- a table, told the tables before it
-unfoldable pub table_offences : List ℕ → List TableText → List TableText → TableText → List ℕ
+unfoldable pub table_offences : List ℕ → List TableNode → List TableNode → TableNode → List ℕ
 table_offences text tables earlier table =
     when (not (is_plain (name_of text table.name)) || is_taken (name_of text table.name) (table_names text earlier)) table.name.start
     ++ each_told (element_offences text tables (column_names text table.elements)) table.elements
 
 -- all places at which a rule on names is broken, in text order
-unfoldable pub offences : List ℕ → List TableText → List ℕ
+unfoldable pub offences : List ℕ → List TableNode → List ℕ
 offences text tables = each_told (table_offences text tables) tables

@@ -2,14 +2,14 @@
 use Rattle.std.specs.Prelude.{ℕ, ◌^◌, ◌-◌, Bool, true, false, not, ◌||◌, nat_lt, min, List, [], ◌∷◌, map, filter, length, Option, Some, None}
 use Rattle.std.specs.List.{flat_map, list_any}
 use Rattle.ll_grammars.specs.declared.lexeme.Lexeme.{Lexeme}
-use Rattle.schema_grammar.specs.declared.tree.TypeText.{TypeText}
-use Rattle.schema_grammar.specs.declared.tree.TypeText.TheVariants as type_text
+use Rattle.schema_grammar.specs.declared.tree.TypeNode.{TypeNode}
+use Rattle.schema_grammar.specs.declared.tree.TypeNode.TheVariants as type_text
 use Rattle.schema_grammar.specs.declared.tree.ColumnRule.{ColumnRule}
 use Rattle.schema_grammar.specs.declared.tree.ColumnRule.TheVariants as column_rule
-use Rattle.schema_grammar.specs.declared.tree.ColumnText.{ColumnText}
+use Rattle.schema_grammar.specs.declared.tree.ColumnNode.{ColumnNode}
 use Rattle.schema_grammar.specs.declared.tree.Element.{Element}
 use Rattle.schema_grammar.specs.declared.tree.Element.TheVariants as element
-use Rattle.schema_grammar.specs.declared.tree.TableText.{TableText}
+use Rattle.schema_grammar.specs.declared.tree.TableNode.{TableNode}
 use Rattle.sql_tokens.specs.Words.{name_of, number_of, slice}
 use Rattle.schema_types.specs.Names.{when, names_of}
 use Rattle.schema_types.specs.Declarations.{columns, primary_key}
@@ -29,7 +29,7 @@ key_names text None = []
 key_names text (Some key) = names_of text key
 
 -- a column that has neither NOT NULL nor a place in the primary key of these names
-abbrev pub is_nullable : List ℕ → List (List ℕ) → ColumnText → Bool
+abbrev pub is_nullable : List ℕ → List (List ℕ) → ColumnNode → Bool
 is_nullable text key column = not (list_any is_not_null column.rules || stands_in (name_of text column.name) key)
 
 abbrev pub nullable_element : List ℕ → List (List ℕ) → Element → List ℕ
@@ -37,11 +37,11 @@ nullable_element text key (element.Column column) = when (is_nullable text key c
 nullable_element text key (element.Rule _) = []
 
 -- the columns of a table that may be null
-unfoldable pub nullable_in : List ℕ → TableText → List ℕ
+unfoldable pub nullable_in : List ℕ → TableNode → List ℕ
 nullable_in text table = flat_map (nullable_element text (key_names text (primary_key table.elements))) table.elements
 
 -- the columns that may be null, as the places of their names in text order (SQL-92 11.4)
-unfoldable pub nullable_places : List ℕ → List TableText → List ℕ
+unfoldable pub nullable_places : List ℕ → List TableNode → List ℕ
 nullable_places text tables = flat_map (nullable_in text) tables
 
 -- ---- limits
@@ -55,11 +55,11 @@ abbrev pub in_64_bits : ℕ → ℕ
 in_64_bits n = min n (2 ^ 64 - 1)
 
 -- how many columns the tables have
-abbrev pub column_counts : List TableText → List ℕ
+abbrev pub column_counts : List TableNode → List ℕ
 column_counts tables = map (λ table. length (columns table.elements)) tables
 
 -- the length that a type gives to its texts
-abbrev pub type_lengths : List ℕ → TypeText → List ℕ
+abbrev pub type_lengths : List ℕ → TypeNode → List ℕ
 type_lengths text type_text.Number = []
 type_lengths text (type_text.Text length) = number_of (slice text length.start length.end) ∷ []
 
@@ -68,5 +68,5 @@ element_lengths text (element.Column column) = type_lengths text column.kind
 element_lengths text (element.Rule _) = []
 
 -- the lengths of all texts, in text order
-unfoldable pub text_lengths : List ℕ → List TableText → List ℕ
+unfoldable pub text_lengths : List ℕ → List TableNode → List ℕ
 text_lengths text tables = flat_map (λ table. flat_map (element_lengths text) table.elements) tables

@@ -1,7 +1,7 @@
 -- Which answers a schema text has.
 use Rattle.std.specs.Prelude.{◌≡◌, ℕ, ◌⊎◌, List, map, length, Result, Ok, Err, ⊤}
 use Rattle.ll_grammars.specs.Places.{IsSyntaxPlace}
-use Rattle.schema_grammar.specs.declared.tree.TableText.{TableText}
+use Rattle.schema_grammar.specs.declared.tree.TableNode.{TableNode}
 use Rattle.schema_grammar.specs.Grammar.{SchemaText}
 use Rattle.sql_tokens.specs.declared.token.Token.{Token}
 use Rattle.sql_tokens.specs.Lexing.{IsLexed, IsBad}
@@ -12,7 +12,7 @@ use Rattle.schema_types.specs.declared.types.Schema.{Schema}
 use Rattle.schema_types.specs.Meaning.{schema_or_refusal}
 
 -- the text's tokens spell these tables
-pub record Spells (text : List ℕ) (tables : List TableText) : Type 0 where
+pub record Spells (text : List ℕ) (tables : List TableNode) : Type 0 where
   pub tokens : List Token
   pub lexed : IsLexed text tokens
   pub spelled : SchemaText (map (lexeme_of text) tokens) tables
@@ -25,7 +25,7 @@ pub record IsUngrammatical (text : List ℕ) (at : ℕ) : Type 0 where
 
 -- the text spells tables, and this is their schema or refusal
 pub record Declares (text : List ℕ) (answer : Result Schema SchemaError) : Type 0 where
-  pub tables : List TableText
+  pub tables : List TableNode
   pub spells : Spells text tables
   pub answers : schema_or_refusal text tables ≡ answer
 

@@ -8,7 +8,7 @@ ghost use Rattle.schema_types.specs.Meaning.{within_limits, schema_of, schema_or
 use crate::SchemaError;
 use crate::scope::Scope;
 use crate::types::Schema;
-use schema_grammar::TableText;
+use schema_grammar::TableNode;
 use std::alloc::Global;
 
 impl Scope<'_> {
@@ -39,7 +39,7 @@ impl Scope<'_> {
 }
 
 /// The schema of these tables, or the first refusal in the order Name, Nullable, Limit.
-pub fn bind(alloc: Global, text: &[u8], tables: &[TableText]) -> Result<Schema, SchemaError>
+pub fn bind(alloc: Global, text: &[u8], tables: &[TableNode]) -> Result<Schema, SchemaError>
     requires { All (IsTableOf (IsLexemeOf text.now)) tables.now }
     ensures { Answers result (schema_or_refusal text.now tables.now) }
 {

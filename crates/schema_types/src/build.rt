@@ -3,7 +3,7 @@ ghost use Rattle.std.specs.Prelude.{◌≡◌, ℕ, ◌++◌, [], List, All, IfO
 ghost use Rattle.std.specs.List.{flat_map};
 ghost use Rattle.ll_grammars.specs.declared.lexeme.Lexeme.{Lexeme};
 ghost use Rattle.sql_tokens.specs.Words.{IsLexemeOf};
-ghost use Rattle.schema_grammar.specs.declared.tree.TableText.{TableText};
+ghost use Rattle.schema_grammar.specs.declared.tree.TableNode.{TableNode};
 ghost use Rattle.schema_grammar.specs.Lexemes.{IsNameOf, IsTargetOf, IsTypeOf, IsColumnRuleOf, IsColumnOf, IsTableRuleOf, IsElementOf, IsTableOf};
 ghost use Rattle.schema_types.specs.Index.{table_index};
 ghost use Rattle.schema_types.specs.Meaning.{rule_keys, column_keys, table_rule_keys, element_keys, led_numbers, reference_of, rule_references, column_references, table_rule_references, element_references};
@@ -15,7 +15,7 @@ use crate::scope::Scope;
 use crate::types::Reference;
 use base_io::{NoMemory, Seq};
 use ll_grammars::Lexeme;
-use schema_grammar::{ColumnRule, ColumnText, Element, TableRule, TargetText};
+use schema_grammar::{ColumnNode, ColumnRule, Element, TableRule, TargetNode};
 use sql_tokens::name;
 
 /// The keys and references of a table.
@@ -50,9 +50,9 @@ impl Scope<'_> {
 
     // The numbers of the columns of this table to which a reference leads.
     #[tactic(auto, unfolding(crate::specs::Index::table_index))]
-    fn led(&self, target: &TargetText, table: &TableIndex) -> Result<Seq<u32>, NoMemory>
+    fn led(&self, target: &TargetNode, table: &TableIndex) -> Result<Seq<u32>, NoMemory>
         requires { IsTargetOf (IsLexemeOf self.now.text.now) target.now }
-        ensures { (declared : TableText) → table.now ≡ table_index self.now.text.now declared
+        ensures { (declared : TableNode) → table.now ≡ table_index self.now.text.now declared
             → IfOk result (λ found. found ≡ led_numbers self.now.text.now target.now.columns (Some declared)) }
     {
         match &target.columns {
@@ -66,7 +66,7 @@ impl Scope<'_> {
 
     // The reference from these columns to a target.
     #[tactic(auto, unfolding(crate::specs::Meaning::reference_of))]
-    fn reference(&self, columns: Seq<u32>, target: &TargetText) -> Result<Reference, NoMemory>
+    fn reference(&self, columns: Seq<u32>, target: &TargetNode) -> Result<Reference, NoMemory>
         requires { IsTargetOf (IsLexemeOf self.now.text.now) target.now }
         ensures { IfOk result (λ found. found ≡ reference_of self.now.text.now self.now.tables.now columns target.now) }
     {
@@ -116,7 +116,7 @@ impl Scope<'_> {
     fn add_column(
         &self,
         declared: &NameList,
-        column: &ColumnText,
+        column: &ColumnNode,
         links: &mut Links,
     ) -> Result<(), NoMemory>
         requires { IsColumnOf (IsLexemeOf self.now.text.now) column.now }

@@ -17,7 +17,7 @@ use crate::lists::check_list;
 use crate::name_list::NameList;
 use crate::scope::Scope;
 use ll_grammars::Lexeme;
-use schema_grammar::{ColumnRule, ColumnText, Element, TableRule};
+use schema_grammar::{ColumnNode, ColumnRule, Element, TableRule};
 use sql_tokens::name;
 
 // Whether a primary key stands in a rule or before it.
@@ -106,7 +106,7 @@ impl Scope<'_> {
         &self,
         keyed: bool,
         taken: &mut NameList,
-        column: &ColumnText,
+        column: &ColumnNode,
     ) -> Result<(), SchemaError>
         requires { IsColumnOf (IsLexemeOf self.now.text.now) column.now }
         ensures offence { (before : List Element) → keyed ≡ list_any is_primary before

@@ -12,7 +12,7 @@ ghost use Rattle.schema_types.specs.Numbers.{numbers_in};
 use crate::name_list::NameList;
 use base_io::{NoMemory, Seq};
 use ll_grammars::Lexeme;
-use schema_grammar::{ColumnRule, ColumnText, Element, TableRule, TableText};
+use schema_grammar::{ColumnNode, ColumnRule, Element, TableNode, TableRule};
 use sql_tokens::name;
 use std::alloc::Global;
 
@@ -74,7 +74,7 @@ fn rule_key(alloc: Global, text: &[u8], rule: &TableRule) -> Result<Option<NameL
     }
 }
 
-fn column_key(alloc: Global, text: &[u8], column: &ColumnText) -> Result<Option<NameList>, NoMemory>
+fn column_key(alloc: Global, text: &[u8], column: &ColumnNode) -> Result<Option<NameList>, NoMemory>
     requires { IsColumnOf (IsLexemeOf text.now) column.now }
     ensures { IfOk result (λ found. found ≡ option_map (names_of text.now) (first (column_primary_key column.now))) }
 {
@@ -133,7 +133,7 @@ fn key_numbers(
 
 /// The index of a table.
 #[tactic(auto, unfolding(crate::specs::Index::table_index))]
-pub fn index_table(alloc: Global, text: &[u8], table: &TableText) -> Result<TableIndex, NoMemory>
+pub fn index_table(alloc: Global, text: &[u8], table: &TableNode) -> Result<TableIndex, NoMemory>
     requires { IsTableOf (IsLexemeOf text.now) table.now }
     ensures { IfOk result (λ found. found ≡ table_index text.now table.now) }
 {

@@ -1,7 +1,7 @@
 //! The rules on names, table by table.
 ghost use Rattle.std.specs.Prelude.{◌≡◌, ℕ, not, ◌||◌, [], ◌∷◌, ◌++◌, List, All, map, OnOk};
 ghost use Rattle.sql_tokens.specs.Words.{IsLexemeOf, name_of};
-ghost use Rattle.schema_grammar.specs.declared.tree.TableText.{TableText};
+ghost use Rattle.schema_grammar.specs.declared.tree.TableNode.{TableNode};
 ghost use Rattle.schema_grammar.specs.Lexemes.{IsNameOf, IsTableOf};
 ghost use Rattle.schema_types.specs.Declarations.{table_names};
 ghost use Rattle.schema_types.specs.Index.{table_index};
@@ -15,7 +15,7 @@ use crate::index::TableIndex;
 use crate::name_list::NameList;
 use crate::scope::Scope;
 use ll_grammars::Lexeme;
-use schema_grammar::TableText;
+use schema_grammar::TableNode;
 use sql_tokens::name;
 
 // Whether a name has only ASCII letters, digits and underscores.
@@ -49,12 +49,12 @@ impl Scope<'_> {
     fn check_table(
         &self,
         taken: &mut NameList,
-        table: &TableText,
+        table: &TableNode,
         index: &TableIndex,
     ) -> Result<(), SchemaError>
         requires tokens { IsTableOf (IsLexemeOf self.now.text.now) table.now }
         requires indexed { index.now ≡ table_index self.now.text.now table.now }
-        ensures offence { (before : List TableText) → taken.old ≡ map upper_case (table_names self.now.text.now before)
+        ensures offence { (before : List TableNode) → taken.old ≡ map upper_case (table_names self.now.text.now before)
             → Finds result (table_offences self.now.text.now self.now.tables.now before table.now) }
         ensures added { OnOk result (taken.new ≡ taken.old ++ upper_case (name_of self.now.text.now table.now.name) ∷ []) }
     {

@@ -15,7 +15,7 @@ use crate::name_list::NameList;
 use crate::scope::Scope;
 use base_io::NoMemory;
 use ll_grammars::Lexeme;
-use schema_grammar::{ColumnRule, ColumnText, Element, TableText};
+use schema_grammar::{ColumnNode, ColumnRule, Element, TableNode};
 use sql_tokens::name;
 
 fn is_not_null(rules: &[ColumnRule]) -> bool
@@ -43,7 +43,7 @@ impl Scope<'_> {
     fn check_column_null(
         &self,
         key: &Option<NameList>,
-        column: &ColumnText,
+        column: &ColumnNode,
     ) -> Result<(), SchemaError>
         requires { IsColumnOf (IsLexemeOf self.now.text.now) column.now }
         ensures { FindsNullable result (when (is_nullable self.now.text.now (unwrap_or key.now []) column.now) column.now.name.start) }
@@ -90,7 +90,7 @@ impl Scope<'_> {
 
     // A table, with its index.
     #[tactic(auto, using(crate::proofs::Flat::key_is), unfolding(crate::specs::Refusals::nullable_in, crate::specs::Index::table_index))]
-    fn check_table_null(&self, table: &TableText, index: &TableIndex) -> Result<(), SchemaError>
+    fn check_table_null(&self, table: &TableNode, index: &TableIndex) -> Result<(), SchemaError>
         requires tokens { IsTableOf (IsLexemeOf self.now.text.now) table.now }
         requires indexed { index.now ≡ table_index self.now.text.now table.now }
         ensures { FindsNullable result (nullable_in self.now.text.now table.now) }

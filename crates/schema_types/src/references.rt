@@ -2,7 +2,7 @@
 ghost use Rattle.std.specs.Prelude.{◌≡◌, IfOk, Some, option_map};
 ghost use Rattle.std.specs.Option.{option_copied};
 ghost use Rattle.sql_tokens.specs.Words.{IsLexemeOf};
-ghost use Rattle.schema_grammar.specs.declared.tree.TableText.{TableText};
+ghost use Rattle.schema_grammar.specs.declared.tree.TableNode.{TableNode};
 ghost use Rattle.schema_grammar.specs.Lexemes.{IsTargetOf};
 ghost use Rattle.schema_types.specs.Declarations.{target_table};
 ghost use Rattle.schema_types.specs.Index.{table_index};
@@ -14,12 +14,12 @@ use crate::index::TableIndex;
 use crate::lists::check_list;
 use crate::scope::Scope;
 use base_io::NoMemory;
-use schema_grammar::TargetText;
+use schema_grammar::TargetNode;
 
 impl Scope<'_> {
     /// The table to which a reference leads: the first of its name.
     #[tactic(auto, using(crate::proofs::Targets::no_target, crate::proofs::Targets::target_found, crate::proofs::Places::place_of_within))]
-    pub fn target(&self, target: &TargetText) -> Result<Option<&TableIndex>, NoMemory>
+    pub fn target(&self, target: &TargetNode) -> Result<Option<&TableIndex>, NoMemory>
         requires { IsTargetOf (IsLexemeOf self.now.text.now) target.now }
         ensures { IfOk result (λ found.
             option_copied found
@@ -36,11 +36,11 @@ impl Scope<'_> {
     fn check_led(
         &self,
         count: usize,
-        target: &TargetText,
+        target: &TargetNode,
         table: &TableIndex,
     ) -> Result<(), SchemaError>
         requires { IsTargetOf (IsLexemeOf self.now.text.now) target.now }
-        ensures { (declared : TableText) → table.now ≡ table_index self.now.text.now declared
+        ensures { (declared : TableNode) → table.now ≡ table_index self.now.text.now declared
             → Finds result (target_offences_in self.now.text.now count target.now (Some declared)) }
     {
         let at = target.table.start;
@@ -64,7 +64,7 @@ impl Scope<'_> {
     }
 
     /// A reference from so many columns.
-    pub fn check_target(&self, count: usize, target: &TargetText) -> Result<(), SchemaError>
+    pub fn check_target(&self, count: usize, target: &TargetNode) -> Result<(), SchemaError>
         requires { IsTargetOf (IsLexemeOf self.now.text.now) target.now }
         ensures { Finds result (target_offences self.now.text.now self.now.tables.now count target.now) }
     {

@@ -13,23 +13,23 @@ use crate::index::TableIndex;
 use crate::scope::Scope;
 use crate::types::{Column, Kind, Schema, Table};
 use base_io::{NoMemory, Seq};
-use schema_grammar::{ColumnText, Element, TableText, TypeText};
+use schema_grammar::{ColumnNode, Element, TableNode, TypeNode};
 use sql_tokens::{name, number};
 
 impl Scope<'_> {
     #[tactic(auto, using(crate::proofs::Above::not_above))]
-    fn kind(&self, kind: &TypeText) -> Kind
+    fn kind(&self, kind: &TypeNode) -> Kind
         requires tokens { IsTypeOf (IsLexemeOf self.now.text.now) kind.now }
         requires within { above most_length (type_lengths self.now.text.now kind.now) ≡ [] }
         ensures { result ≡ kind_of self.now.text.now kind.now }
     {
         match kind {
-            TypeText::Number => Kind::Int,
-            TypeText::Text { length } => Kind::Text(number(self.text, length) as u32),
+            TypeNode::Number => Kind::Int,
+            TypeNode::Text { length } => Kind::Text(number(self.text, length) as u32),
         }
     }
 
-    fn column(&self, column: &ColumnText) -> Result<Column, NoMemory>
+    fn column(&self, column: &ColumnNode) -> Result<Column, NoMemory>
         requires tokens { IsColumnOf (IsLexemeOf self.now.text.now) column.now }
         requires within { above most_length (type_lengths self.now.text.now column.now.kind) ≡ [] }
         ensures { IfOk result (λ found. found ≡ column_of self.now.text.now column.now) }
@@ -71,7 +71,7 @@ impl Scope<'_> {
 
     // A table, with its index.
     #[tactic(auto, unfolding(crate::specs::Meaning::table_of, crate::specs::Index::table_index))]
-    fn table(&self, table: &TableText, index: &TableIndex) -> Result<Table, NoMemory>
+    fn table(&self, table: &TableNode, index: &TableIndex) -> Result<Table, NoMemory>
         requires tokens { IsTableOf (IsLexemeOf self.now.text.now) table.now }
         requires indexed { index.now ≡ table_index self.now.text.now table.now }
         requires within { flat_map (λ element. above most_length (element_lengths self.now.text.now element)) table.now.elements ≡ [] }

@@ -10,7 +10,7 @@ use crate::index::{TableIndex, index_table};
 use crate::name_list::NameList;
 use base_io::{NoMemory, Seq};
 use ll_grammars::Lexeme;
-use schema_grammar::TableText;
+use schema_grammar::TableNode;
 use sql_tokens::name;
 use std::alloc::Global;
 
@@ -19,14 +19,14 @@ use std::alloc::Global;
 pub struct Scope<'a> {
     pub alloc: Global,
     pub text: &'a [u8],
-    pub tables: &'a [TableText],
+    pub tables: &'a [TableNode],
     pub names: NameList,
     pub indexes: Seq<TableIndex>,
     ghost named: { names ≡ table_names text.now tables.now },
     ghost indexed: { indexes ≡ map (table_index text.now) tables.now },
 }
 
-fn table_names(alloc: Global, text: &[u8], tables: &[TableText]) -> Result<NameList, NoMemory>
+fn table_names(alloc: Global, text: &[u8], tables: &[TableNode]) -> Result<NameList, NoMemory>
     requires { All (IsTableOf (IsLexemeOf text.now)) tables.now }
     ensures { IfOk result (λ found. found ≡ table_names text.now tables.now) }
 {
@@ -41,7 +41,7 @@ fn table_names(alloc: Global, text: &[u8], tables: &[TableText]) -> Result<NameL
 fn table_indexes(
     alloc: Global,
     text: &[u8],
-    tables: &[TableText],
+    tables: &[TableNode],
 ) -> Result<Seq<TableIndex>, NoMemory>
     requires { All (IsTableOf (IsLexemeOf text.now)) tables.now }
     ensures { IfOk result (λ found. found ≡ map (table_index text.now) tables.now) }
@@ -59,7 +59,7 @@ impl<'a> Scope<'a> {
     pub fn new(
         alloc: Global,
         text: &'a [u8],
-        tables: &'a [TableText],
+        tables: &'a [TableNode],
     ) -> Result<Scope<'a>, NoMemory>
         requires { All (IsTableOf (IsLexemeOf text.now)) tables.now }
         ensures text { IfOk result (λ scope. scope.text.now ≡ text.now) }

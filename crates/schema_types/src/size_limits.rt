@@ -11,7 +11,7 @@ ghost use Rattle.schema_types.specs.Finds.{FindsAbove};
 use crate::scope::Scope;
 use crate::{LimitKind, SchemaError};
 use limits::{MOST_COLUMNS, MOST_LENGTH, MOST_TABLES};
-use schema_grammar::{Element, TypeText};
+use schema_grammar::{Element, TypeNode};
 use sql_tokens::number;
 
 impl Scope<'_> {
@@ -52,13 +52,13 @@ impl Scope<'_> {
     }
 
     // The length that a type gives to its texts.
-    fn check_length(&self, kind: &TypeText) -> Result<(), SchemaError>
+    fn check_length(&self, kind: &TypeNode) -> Result<(), SchemaError>
         requires { IsTypeOf (IsLexemeOf self.now.text.now) kind.now }
         ensures { FindsAbove limit.TextLength result (above most_length (type_lengths self.now.text.now kind.now)) }
     {
         match kind {
-            TypeText::Number => Ok(()),
-            TypeText::Text { length } => {
+            TypeNode::Number => Ok(()),
+            TypeNode::Text { length } => {
                 let found = number(self.text, length);
                 if found > MOST_LENGTH {
                     return Err(SchemaError::Limit {

@@ -3,7 +3,7 @@ use Rattle.std.proofs.Common.{◌≡◌, inl, inr, ℕ, ◌≤◌, List, [], ◌
 use Rattle.std.specs.Prelude.{IfOk}
 use Rattle.limits.specs.Profile.{most_conjuncts, most_entries, most_outputs}
 use Rattle.ll_grammars.specs.declared.lexeme.Lexeme.{Lexeme}
-use Rattle.query_grammar.specs.declared.tree.QueryText.{QueryText}
+use Rattle.query_grammar.specs.declared.tree.QueryNode.{QueryNode}
 use Rattle.query_grammar.specs.Grammar.{QuerySpecification}
 use Rattle.schema_types.specs.declared.types.Schema.{Schema}
 use Rattle.schema_types.specs.declared.errors.LimitKind.TheVariants as limit
@@ -37,7 +37,7 @@ pub unless_ok : (wrong : List QueryError) (value query : Query) → unless wrong
 unless_ok [] value query is = (refl, cc)
 unless_ok (e ∷ rest) value query is = absurd cc
 
-pub bound_of_schema : (schema : Schema) (text : List ℕ) (tokens : List Lexeme) (tree : QueryText) (query : Query) → QuerySpecification tokens tree → query_or_refusal schema text tree ≡ Ok query → IsOf schema query
+pub bound_of_schema : (schema : Schema) (text : List ℕ) (tokens : List Lexeme) (tree : QueryNode) (query : Query) → QuerySpecification tokens tree → query_or_refusal schema text tree ≡ Ok query → IsOf schema query
 unfolding query_or_refusal refusals query_of
 bound_of_schema schema text tokens tree query spelled is =
     let from : List Source = entries schema text tree in

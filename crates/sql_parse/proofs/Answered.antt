@@ -3,7 +3,7 @@ use Rattle.std.proofs.Common.{◌≡◌, inl, inr, ℕ, ◌-◌, ◌^◌, ◌<�
 use Rattle.ll_grammars.specs.declared.lexeme.Lexeme.{Lexeme}
 use Rattle.ll_grammars.specs.Places.{IsSyntaxPlace}
 use Rattle.sql_tokens.specs.Words.{IsLexemeOf}
-use Rattle.query_grammar.specs.declared.tree.QueryText.{QueryText}
+use Rattle.query_grammar.specs.declared.tree.QueryNode.{QueryNode}
 use Rattle.query_grammar.specs.Grammar.{QuerySpecification}
 use Rattle.query_grammar.specs.Lexemes.{IsQueryOf}
 use Rattle.query_grammar.specs.Nesting.{nesting}
@@ -62,7 +62,7 @@ module _ (schema : Schema) (text : List ℕ) (lexemes : List Lexeme) (are : AreL
           ∙ ap (λ l. Err (error.Syntax (least place (number_offences text l)))) are.are;
     }))))
 
-    module _ (tree : QueryText) (spells : QuerySpecification lexemes tree) where
+    module _ (tree : QueryNode) (spells : QuerySpecification lexemes tree) where
       by : (answer : Result Query QueryError) → answer ≡ unless_number (number_offences text lexemes) (query_or_refusal schema text tree) → IsAnswer schema text answer
       by answer is = inr (inr (inr (inr (record {
         tokens = are.tokens;
@@ -80,5 +80,5 @@ module _ (schema : Schema) (text : List ℕ) (lexemes : List Lexeme) (are : AreL
       spelled answer none (inl memory) = inl memory
       spelled answer none (inr is) = by answer (is ∙ sym (no_number (number_offences text lexemes) (query_or_refusal schema text tree) none))
 
-pub lie_in : (text : List ℕ) (lexemes : List Lexeme) (tree : QueryText) → QuerySpecification lexemes tree → All (IsLexemeOf text) lexemes → IsQueryOf (IsLexemeOf text) tree
+pub lie_in : (text : List ℕ) (lexemes : List Lexeme) (tree : QueryNode) → QuerySpecification lexemes tree → All (IsLexemeOf text) lexemes → IsQueryOf (IsLexemeOf text) tree
 lie_in text lexemes tree spells within = is_query_of (IsLexemeOf text) lexemes tree spells within

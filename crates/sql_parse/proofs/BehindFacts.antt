@@ -1,26 +1,26 @@
 -- What is behind FROM, one after the other: the SELECT list, the parts' conditions, and that of WHERE.
 use Rattle.std.proofs.Common.{◌≡◌, ℕ, List, [], ◌++◌, Option, ap, subst, sym, ◌∙◌, append_assoc}
 use Rattle.std.specs.List.{flat_map}
-use Rattle.query_grammar.specs.declared.tree.PartText.{PartText}
-use Rattle.query_grammar.specs.declared.tree.QueryText.{QueryText}
+use Rattle.query_grammar.specs.declared.tree.PartNode.{PartNode}
+use Rattle.query_grammar.specs.declared.tree.QueryNode.{QueryNode}
 use Rattle.query_names.specs.declared.binder.Binder.{Binder}
 use Rattle.query_names.specs.declared.errors.QueryError.{QueryError}
 use Rattle.query_types.specs.declared.types.Cond.{Cond}
 use Rattle.query_types.specs.declared.types.Source.{Source}
 use Rattle.query_names.specs.Answers.{IsNameError, or_first}
-use Rattle.query_names.specs.Scopes.{Scoped, everything, conditions, on_conditions, where_scope}
+use Rattle.query_names.specs.Scopes.{Scoped, whole_scope, conditions, on_conditions, where_scope}
 use Rattle.query_names.specs.Binding.{from_of, outs_offences_of, names_in, kinds_in, lists_in, members_in}
 use Rattle.sql_parse.specs.Behind.{names_behind, kinds_behind, lists_behind, conjuncts_by}
 use Rattle.sql_parse.proofs.KindFacts.{flat_map-append}
 use Rattle.query_names.proofs.Walk.{error_behind, name_error_append, or_first_append}
 
-split : {B : Type 0} (f : Scoped → List B) (from : List Source) (query : QueryText) → flat_map f (conditions from query) ≡ flat_map f (on_conditions 0 query.parts) ++ flat_map f (where_scope from query.filter)
+split : {B : Type 0} (f : Scoped → List B) (from : List Source) (query : QueryNode) → flat_map f (conditions from query) ≡ flat_map f (on_conditions 0 query.parts) ++ flat_map f (where_scope from query.filter)
 unfolding conditions
 split f from query = flat_map-append f (on_conditions 0 query.parts) (where_scope from query.filter)
 
-module _ (binder : Binder) (query : QueryText) where
+module _ (binder : Binder) (query : QueryNode) where
   abbrev in_outs : List ℕ
-  in_outs = outs_offences_of binder (everything (from_of binder)) query.outs
+  in_outs = outs_offences_of binder (whole_scope (from_of binder)) query.outs
 
   abbrev in_parts : List ℕ
   in_parts = flat_map (names_in binder) (on_conditions 0 query.parts)
@@ -60,7 +60,7 @@ module _ (binder : Binder) (query : QueryText) where
   unfolding conjuncts_by
   conjuncts_are_both = split (members_in binder) (from_of binder) query
 
-  pub members_added : (old : List Cond) {mid new : List Cond} {parts : List PartText} → parts ≡ query.parts → mid ≡ old ++ flat_map (members_in binder) (on_conditions 0 parts)
+  pub members_added : (old : List Cond) {mid new : List Cond} {parts : List PartNode} → parts ≡ query.parts → mid ≡ old ++ flat_map (members_in binder) (on_conditions 0 parts)
       → new ≡ mid ++ flat_map (members_in binder) (where_scope (from_of binder) query.filter) → new ≡ old ++ conjuncts_by binder query
   members_added old {mid} {new} {parts} same first second =
       let last : List Cond = flat_map (members_in binder) (where_scope (from_of binder) query.filter) in

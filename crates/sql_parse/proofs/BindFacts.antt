@@ -4,7 +4,7 @@ use Rattle.std.proofs.lemmas.Grind.{common_steps}
 use Rattle.std.proofs.lemmas.Bool.{ltb-false}
 use Rattle.std.specs.List.{flat_map}
 use Rattle.limits.specs.Profile.{most_conjuncts, most_entries, most_outputs}
-use Rattle.query_grammar.specs.declared.tree.QueryText.{QueryText}
+use Rattle.query_grammar.specs.declared.tree.QueryNode.{QueryNode}
 use Rattle.schema_types.specs.declared.types.Schema.{Schema}
 use Rattle.schema_types.specs.declared.errors.LimitKind.{LimitKind}
 use Rattle.schema_types.specs.declared.errors.LimitKind.TheVariants as limit
@@ -17,7 +17,7 @@ use Rattle.query_types.specs.declared.types.Query.{Query}
 use Rattle.query_types.specs.declared.types.Source.{Source}
 use Rattle.query_names.specs.Answers.{IsNameError}
 use Rattle.query_names.specs.Names.{entries, from_offences}
-use Rattle.query_names.specs.Scopes.{everything, conditions}
+use Rattle.query_names.specs.Scopes.{whole_scope, conditions}
 use Rattle.query_names.specs.Offences.{outs_offences, name_offences_in, name_offences, all_kind_offences}
 use Rattle.query_names.specs.Values.{conjuncts, selected, query_of}
 use Rattle.sql_parse.specs.QueryOrRefusal.{refusal, over, first_list, first_place, name_error, kind_error, limit_refusals, long_lists, refusals, unless, query_or_refusal}
@@ -98,7 +98,7 @@ module _ (from counted conjuncts outputs : ℕ) where
   passed : (lists : List ℕ) → (from ≤ 12 → first lists ≡ None → counted ≡ conjuncts) → first (limits_passed from (first lists) counted (capped outputs)) ≡ first (due lists)
   passed lists same = passed_by (nat_lt most_entries from) lists refl same
 
-module _ (binder : Binder) (query : QueryText) where
+module _ (binder : Binder) (query : QueryNode) where
   kind_first : (at : ℕ) → Some at ≡ first (kinds_behind binder query) → Some (error.Kind at) ≡ first (late_refusals binder query)
   unfolding late_refusals
   kind_first at is = sym (first_append (first_place kind_error (kinds_behind binder query)) (limits_by binder query) (error.Kind at) (at_place kind_error (kinds_behind binder query) at (sym is)))
@@ -178,37 +178,37 @@ module _ (binder : Binder) (query : QueryText) where
 
 -- ---- from the binder's words to the schema's, the text's and the tree's
 
-abbrev names_after : Schema → List ℕ → List Source → QueryText → List ℕ
-names_after schema text from query = outs_offences schema text from (everything from) query.outs ++ flat_map (name_offences_in schema text from) (conditions from query)
+abbrev names_after : Schema → List ℕ → List Source → QueryNode → List ℕ
+names_after schema text from query = outs_offences schema text from (whole_scope from) query.outs ++ flat_map (name_offences_in schema text from) (conditions from query)
 
-abbrev limits_after : Schema → List ℕ → List Source → QueryText → List QueryError
+abbrev limits_after : Schema → List ℕ → List Source → QueryNode → List QueryError
 limits_after schema text from query =
     over limit.FromEntries most_entries (length from)
     ++ first_list (long_lists from query)
     ++ over limit.Conjuncts most_conjuncts (length (conjuncts schema text from query))
     ++ over limit.Outputs most_outputs (length (selected schema text from query.outs))
 
-unfoldable refusals_after : Schema → List ℕ → List Source → QueryText → List QueryError
+unfoldable refusals_after : Schema → List ℕ → List Source → QueryNode → List QueryError
 refusals_after schema text from query = first_place name_error (names_after schema text from query) ++ (first_place kind_error (all_kind_offences schema text from query) ++ limits_after schema text from query)
 
-refusals_by : (binder : Binder) (query : QueryText) → refusals_behind binder query ≡ refusals_after (schema_of binder) binder.text.now (from_of binder) query
+refusals_by : (binder : Binder) (query : QueryNode) → refusals_behind binder query ≡ refusals_after (schema_of binder) binder.text.now (from_of binder) query
 unfolding refusals_after refusals_behind late_refusals limits_by names_behind kinds_behind lists_behind conjuncts_by selected_by names_in kinds_in lists_in members_in outs_offences_of test_offences_of kind_offences_of members_by all_kind_offences long_lists conjuncts
 refusals_by binder query = refl
 
-conjuncts_are : (binder : Binder) (query : QueryText) → conjuncts_by binder query ≡ conjuncts (schema_of binder) binder.text.now (from_of binder) query
+conjuncts_are : (binder : Binder) (query : QueryNode) → conjuncts_by binder query ≡ conjuncts (schema_of binder) binder.text.now (from_of binder) query
 unfolding conjuncts_by members_in members_by conjuncts
 conjuncts_are binder query = refl
 
-selected_are : (binder : Binder) (query : QueryText) → selected_by binder query.outs ≡ selected (schema_of binder) binder.text.now (from_of binder) query.outs
+selected_are : (binder : Binder) (query : QueryNode) → selected_by binder query.outs ≡ selected (schema_of binder) binder.text.now (from_of binder) query.outs
 unfolding selected_by
 selected_are binder query = refl
 
-module _ (schema : Schema) (text : List ℕ) (query : QueryText) where
+module _ (schema : Schema) (text : List ℕ) (query : QueryNode) where
   refusals_are : from_offences schema text query ≡ [] → refusals schema text query ≡ refusals_after schema text (entries schema text query) query
   unfolding refusals name_offences query_of refusals_after
   refusals_are none =
       let from : List Source = entries schema text query in
-      ap (λ l. first_place name_error (l ++ outs_offences schema text from (everything from) query.outs ++ flat_map (name_offences_in schema text from) (conditions from query))
+      ap (λ l. first_place name_error (l ++ outs_offences schema text from (whole_scope from) query.outs ++ flat_map (name_offences_in schema text from) (conditions from query))
       ++ first_place kind_error (all_kind_offences schema text from query) ++ limits_after schema text from query) none
       ∙ append_assoc (first_place name_error (names_after schema text from query)) (first_place kind_error (all_kind_offences schema text from query)) (limits_after schema text from query)
 
@@ -228,7 +228,7 @@ module _ (schema : Schema) (text : List ℕ) (query : QueryText) where
   unfolding refusals name_offences
   name_in_from place wrong =
       let from : List Source = entries schema text query in
-      let outs : List ℕ = outs_offences schema text from (everything from) query.outs in
+      let outs : List ℕ = outs_offences schema text from (whole_scope from) query.outs in
       let conds : List ℕ = flat_map (name_offences_in schema text from) (conditions from query) in
       let names : first ((from_offences schema text query ++ outs) ++ conds) ≡ Some place = first_place_append place (from_offences schema text query ++ outs) conds (first_place_append place (from_offences schema text query) outs wrong) in
       first_append (first_place name_error (name_offences schema text from query) ++ first_place kind_error (all_kind_offences schema text from query)) (limit_refusals (query_of schema text query) (long_lists from query)) (error.Name place)

@@ -7,19 +7,19 @@ use Rattle.std.proofs.lemmas.List.Elements.{All-nil, All-cons, All-head, All-tai
 use Rattle.ll_grammars.specs.declared.lexeme.Lexeme.{Lexeme}
 use Rattle.query_grammar.specs.declared.tree.Op.{Op}
 use Rattle.query_grammar.specs.declared.tree.Op.TheVariants as op
-use Rattle.query_grammar.specs.declared.tree.ColumnText.{ColumnText}
-use Rattle.query_grammar.specs.declared.tree.LiteralText.{LiteralText}
-use Rattle.query_grammar.specs.declared.tree.LiteralText.TheVariants as literal
-use Rattle.query_grammar.specs.declared.tree.OperandText.{OperandText}
-use Rattle.query_grammar.specs.declared.tree.OperandText.TheVariants as operand
-use Rattle.query_grammar.specs.declared.tree.TestText.{TestText}
-use Rattle.query_grammar.specs.declared.tree.TestText.TheVariants as test
-use Rattle.query_grammar.specs.declared.tree.CondText.{CondText, map-CondText}
-use Rattle.query_grammar.specs.declared.tree.CondText.TheVariants as text
-use Rattle.query_grammar.specs.declared.tree.CondText.TheVariants.{rolls-And, rolls-Or, rolls-Not, rolls-Test}
-use Rattle.query_grammar.specs.declared.tree.CondText.TheOpen.{CondText-F}
-use Rattle.query_grammar.specs.declared.tree.CondText.TheViews.{roll-CondText}
-use Rattle.query_grammar.specs.declared.tree.CondText.TheFolds.{fold-roll-CondText, ind-CondText}
+use Rattle.query_grammar.specs.declared.tree.ColumnNode.{ColumnNode}
+use Rattle.query_grammar.specs.declared.tree.LiteralNode.{LiteralNode}
+use Rattle.query_grammar.specs.declared.tree.LiteralNode.TheVariants as literal
+use Rattle.query_grammar.specs.declared.tree.OperandNode.{OperandNode}
+use Rattle.query_grammar.specs.declared.tree.OperandNode.TheVariants as operand
+use Rattle.query_grammar.specs.declared.tree.TestNode.{TestNode}
+use Rattle.query_grammar.specs.declared.tree.TestNode.TheVariants as test
+use Rattle.query_grammar.specs.declared.tree.CondNode.{CondNode, map-CondNode}
+use Rattle.query_grammar.specs.declared.tree.CondNode.TheVariants as text
+use Rattle.query_grammar.specs.declared.tree.CondNode.TheVariants.{rolls-And, rolls-Or, rolls-Not, rolls-Test}
+use Rattle.query_grammar.specs.declared.tree.CondNode.TheOpen.{CondNode-F}
+use Rattle.query_grammar.specs.declared.tree.CondNode.TheViews.{roll-CondNode}
+use Rattle.query_grammar.specs.declared.tree.CondNode.TheFolds.{fold-roll-CondNode, ind-CondNode}
 use Rattle.schema_types.specs.declared.types.Schema.{Schema}
 use Rattle.query_names.specs.declared.scope.EntryColumn.{EntryColumn}
 use Rattle.query_names.specs.declared.scope.Scope.{Scope}
@@ -32,7 +32,7 @@ use Rattle.query_types.specs.Typing.{IsOfKind, Compares}
 use Rattle.query_names.specs.Names.{at}
 use Rattle.query_names.specs.Scopes.{resolve, head_of, tests}
 use Rattle.query_names.specs.Offences.{of_literal, first_of, differ, operand_offences, test_offences, is_text_column, is_text_operand, kind_offence, kind_offences}
-use Rattle.query_names.specs.Values.{Meaning, alone, wholes, all_of, any_of, negated_where, reference_to, operand_value, comparison, equality, test_meaning, meaning_step, meaning}
+use Rattle.query_names.specs.Values.{Meaning, alone, wholes, all_of, any_of, negated_where, resolved_column, operand_value, comparison, equality, test_meaning, meaning_step, meaning}
 use Rattle.query_names.proofs.TestFacts.{tests_and, tests_or, tests_not, tests_test}
 use Rattle.query_names.proofs.Resolved.{Stands, resolve_stands}
 use Rattle.schema_types.proofs.Above.{empty_left, empty_right}
@@ -103,26 +103,26 @@ module _ (schema : Schema) (from : List Source) where
 
 -- ---- operands and tests
 
-pub found_finds : (schema : Schema) (from : List Source) (found : EntryColumn) (there : Stands schema from found) → FindsColumn schema from (reference_to (Some found)) there.column
+pub found_finds : (schema : Schema) (from : List Source) (found : EntryColumn) (there : Stands schema from found) → FindsColumn schema from (resolved_column (Some found)) there.column
 found_finds schema from found there = record { source = there.source; entry = there.entry; table = there.table; exists = there.exists; declared = there.declared }
 
 module _ (schema : Schema) (words : List ℕ) (from : List Source) (scope : Scope) where
-  abbrev value : OperandText → Operand
+  abbrev value : OperandNode → Operand
   value o = operand_value schema words from scope o
 
-  column_kind : (reference : ColumnText) (found : Option EntryColumn) → found ≡ resolve schema words from scope reference → at (is_none found) (head_of reference) ≡ []
-      → IsColumnOf schema from (reference_to found) (is_text_column schema words from scope found)
+  column_kind : (reference : ColumnNode) (found : Option EntryColumn) → found ≡ resolve schema words from scope reference → at (is_none found) (head_of reference) ≡ []
+      → IsColumnOf schema from (resolved_column found) (is_text_column schema words from scope found)
   column_kind reference None is none = absurd cc
   column_kind reference (Some found) is none =
       let there : Stands schema from found = resolve_stands schema words from scope reference found (sym is) in
       record { column = there.column; finds = found_finds schema from found there; kind = ap is_text there.kind }
 
-  operand_kind : (o : OperandText) → operand_offences schema words from scope o ≡ [] → IsOfKind (IsColumnOf schema from) (value o) (is_text_operand schema words from scope o)
+  operand_kind : (o : OperandNode) → operand_offences schema words from scope o ≡ [] → IsOfKind (IsColumnOf schema from) (value o) (is_text_operand schema words from scope o)
   operand_kind (operand.Column reference) none = column_kind reference (resolve schema words from scope reference) refl none
   operand_kind (operand.Literal (literal.Number sign digits)) none = refl
   operand_kind (operand.Literal (literal.Text token)) none = refl
 
-  compared : (left other : OperandText) → operand_offences schema words from scope left ≡ [] → operand_offences schema words from scope other ≡ []
+  compared : (left other : OperandNode) → operand_offences schema words from scope left ≡ [] → operand_offences schema words from scope other ≡ []
       → kind_offence schema words from scope (is_text_operand schema words from scope left) other ≡ [] → Compares (IsColumnOf schema from) (value left) (value other)
   compared left other left_named other_named alike = record {
     text = is_text_operand schema words from scope left;
@@ -133,22 +133,22 @@ module _ (schema : Schema) (words : List ℕ) (from : List Source) (scope : Scop
         (operand_kind other other_named);
   }
 
-  comparison_of : (how : Op) (left other : OperandText) → operand_offences schema words from scope left ≡ [] → operand_offences schema words from scope other ≡ []
+  comparison_of : (how : Op) (left other : OperandNode) → operand_offences schema words from scope left ≡ [] → operand_offences schema words from scope other ≡ []
       → kind_offence schema words from scope (is_text_operand schema words from scope left) other ≡ [] → IsCondOf schema from (comparison schema words from scope how left other)
   comparison_of how left other left_named other_named alike =
       compare_of schema from how (value left) (value other) (compared left other left_named other_named alike)
 
-  equalities_of : (left : OperandText) (values : List LiteralText) → operand_offences schema words from scope left ≡ []
+  equalities_of : (left : OperandNode) (values : List LiteralNode) → operand_offences schema words from scope left ≡ []
       → flat_map (kind_offence schema words from scope (is_text_operand schema words from scope left)) (map of_literal values) ≡ []
       → All (IsCondOf schema from) (map (equality schema words from scope left) values)
   equalities_of left [] named alike = All-nil (IsCondOf schema from)
   equalities_of left (l ∷ values) named alike =
-      let wrong : OperandText → List ℕ = kind_offence schema words from scope (is_text_operand schema words from scope left) in
+      let wrong : OperandNode → List ℕ = kind_offence schema words from scope (is_text_operand schema words from scope left) in
       All-cons (IsCondOf schema from) (equality schema words from scope left l) (map (equality schema words from scope left) values)
       (comparison_of op.Eq left (of_literal l) named refl (empty_left (wrong (of_literal l)) (flat_map wrong (map of_literal values)) alike))
       (equalities_of left values named (empty_right (wrong (of_literal l)) (flat_map wrong (map of_literal values)) alike))
 
-  test_of : (t : TestText) → test_offences schema words from scope t ≡ [] → kind_offences schema words from scope t ≡ [] → IsMeaningOf schema from (test_meaning schema words from scope t)
+  test_of : (t : TestNode) → test_offences schema words from scope t ≡ [] → kind_offences schema words from scope t ≡ [] → IsMeaningOf schema from (test_meaning schema words from scope t)
   test_of (test.Compare left how right) names kinds =
       let rest : List ℕ = operand_offences schema words from scope right ++ [] in
       alone_of schema from (comparison schema words from scope how left right)
@@ -156,8 +156,8 @@ module _ (schema : Schema) (words : List ℕ) (from : List Source) (scope : Scop
       (empty_left (operand_offences schema words from scope right) [] (empty_right (operand_offences schema words from scope left) rest names))
       (empty_left (kind_offence schema words from scope (is_text_operand schema words from scope left) right) [] kinds))
   test_of (test.Between left negated low high) names kinds =
-      let name : OperandText → List ℕ = operand_offences schema words from scope in
-      let wrong : OperandText → List ℕ = kind_offence schema words from scope (is_text_operand schema words from scope left) in
+      let name : OperandNode → List ℕ = operand_offences schema words from scope in
+      let wrong : OperandNode → List ℕ = kind_offence schema words from scope (is_text_operand schema words from scope left) in
       let both : name low ++ (name high ++ []) ≡ [] = empty_right (name left) (name low ++ (name high ++ [])) names in
       let named : name left ≡ [] = empty_left (name left) (name low ++ (name high ++ [])) names in
       let at_least : Cond = comparison schema words from scope op.Ge left low in
@@ -178,35 +178,35 @@ module _ (schema : Schema) (words : List ℕ) (from : List Source) (scope : Scop
 
   -- ---- conditions
 
-  abbrev means : CondText → Meaning
+  abbrev means : CondNode → Meaning
   means c = meaning schema words from scope c
 
-  pub means_and : (members : List CondText) → means (text.And members) ≡ all_of (map means members)
-  means_and members = ap means (sym (rolls-And members)) ∙ fold-roll-CondText Meaning (meaning_step schema words from scope) (CondText-F.And members)
+  pub means_and : (members : List CondNode) → means (text.And members) ≡ all_of (map means members)
+  means_and members = ap means (sym (rolls-And members)) ∙ fold-roll-CondNode Meaning (meaning_step schema words from scope) (CondNode-F.And members)
 
-  pub means_or : (members : List CondText) → means (text.Or members) ≡ alone (cond.Or (wholes (map means members)))
-  means_or members = ap means (sym (rolls-Or members)) ∙ fold-roll-CondText Meaning (meaning_step schema words from scope) (CondText-F.Or members)
+  pub means_or : (members : List CondNode) → means (text.Or members) ≡ alone (cond.Or (wholes (map means members)))
+  means_or members = ap means (sym (rolls-Or members)) ∙ fold-roll-CondNode Meaning (meaning_step schema words from scope) (CondNode-F.Or members)
 
-  pub means_not : (member : CondText) → means (text.Not member) ≡ alone (cond.Not (means member).whole)
-  means_not member = ap means (sym (rolls-Not member)) ∙ fold-roll-CondText Meaning (meaning_step schema words from scope) (CondText-F.Not member)
+  pub means_not : (member : CondNode) → means (text.Not member) ≡ alone (cond.Not (means member).whole)
+  means_not member = ap means (sym (rolls-Not member)) ∙ fold-roll-CondNode Meaning (meaning_step schema words from scope) (CondNode-F.Not member)
 
-  pub means_test : (t : TestText) → means (text.Test t) ≡ test_meaning schema words from scope t
-  means_test t = ap means (sym (rolls-Test t)) ∙ fold-roll-CondText Meaning (meaning_step schema words from scope) (CondText-F.Test t)
+  pub means_test : (t : TestNode) → means (text.Test t) ≡ test_meaning schema words from scope t
+  means_test t = ap means (sym (rolls-Test t)) ∙ fold-roll-CondNode Meaning (meaning_step schema words from scope) (CondNode-F.Test t)
 
-  abbrev names_in : CondText → List ℕ
+  abbrev names_in : CondNode → List ℕ
   names_in c = flat_map (test_offences schema words from scope) (tests c)
 
-  abbrev kinds_in : CondText → List ℕ
+  abbrev kinds_in : CondNode → List ℕ
   kinds_in c = flat_map (kind_offences schema words from scope) (tests c)
 
-  abbrev Good : CondText → Type 0
+  abbrev Good : CondNode → Type 0
   Good c = names_in c ≡ [] → kinds_in c ≡ [] → IsMeaningOf schema from (means c)
 
-  chain_of : (held : List ((c : CondText) × Good c)) → flat_map (test_offences schema words from scope) (flat_map tests (map (λ e. e.0) held)) ≡ []
+  chain_of : (held : List ((c : CondNode) × Good c)) → flat_map (test_offences schema words from scope) (flat_map tests (map (λ e. e.0) held)) ≡ []
       → flat_map (kind_offences schema words from scope) (flat_map tests (map (λ e. e.0) held)) ≡ [] → All (IsMeaningOf schema from) (map means (map (λ e. e.0) held))
   chain_of [] names kinds = All-nil (IsMeaningOf schema from)
   chain_of (e ∷ held) names kinds =
-      let cs : List CondText = map (λ (e : (c : CondText) × Good c). e.0) held in
+      let cs : List CondNode = map (λ (e : (c : CondNode) × Good c). e.0) held in
       let named : names_in e.0 ++ flat_map (test_offences schema words from scope) (flat_map tests cs) ≡ [] =
       sym (flat_map-append (test_offences schema words from scope) (tests e.0) (flat_map tests cs)) ∙ names in
       let alike : kinds_in e.0 ++ flat_map (kind_offences schema words from scope) (flat_map tests cs) ≡ [] =
@@ -215,26 +215,26 @@ module _ (schema : Schema) (words : List ℕ) (from : List Source) (scope : Scop
       (e.1 (empty_left (names_in e.0) _ named) (empty_left (kinds_in e.0) _ alike))
       (chain_of held (empty_right (names_in e.0) _ named) (empty_right (kinds_in e.0) _ alike))
 
-  good_layer : (y : CondText-F ((c : CondText) × Good c)) → Good (roll-CondText (map-CondText ((c : CondText) × Good c) CondText (λ e. e.0) y))
-  good_layer (CondText-F.And held) =
-      let cs : List CondText = map (λ (e : (c : CondText) × Good c). e.0) held in
+  good_layer : (y : CondNode-F ((c : CondNode) × Good c)) → Good (roll-CondNode (map-CondNode ((c : CondNode) × Good c) CondNode (λ e. e.0) y))
+  good_layer (CondNode-F.And held) =
+      let cs : List CondNode = map (λ (e : (c : CondNode) × Good c). e.0) held in
       subst Good (sym (rolls-And cs)) (λ names kinds. subst (IsMeaningOf schema from) (sym (means_and cs))
       (all_of_of schema from (map means cs)
       (chain_of held (sym (ap (flat_map (test_offences schema words from scope)) (tests_and cs)) ∙ names) (sym (ap (flat_map (kind_offences schema words from scope)) (tests_and cs)) ∙ kinds))))
-  good_layer (CondText-F.Or held) =
-      let cs : List CondText = map (λ (e : (c : CondText) × Good c). e.0) held in
+  good_layer (CondNode-F.Or held) =
+      let cs : List CondNode = map (λ (e : (c : CondNode) × Good c). e.0) held in
       subst Good (sym (rolls-Or cs)) (λ names kinds. subst (IsMeaningOf schema from) (sym (means_or cs))
       (or_alone schema from (wholes (map means cs)) (wholes_of schema from (map means cs)
       (chain_of held (sym (ap (flat_map (test_offences schema words from scope)) (tests_or cs)) ∙ names) (sym (ap (flat_map (kind_offences schema words from scope)) (tests_or cs)) ∙ kinds)))))
-  good_layer (CondText-F.Not e) =
+  good_layer (CondNode-F.Not e) =
       subst Good (sym (rolls-Not e.0)) (λ names kinds. subst (IsMeaningOf schema from) (sym (means_not e.0))
       (alone_of schema from (cond.Not (means e.0).whole) (not_of schema from (means e.0).whole
       (e.1 (sym (ap (flat_map (test_offences schema words from scope)) (tests_not e.0)) ∙ names) (sym (ap (flat_map (kind_offences schema words from scope)) (tests_not e.0)) ∙ kinds)).whole)))
-  good_layer (CondText-F.Test t) =
+  good_layer (CondNode-F.Test t) =
       subst Good (sym (rolls-Test t)) (λ names kinds. subst (IsMeaningOf schema from) (sym (means_test t))
       (test_of t (empty_left (test_offences schema words from scope t) [] (sym (ap (flat_map (test_offences schema words from scope)) (tests_test t)) ∙ names))
       (empty_left (kind_offences schema words from scope t) [] (sym (ap (flat_map (kind_offences schema words from scope)) (tests_test t)) ∙ kinds))))
 
   -- a condition without offences
-  pub condition_of : (c : CondText) → names_in c ≡ [] → kinds_in c ≡ [] → IsMeaningOf schema from (means c)
-  condition_of = ind-CondText Good (λ x y is. subst (λ z. Good (roll-CondText z)) is (good_layer y))
+  pub condition_of : (c : CondNode) → names_in c ≡ [] → kinds_in c ≡ [] → IsMeaningOf schema from (means c)
+  condition_of = ind-CondNode Good (λ x y is. subst (λ z. Good (roll-CondNode z)) is (good_layer y))

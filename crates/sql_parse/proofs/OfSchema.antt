@@ -7,13 +7,13 @@ use Rattle.std.proofs.lemmas.List.Elements.{All-nil, All-cons, All-append}
 use Rattle.limits.specs.Profile.{most_conjuncts}
 use Rattle.ll_grammars.specs.declared.lexeme.Lexeme.{Lexeme}
 use Rattle.sql_tokens.specs.Words.{name_of}
-use Rattle.query_grammar.specs.declared.tree.ColumnText.{ColumnText}
-use Rattle.query_grammar.specs.declared.tree.SourceText.{SourceText}
-use Rattle.query_grammar.specs.declared.tree.OutText.{OutText}
-use Rattle.query_grammar.specs.declared.tree.OutText.TheVariants as out
-use Rattle.query_grammar.specs.declared.tree.OutsText.{OutsText}
-use Rattle.query_grammar.specs.declared.tree.OutsText.TheVariants as outs
-use Rattle.query_grammar.specs.declared.tree.QueryText.{QueryText}
+use Rattle.query_grammar.specs.declared.tree.ColumnNode.{ColumnNode}
+use Rattle.query_grammar.specs.declared.tree.SourceNode.{SourceNode}
+use Rattle.query_grammar.specs.declared.tree.OutNode.{OutNode}
+use Rattle.query_grammar.specs.declared.tree.OutNode.TheVariants as out
+use Rattle.query_grammar.specs.declared.tree.OutsNode.{OutsNode}
+use Rattle.query_grammar.specs.declared.tree.OutsNode.TheVariants as outs
+use Rattle.query_grammar.specs.declared.tree.QueryNode.{QueryNode}
 use Rattle.schema_types.specs.declared.types.Column.{Column}
 use Rattle.schema_types.specs.declared.types.Table.{Table}
 use Rattle.schema_types.specs.declared.types.Schema.{Schema}
@@ -22,9 +22,9 @@ use Rattle.query_names.specs.declared.scope.EntryColumn.{EntryColumn}
 use Rattle.query_types.specs.declared.types.Source.{Source}
 use Rattle.query_types.specs.Validity.{IsSourceOf, IsOutOf, IsCondOf, IsOf}
 use Rattle.query_names.specs.Names.{at, table_names, table_of, entry_of, alias_of, alias_token, sources, entries, offences_behind, from_offences, is_among}
-use Rattle.query_names.specs.Scopes.{in_scope, everything, entry_named, resolve, head_of, conditions}
+use Rattle.query_names.specs.Scopes.{in_scope, whole_scope, entry_named, resolve, head_of, conditions}
 use Rattle.query_names.specs.Offences.{name_offences, all_kind_offences, name_offences_in, kind_offences_in, out_offences, outs_offences}
-use Rattle.query_names.specs.Values.{reference_to, members_in, conjuncts, outs_from, outs_of_table, outs_of_entry, outs_of_found, outs_of, selected, query_of}
+use Rattle.query_names.specs.Values.{resolved_column, members_in, conjuncts, outs_from, outs_of_table, outs_of_entry, outs_of_found, outs_of, selected, query_of}
 use Rattle.schema_types.proofs.Places.{place_of_within}
 use Rattle.query_names.proofs.Resolved.{Stands, resolve_stands, IsEntry, AllEntries, in_scope_are, named_is}
 use Rattle.schema_types.proofs.Above.{empty_left, empty_right}
@@ -33,13 +33,13 @@ use Rattle.sql_parse.proofs.KindFacts.{not_at, without_offences, found_finds, co
 -- ---- the entries
 
 module _ (schema : Schema) (text : List ℕ) where
-  table_exists : (source : SourceText) (table : Option ℕ) → table ≡ table_of schema text source → is_none table ≡ false → unwrap_or table 0 < length schema.tables
+  table_exists : (source : SourceNode) (table : Option ℕ) → table ≡ table_of schema text source → is_none table ≡ false → unwrap_or table 0 < length schema.tables
   table_exists source None is known = absurd cc
   table_exists source (Some n) is known =
       let within : n < length (table_names schema) = place_of_within (table_names schema) (name_of text source.table) n (sym is) in
       omega (arith, length-map schema.tables (λ (table : Table). table.name))
 
-  sources_of_schema : (earlier : List (List ℕ)) (from : List SourceText) → offences_behind schema text earlier from ≡ [] → All (IsSourceOf schema) (map (entry_of schema text) from)
+  sources_of_schema : (earlier : List (List ℕ)) (from : List SourceNode) → offences_behind schema text earlier from ≡ [] → All (IsSourceOf schema) (map (entry_of schema text) from)
   sources_of_schema earlier [] none = All-nil (IsSourceOf schema)
   sources_of_schema earlier (source ∷ rest) none =
       let unknown : List ℕ = at (is_none (table_of schema text source)) source.table in
@@ -79,32 +79,32 @@ module _ (schema : Schema) (from : List Source) where
   all_entry_outs (e ∷ es) are = All-append (IsOutOf schema from) (outs_of_entry schema e) (flat_map (outs_of_entry schema) es) (entry_outs e are.0) (all_entry_outs es are.1)
 
   module _ (text : List ℕ) where
-    named_outs : (alias : Lexeme) (e : Option Entry) → e ≡ entry_named from (everything from) (name_of text alias) → All (IsOutOf schema from) (outs_of_found schema e)
+    named_outs : (alias : Lexeme) (e : Option Entry) → e ≡ entry_named from (whole_scope from) (name_of text alias) → All (IsOutOf schema from) (outs_of_found schema e)
     named_outs alias None is = All-nil (IsOutOf schema from)
-    named_outs alias (Some e) is = entry_outs e (named_is from (everything from) (name_of text alias) e (sym is))
+    named_outs alias (Some e) is = entry_outs e (named_is from (whole_scope from) (name_of text alias) e (sym is))
 
-    column_out : (reference : ColumnText) (name : List ℕ) (found : Option EntryColumn) → found ≡ resolve schema text from (everything from) reference → at (is_none found) (head_of reference) ≡ []
-        → IsOutOf schema from (record { column = reference_to found; name = name })
+    column_out : (reference : ColumnNode) (name : List ℕ) (found : Option EntryColumn) → found ≡ resolve schema text from (whole_scope from) reference → at (is_none found) (head_of reference) ≡ []
+        → IsOutOf schema from (record { column = resolved_column found; name = name })
     column_out reference name None is none = absurd cc
     column_out reference name (Some found) is none =
-        let there : Stands schema from found = resolve_stands schema text from (everything from) reference found (sym is) in
+        let there : Stands schema from found = resolve_stands schema text from (whole_scope from) reference found (sym is) in
         record { column = there.column; finds = found_finds schema from found there }
 
-    out_of : (o : OutText) → out_offences schema text from (everything from) o ≡ [] → out_offences schema text from (everything from) o ≡ [] → All (IsOutOf schema from) (outs_of schema text from o)
-    out_of (out.All alias) none again = named_outs alias (entry_named from (everything from) (name_of text alias)) refl
+    out_of : (o : OutNode) → out_offences schema text from (whole_scope from) o ≡ [] → out_offences schema text from (whole_scope from) o ≡ [] → All (IsOutOf schema from) (outs_of schema text from o)
+    out_of (out.All alias) none again = named_outs alias (entry_named from (whole_scope from) (name_of text alias)) refl
     out_of (out.Column reference name) none again =
         let given : List ℕ = name_of text (unwrap_or name reference.column) in
-        All-cons (IsOutOf schema from) (record { column = reference_to (resolve schema text from (everything from) reference); name = given }) []
-        (column_out reference given (resolve schema text from (everything from) reference) refl none) (All-nil (IsOutOf schema from))
+        All-cons (IsOutOf schema from) (record { column = resolved_column (resolve schema text from (whole_scope from) reference); name = given }) []
+        (column_out reference given (resolve schema text from (whole_scope from) reference) refl none) (All-nil (IsOutOf schema from))
 
-    selected_are : (list : OutsText) → outs_offences schema text from (everything from) list ≡ [] → All (IsOutOf schema from) (selected schema text from list)
-    selected_are outs.All none = all_entry_outs (in_scope from (everything from)) (in_scope_are from (everything from))
+    selected_are : (list : OutsNode) → outs_offences schema text from (whole_scope from) list ≡ [] → All (IsOutOf schema from) (selected schema text from list)
+    selected_are outs.All none = all_entry_outs (in_scope from (whole_scope from)) (in_scope_are from (whole_scope from))
     selected_are (outs.Listed list) none =
-        without_offences (out_offences schema text from (everything from)) (out_offences schema text from (everything from)) (outs_of schema text from) (IsOutOf schema from) out_of list none none
+        without_offences (out_offences schema text from (whole_scope from)) (out_offences schema text from (whole_scope from)) (outs_of schema text from) (IsOutOf schema from) out_of list none none
 
     -- ---- the conjuncts
 
-    conjuncts_are : (query : QueryText) → flat_map (name_offences_in schema text from) (conditions from query) ≡ [] → all_kind_offences schema text from query ≡ []
+    conjuncts_are : (query : QueryNode) → flat_map (name_offences_in schema text from) (conditions from query) ≡ [] → all_kind_offences schema text from query ≡ []
         → All (IsCondOf schema from) (conjuncts schema text from query)
     unfolding conjuncts all_kind_offences
     conjuncts_are query names kinds =
@@ -113,11 +113,11 @@ module _ (schema : Schema) (from : List Source) where
 
 -- ---- the query
 
-from_are : (schema : Schema) (text : List ℕ) (query : QueryText) → from_offences schema text query ≡ [] → All (IsSourceOf schema) (entries schema text query)
+from_are : (schema : Schema) (text : List ℕ) (query : QueryNode) → from_offences schema text query ≡ [] → All (IsSourceOf schema) (entries schema text query)
 unfolding from_offences entries
 from_are schema text query none = sources_of_schema schema text [] (sources query) none
 
-module _ (schema : Schema) (text : List ℕ) (query : QueryText) where
+module _ (schema : Schema) (text : List ℕ) (query : QueryNode) where
   pub of_schema : 0 < length (entries schema text query) → length (entries schema text query) ≤ 12
       → length (conjuncts schema text (entries schema text query) query) ≤ most_conjuncts
       → name_offences schema text (entries schema text query) query ≡ [] → all_kind_offences schema text (entries schema text query) query ≡ []
@@ -126,7 +126,7 @@ module _ (schema : Schema) (text : List ℕ) (query : QueryText) where
   of_schema some few conjuncts_few names kinds =
       let from : List Source = entries schema text query in
       let in_from : List ℕ = from_offences schema text query in
-      let in_outs : List ℕ = outs_offences schema text from (everything from) query.outs in
+      let in_outs : List ℕ = outs_offences schema text from (whole_scope from) query.outs in
       let in_conditions : List ℕ = flat_map (name_offences_in schema text from) (conditions from query) in
       let front : in_from ++ in_outs ≡ [] = empty_left (in_from ++ in_outs) in_conditions names in
       record {

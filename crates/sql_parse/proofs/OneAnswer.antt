@@ -5,7 +5,7 @@ use Rattle.ll_grammars.specs.declared.lexeme.Lexeme.{Lexeme}
 use Rattle.ll_grammars.specs.Language.{Language, IsViablePrefix, Fails, GoesWrong}
 use Rattle.ll_grammars.specs.Places.{IsSyntaxPlace}
 use Rattle.ll_grammars.specs.Rules.{place}
-use Rattle.query_grammar.specs.declared.tree.QueryText.{QueryText}
+use Rattle.query_grammar.specs.declared.tree.QueryNode.{QueryNode}
 use Rattle.query_grammar.specs.Grammar.{QuerySpecification}
 use Rattle.query_grammar.specs.Nesting.{nesting}
 use Rattle.query_grammar.proofs.Whole.{one_query}
@@ -113,7 +113,7 @@ module _ (schema : Schema) (text : List ℕ) (a b : Result Query QueryError) whe
       let same : nesting (lexemes_of text ts) ≡ nesting (lexemes_of text us) = ap (λ l. nesting (lexemes_of text l)) (one_list text ts us lexed others) in
       omega arith
 
-  spelled_or_not : (ts us : List Token) (at : ℕ) (tree : QueryText) → IsLexed text ts → IsLexed text us → IsSyntaxPlace QuerySpecification (lexemes_of text ts) (length text) at
+  spelled_or_not : (ts us : List Token) (at : ℕ) (tree : QueryNode) → IsLexed text ts → IsLexed text us → IsSyntaxPlace QuerySpecification (lexemes_of text ts) (length text) at
       → QuerySpecification (lexemes_of text us) tree → ⊥
   spelled_or_not ts us at tree lexed others wrong spells =
       not_spelled QuerySpecification (lexemes_of text ts) wrong.rest tree wrong.wrong

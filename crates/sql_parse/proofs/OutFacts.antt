@@ -6,8 +6,8 @@ use Rattle.std.proofs.lemmas.Grind.{flat_map-append}
 use Rattle.std.proofs.lemmas.List.{drop_all, append-nil}
 use Rattle.std.proofs.lemmas.Option.{slice_get_within, get_or_from_slice_get}
 use Rattle.limits.specs.Profile.{most_outputs}
-use Rattle.query_grammar.specs.declared.tree.OutText.{OutText}
-use Rattle.query_grammar.specs.declared.tree.OutsText.TheVariants as outs
+use Rattle.query_grammar.specs.declared.tree.OutNode.{OutNode}
+use Rattle.query_grammar.specs.declared.tree.OutsNode.TheVariants as outs
 use Rattle.schema_types.specs.declared.types.Column.{Column}
 use Rattle.schema_types.specs.declared.types.Table.{Table}
 use Rattle.schema_types.specs.declared.types.Schema.{Schema}
@@ -112,6 +112,6 @@ named_small from scope alias e is few =
 
 -- ---- the items of the list
 
-pub selected_listed : (binder : Binder) (list : List OutText) → selected_by binder (outs.Listed list) ≡ flat_map (outs_by binder) list
+pub selected_listed : (binder : Binder) (list : List OutNode) → selected_by binder (outs.Listed list) ≡ flat_map (outs_by binder) list
 unfolding selected_by outs_by
 selected_listed binder list = refl

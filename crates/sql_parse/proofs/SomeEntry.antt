@@ -2,25 +2,25 @@
 use Rattle.std.proofs.Common.{◌≡◌, ℕ, ◌<◌, List, [], ◌∷◌, length, map, ap, subst, ◌∙◌, arith}
 use Rattle.std.specs.List.{flat_map}
 use Rattle.ll_grammars.specs.declared.lexeme.Lexeme.{Lexeme}
-use Rattle.query_grammar.specs.declared.tree.PartText.{PartText}
-use Rattle.query_grammar.specs.declared.tree.SourceText.{SourceText}
-use Rattle.query_grammar.specs.declared.tree.QueryText.{QueryText}
+use Rattle.query_grammar.specs.declared.tree.PartNode.{PartNode}
+use Rattle.query_grammar.specs.declared.tree.SourceNode.{SourceNode}
+use Rattle.query_grammar.specs.declared.tree.QueryNode.{QueryNode}
 use Rattle.query_grammar.specs.Grammar.{QuerySpecification}
 use Rattle.schema_types.specs.declared.types.Schema.{Schema}
 use Rattle.query_types.specs.declared.types.Source.{Source}
 use Rattle.query_names.specs.Names.{sources_of, entry_of, entries}
 
-some_parts : (tokens : List Lexeme) (query : QueryText) → QuerySpecification tokens query → 0 < length query.parts
+some_parts : (tokens : List Lexeme) (query : QueryNode) → QuerySpecification tokens query → 0 < length query.parts
 unfolding QuerySpecification
 some_parts tokens query spells =
     let listed = spells.2.second.second.second.first in
-    let are : listed.0.0 ∷ listed.0.1 ≡ query.parts = listed.1 ∙ ap (λ (q : QueryText). q.parts) spells.1 in
-    subst (λ (parts : List PartText). 0 < length parts) are (omega arith)
+    let are : listed.0.0 ∷ listed.0.1 ≡ query.parts = listed.1 ∙ ap (λ (q : QueryNode). q.parts) spells.1 in
+    subst (λ (parts : List PartNode). 0 < length parts) are (omega arith)
 
-some_sources : (f : SourceText → Source) (parts : List PartText) → 0 < length parts → 0 < length (map f (flat_map sources_of parts))
+some_sources : (f : SourceNode → Source) (parts : List PartNode) → 0 < length parts → 0 < length (map f (flat_map sources_of parts))
 some_sources f [] some = absurd (omega arith)
 some_sources f (part ∷ rest) some = omega arith
 
-pub some_entries : (schema : Schema) (text : List ℕ) (tokens : List Lexeme) (query : QueryText) → QuerySpecification tokens query → 0 < length (entries schema text query)
+pub some_entries : (schema : Schema) (text : List ℕ) (tokens : List Lexeme) (query : QueryNode) → QuerySpecification tokens query → 0 < length (entries schema text query)
 unfolding entries
 some_entries schema text tokens query spells = some_sources (entry_of schema text) query.parts (some_parts tokens query spells)

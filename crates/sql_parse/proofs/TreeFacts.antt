@@ -5,10 +5,10 @@ use Rattle.std.specs.List.{flat_map}
 use Rattle.std.proofs.lemmas.List.{length-map}
 use Rattle.std.proofs.lemmas.List.Elements.{All-nil, All-cons, All-head, All-tail, All-append}
 use Rattle.ll_grammars.specs.declared.lexeme.Lexeme.{Lexeme}
-use Rattle.query_grammar.specs.declared.tree.JoinText.{JoinText}
-use Rattle.query_grammar.specs.declared.tree.PartText.{PartText}
-use Rattle.query_grammar.specs.declared.tree.QueryText.{QueryText}
-use Rattle.query_grammar.specs.declared.tree.SourceText.{SourceText}
+use Rattle.query_grammar.specs.declared.tree.JoinedNode.{JoinedNode}
+use Rattle.query_grammar.specs.declared.tree.PartNode.{PartNode}
+use Rattle.query_grammar.specs.declared.tree.QueryNode.{QueryNode}
+use Rattle.query_grammar.specs.declared.tree.SourceNode.{SourceNode}
 use Rattle.query_grammar.specs.Lexemes.{IsSourceOf, IsJoinOf, IsPartOf, IsQueryOf}
 use Rattle.schema_types.specs.declared.types.Schema.{Schema}
 use Rattle.query_names.specs.declared.binder.Binder.{Binder}
@@ -26,33 +26,33 @@ use Rattle.sql_parse.specs.Refusing.{refusals_behind, IsFirstOf, Answers}
 use Rattle.sql_parse.proofs.BindFacts.{behind_by, value_by}
 
 module _ (P : Lexeme → Type 0) where
-  joined_lie_in : (joins : List JoinText) → All (IsJoinOf P) joins → All (IsSourceOf P) (map (λ join. join.source) joins)
+  joined_lie_in : (joins : List JoinedNode) → All (IsJoinOf P) joins → All (IsSourceOf P) (map (λ join. join.source) joins)
   joined_lie_in [] lie = All-nil (IsSourceOf P)
   joined_lie_in (join ∷ rest) lie = All-cons (IsSourceOf P) join.source (map (λ join. join.source) rest) (All-head (IsJoinOf P) join rest lie).0 (joined_lie_in rest (All-tail (IsJoinOf P) join rest lie))
 
-  part_lies_in : (part : PartText) → IsPartOf P part → All (IsSourceOf P) (sources_of part)
+  part_lies_in : (part : PartNode) → IsPartOf P part → All (IsSourceOf P) (sources_of part)
   part_lies_in part lies = All-cons (IsSourceOf P) part.first (map (λ join. join.source) part.joins) lies.0 (joined_lie_in part.joins lies.1)
 
-  parts_lie_in : (parts : List PartText) → All (IsPartOf P) parts → All (IsSourceOf P) (flat_map sources_of parts)
+  parts_lie_in : (parts : List PartNode) → All (IsPartOf P) parts → All (IsSourceOf P) (flat_map sources_of parts)
   parts_lie_in [] lie = All-nil (IsSourceOf P)
   parts_lie_in (part ∷ rest) lie =
       All-append (IsSourceOf P) (sources_of part) (flat_map sources_of rest) (part_lies_in part (All-head (IsPartOf P) part rest lie)) (parts_lie_in rest (All-tail (IsPartOf P) part rest lie))
 
-  pub sources_lie_in : (query : QueryText) → IsQueryOf P query → All (IsSourceOf P) (flat_map sources_of query.parts)
+  pub sources_lie_in : (query : QueryNode) → IsQueryOf P query → All (IsSourceOf P) (flat_map sources_of query.parts)
   unfolding IsQueryOf
   sources_lie_in query lies = parts_lie_in query.parts lies.1
 
-  pub all_lie_in : (query : QueryText) (sources : List SourceText) → sources ≡ flat_map sources_of query.parts → IsQueryOf P query → All (IsSourceOf P) sources
+  pub all_lie_in : (query : QueryNode) (sources : List SourceNode) → sources ≡ flat_map sources_of query.parts → IsQueryOf P query → All (IsSourceOf P) sources
   all_lie_in query sources is lies = subst (All (IsSourceOf P)) (sym is) (sources_lie_in query lies)
 
-module _ (schema : Schema) (text : List ℕ) (query : QueryText) (from : List Source) where
+module _ (schema : Schema) (text : List ℕ) (query : QueryNode) (from : List Source) where
   pub ends_within : from ≡ entries schema text query → length (flat_map sources_of query.parts) ≤ length from
   unfolding entries
   ends_within is =
       let same : length from ≡ length (flat_map sources_of query.parts) = ap length is ∙ length-map (flat_map sources_of query.parts) (entry_of schema text) in
       omega arith
 
-module _ (schema : Schema) (text : List ℕ) (query : QueryText) (binder : Binder) where
+module _ (schema : Schema) (text : List ℕ) (query : QueryNode) (binder : Binder) where
   pub behind_refused : schema_of binder ≡ schema → binder.text.now ≡ text → from_of binder ≡ entries schema text query → from_offences schema text query ≡ []
       → (e : QueryError) → IsFirstOf (refusals_behind binder query) e → Answers (query_or_refusal schema text query) (Err e)
   behind_refused is_schema is_text is_from none e wrong = behind_by schema text query binder (record { schema_is = is_schema; text_is = is_text; from_is = is_from; no_offence = none }) e wrong

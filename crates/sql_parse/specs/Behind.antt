@@ -1,22 +1,22 @@
 -- Names, kinds and lists behind FROM, and the conjuncts, as the binder knows the schema, the text and FROM.
 use Rattle.std.specs.Prelude.{ℕ, List, ◌++◌}
 use Rattle.std.specs.List.{flat_map}
-use Rattle.query_grammar.specs.declared.tree.QueryText.{QueryText}
+use Rattle.query_grammar.specs.declared.tree.QueryNode.{QueryNode}
 use Rattle.query_names.specs.declared.binder.Binder.{Binder}
 use Rattle.query_types.specs.declared.types.Cond.{Cond}
-use Rattle.query_names.specs.Scopes.{everything, conditions}
+use Rattle.query_names.specs.Scopes.{whole_scope, conditions}
 use Rattle.query_names.specs.Binding.{from_of, outs_offences_of, names_in, kinds_in, lists_in, members_in}
 
 -- the offences of the SELECT list, then those of the conditions
-unfoldable pub names_behind : Binder → QueryText → List ℕ
+unfoldable pub names_behind : Binder → QueryNode → List ℕ
 names_behind binder query =
-    outs_offences_of binder (everything (from_of binder)) query.outs ++ flat_map (names_in binder) (conditions (from_of binder) query)
+    outs_offences_of binder (whole_scope (from_of binder)) query.outs ++ flat_map (names_in binder) (conditions (from_of binder) query)
 
-unfoldable pub kinds_behind : Binder → QueryText → List ℕ
+unfoldable pub kinds_behind : Binder → QueryNode → List ℕ
 kinds_behind binder query = flat_map (kinds_in binder) (conditions (from_of binder) query)
 
-unfoldable pub lists_behind : Binder → QueryText → List ℕ
+unfoldable pub lists_behind : Binder → QueryNode → List ℕ
 lists_behind binder query = flat_map lists_in (conditions (from_of binder) query)
 
-unfoldable pub conjuncts_by : Binder → QueryText → List Cond
+unfoldable pub conjuncts_by : Binder → QueryNode → List Cond
 conjuncts_by binder query = flat_map (members_in binder) (conditions (from_of binder) query)

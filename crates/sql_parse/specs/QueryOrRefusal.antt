@@ -2,7 +2,7 @@
 use Rattle.std.specs.Prelude.{ℕ, ◌-◌, ◌^◌, nat_lt, min, if◌then◌else◌, List, [], ◌∷◌, ◌++◌, length, Result, Ok, Err}
 use Rattle.std.specs.List.{flat_map}
 use Rattle.limits.specs.Profile.{most_conjuncts, most_entries, most_outputs}
-use Rattle.query_grammar.specs.declared.tree.QueryText.{QueryText}
+use Rattle.query_grammar.specs.declared.tree.QueryNode.{QueryNode}
 use Rattle.schema_types.specs.declared.types.Schema.{Schema}
 use Rattle.schema_types.specs.declared.errors.LimitKind.{LimitKind}
 use Rattle.schema_types.specs.declared.errors.LimitKind.TheVariants as limit
@@ -24,7 +24,7 @@ abbrev pub too_long_in : Scoped → List ℕ
 too_long_in c = flat_map too_long (tests c.condition)
 
 -- the lengths of the lists of IN that are too long, in text order
-unfoldable pub long_lists : List Source → QueryText → List ℕ
+unfoldable pub long_lists : List Source → QueryNode → List ℕ
 long_lists from query = flat_map too_long_in (conditions from query)
 
 -- the refusals that apply, in the order in which they count
@@ -54,7 +54,7 @@ name_error place = error.Name place
 abbrev pub kind_error : ℕ → QueryError
 kind_error place = error.Kind place
 
-module _ (schema : Schema) (text : List ℕ) (query : QueryText) where
+module _ (schema : Schema) (text : List ℕ) (query : QueryNode) where
   unfoldable pub refusals : List QueryError
   refusals =
       let from = entries schema text query in
@@ -67,5 +67,5 @@ unless [] value = Ok value
 unless (wrong ∷ rest) value = Err wrong
 
 -- the query, or the first refusal
-unfoldable pub query_or_refusal : Schema → List ℕ → QueryText → Result Query QueryError
+unfoldable pub query_or_refusal : Schema → List ℕ → QueryNode → Result Query QueryError
 query_or_refusal schema text query = unless (refusals schema text query) (query_of schema text query)

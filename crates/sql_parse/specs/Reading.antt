@@ -5,7 +5,7 @@ use Rattle.ll_grammars.specs.Places.{IsSyntaxPlace}
 use Rattle.sql_tokens.specs.declared.token.Token.{Token}
 use Rattle.sql_tokens.specs.Words.{lexeme_of}
 use Rattle.sql_tokens.specs.Lexing.{IsLexed, IsBad}
-use Rattle.query_grammar.specs.declared.tree.QueryText.{QueryText}
+use Rattle.query_grammar.specs.declared.tree.QueryNode.{QueryNode}
 use Rattle.query_grammar.specs.Grammar.{QuerySpecification}
 use Rattle.query_grammar.specs.Nesting.{nesting}
 use Rattle.schema_types.specs.declared.types.Schema.{Schema}
@@ -62,7 +62,7 @@ module _ (schema : Schema) (text : List ℕ) (answer : Result Query QueryError) 
     pub tokens : List Token
     pub lexed : IsLexed text tokens
     pub shallow : nesting (lexemes_of text tokens) ≤ most_nesting
-    pub tree : QueryText
+    pub tree : QueryNode
     pub spelled : QuerySpecification (lexemes_of text tokens) tree
     pub answered : answer ≡ unless_number (number_offences text (lexemes_of text tokens)) (query_or_refusal schema text tree)
 

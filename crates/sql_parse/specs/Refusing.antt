@@ -1,7 +1,7 @@
 -- The refusals behind FROM, as the binder knows the schema, the text and FROM.
 use Rattle.std.specs.Prelude.{◌≡◌, ◌⊎◌, ℕ, List, [], ◌∷◌, ◌++◌, length, Option, Some, None, Result, Err}
 use Rattle.limits.specs.Profile.{most_conjuncts, most_entries, most_outputs}
-use Rattle.query_grammar.specs.declared.tree.QueryText.{QueryText}
+use Rattle.query_grammar.specs.declared.tree.QueryNode.{QueryNode}
 use Rattle.schema_types.specs.declared.errors.LimitKind.TheVariants as limit
 use Rattle.query_names.specs.declared.binder.Binder.{Binder}
 use Rattle.query_names.specs.declared.errors.QueryError.{QueryError}
@@ -25,7 +25,7 @@ limits_passed entries list conjuncts outputs =
     ++ over limit.Conjuncts most_conjuncts conjuncts
     ++ over limit.Outputs most_outputs outputs
 
-unfoldable pub limits_by : Binder → QueryText → List QueryError
+unfoldable pub limits_by : Binder → QueryNode → List QueryError
 limits_by binder query =
     over limit.FromEntries most_entries (length (from_of binder))
     ++ first_list (lists_behind binder query)
@@ -33,11 +33,11 @@ limits_by binder query =
     ++ over limit.Outputs most_outputs (length (selected_by binder query.outs))
 
 -- kinds, then limits
-unfoldable pub late_refusals : Binder → QueryText → List QueryError
+unfoldable pub late_refusals : Binder → QueryNode → List QueryError
 late_refusals binder query = first_place kind_error (kinds_behind binder query) ++ limits_by binder query
 
 -- names, then those
-unfoldable pub refusals_behind : Binder → QueryText → List QueryError
+unfoldable pub refusals_behind : Binder → QueryNode → List QueryError
 refusals_behind binder query = first_place name_error (names_behind binder query) ++ late_refusals binder query
 
 -- the first of these refusals; want of memory may come at any time

@@ -10,7 +10,7 @@ ghost use Rattle.sql_parse.specs.Refusing.{Answers};
 
 use crate::query_limits::behind_from;
 use base_io::Seq;
-use query_grammar::QueryText;
+use query_grammar::QueryNode;
 use query_names::{Binder, Catalog, Entries, QueryError, all_sources, read_entries};
 use query_types::{Cond, Out, Query};
 use schema_types::Schema;
@@ -22,7 +22,7 @@ fn entries_of(
     alloc: Global,
     catalog: &Catalog<'_>,
     text: &[u8],
-    query: &QueryText,
+    query: &QueryNode,
 ) -> Result<Entries, QueryError>
     requires { IsQueryOf (IsLexemeOf text.now) query.now }
     ensures entries { IfOk result (λ found. found.sources ≡ entries catalog.now.schema.now text.now query.now) }
@@ -40,7 +40,7 @@ fn bind_behind(
     catalog: &Catalog<'_>,
     text: &[u8],
     from: &Entries,
-    query: &QueryText,
+    query: &QueryNode,
 ) -> Result<(Seq<Cond>, Seq<Out>), QueryError>
     requires valid { IsValid catalog.now.schema.now }
     requires tokens { IsQueryOf (IsLexemeOf text.now) query.now }
@@ -66,7 +66,7 @@ pub fn bind(
     alloc: Global,
     schema: &Schema,
     text: &[u8],
-    query: &QueryText,
+    query: &QueryNode,
 ) -> Result<Query, QueryError>
     requires valid { IsValid schema.now }
     requires tokens { IsQueryOf (IsLexemeOf text.now) query.now }

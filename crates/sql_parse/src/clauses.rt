@@ -6,7 +6,7 @@ ghost use Rattle.schema_types.specs.Validity.{IsValid};
 ghost use Rattle.sql_tokens.specs.Words.{IsLexemeOf};
 ghost use Rattle.query_grammar.specs.Lexemes.{IsQueryOf};
 ghost use Rattle.query_names.specs.Names.{sources_of};
-ghost use Rattle.query_names.specs.Scopes.{everything};
+ghost use Rattle.query_names.specs.Scopes.{whole_scope};
 ghost use Rattle.query_names.specs.Answers.{IsNameError, or_first};
 ghost use Rattle.query_names.specs.Binding.{Shows, schema_of, from_of};
 ghost use Rattle.sql_parse.specs.Behind.{names_behind, kinds_behind, lists_behind, conjuncts_by};
@@ -16,7 +16,7 @@ use crate::outputs::Selected;
 use crate::parts::{look_at_filter, look_at_parts};
 use crate::select_list::select;
 use base_io::Seq;
-use query_grammar::QueryText;
+use query_grammar::QueryNode;
 use query_names::{Binder, HeldOffences, QueryError, Visible};
 use query_types::Cond;
 
@@ -26,12 +26,12 @@ use query_types::Cond;
 pub fn check_clauses(
     binder: &Binder<'_>,
     visible: &Visible,
-    query: &QueryText,
+    query: &QueryNode,
     held: &mut HeldOffences,
     conjuncts: &mut Seq<Cond>,
 ) -> Result<Selected, QueryError>
     requires shows { Shows binder.now visible.now }
-    requires all { visible.now.scope ≡ everything (from_of binder.now) }
+    requires all { visible.now.scope ≡ whole_scope (from_of binder.now) }
     requires valid { IsValid (schema_of binder.now) }
     requires ends { length (flat_map sources_of query.now.parts) ≤ length (from_of binder.now) }
     requires tokens { IsQueryOf (IsLexemeOf binder.now.text.now) query.now }

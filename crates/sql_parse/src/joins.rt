@@ -8,7 +8,7 @@ ghost use Rattle.query_names.specs.Answers.{IsNameError, or_first};
 ghost use Rattle.query_names.specs.Binding.{Shows, from_of, names_in, kinds_in, lists_in, members_in};
 
 use base_io::Seq;
-use query_grammar::{CondText, JoinText};
+use query_grammar::{CondNode, JoinedNode};
 use query_names::{Binder, HeldOffences, QueryError, Visible};
 use query_types::Cond;
 
@@ -18,7 +18,7 @@ use query_types::Cond;
 pub fn look_at_condition(
     binder: &Binder<'_>,
     visible: &Visible,
-    condition: &CondText,
+    condition: &CondNode,
     held: &mut HeldOffences,
     conjuncts: &mut Seq<Cond>,
 ) -> Result<(), QueryError>
@@ -40,7 +40,7 @@ pub fn look_at_condition(
 /// Looks at the conditions of a part's joins: each join brings an entry into scope.
 pub fn look_at_joins(
     binder: &Binder<'_>,
-    joins: &[JoinText],
+    joins: &[JoinedNode],
     visible: &mut Visible,
     held: &mut HeldOffences,
     conjuncts: &mut Seq<Cond>,

@@ -4,7 +4,7 @@ ghost use Rattle.limits.specs.Profile.{most_outputs};
 ghost use Rattle.schema_types.specs.Validity.{IsValid};
 ghost use Rattle.sql_tokens.specs.Words.{IsLexemeOf, name_of};
 ghost use Rattle.query_grammar.specs.Lexemes.{IsNameOf};
-ghost use Rattle.query_names.specs.Values.{outs_from, reference_to};
+ghost use Rattle.query_names.specs.Values.{outs_from, resolved_column};
 ghost use Rattle.query_names.specs.Binding.{schema_of, from_of};
 ghost use Rattle.sql_parse.specs.Outputs.{outs_of_entry_by, capped};
 
@@ -117,7 +117,7 @@ pub fn add_column(
     ensures count { IfOk result (λ _. found.new.count ≡ capped (found.old.count + 1)) }
     ensures outs { IfOk result (λ _. length (from_of binder.now) ≤ 12 → found.new.count ≤ most_outputs
         → found.new.outs ≡ found.old.outs ++ record {
-          column = reference_to (Some column);
+          column = resolved_column (Some column);
           name = name_of binder.now.text.now token.now;
         } ∷ []) }
 {

@@ -10,7 +10,7 @@ ghost use Rattle.query_names.specs.Binding.{from_of, names_in, kinds_in, lists_i
 
 use crate::joins::{look_at_condition, look_at_joins};
 use base_io::Seq;
-use query_grammar::{CondText, PartText};
+use query_grammar::{CondNode, PartNode};
 use query_names::{Binder, HeldOffences, QueryError};
 use query_types::Cond;
 
@@ -18,7 +18,7 @@ use query_types::Cond;
 fn look_at_part(
     binder: &Binder<'_>,
     first: usize,
-    part: &PartText,
+    part: &PartNode,
     held: &mut HeldOffences,
     conjuncts: &mut Seq<Cond>,
 ) -> Result<usize, QueryError>
@@ -44,7 +44,7 @@ fn look_at_part(
 #[tactic(auto, using(crate::proofs::PartFacts::conditions_at, crate::proofs::PartFacts::sources_at, query_names::proofs::Walk::or_first_append))]
 pub fn look_at_parts(
     binder: &Binder<'_>,
-    parts: &[PartText],
+    parts: &[PartNode],
     held: &mut HeldOffences,
     conjuncts: &mut Seq<Cond>,
 ) -> Result<(), QueryError>
@@ -67,7 +67,7 @@ pub fn look_at_parts(
 /// Looks at the condition of WHERE.
 pub fn look_at_filter(
     binder: &Binder<'_>,
-    filter: &Option<CondText>,
+    filter: &Option<CondNode>,
     held: &mut HeldOffences,
     conjuncts: &mut Seq<Cond>,
 ) -> Result<(), QueryError>

@@ -15,7 +15,7 @@ ghost use Rattle.sql_parse.specs.Refusing.{limits_passed, refusals_behind, IsFir
 use crate::clauses::check_clauses;
 use base_io::Seq;
 use limits::{MOST_CONJUNCTS, MOST_ENTRIES, MOST_OUTPUTS};
-use query_grammar::QueryText;
+use query_grammar::QueryNode;
 use query_names::{Binder, HeldOffences, QueryError};
 use query_types::{Cond, Out};
 use schema_types::LimitKind;
@@ -52,7 +52,7 @@ fn first_limit(
 #[tactic(auto, using(crate::proofs::BindFacts::name_refused, crate::proofs::BindFacts::kind_refused))]
 pub fn behind_from(
     binder: &Binder<'_>,
-    query: &QueryText,
+    query: &QueryNode,
 ) -> Result<(Seq<Cond>, Seq<Out>), QueryError>
     requires valid { IsValid (schema_of binder.now) }
     requires ends { length (flat_map sources_of query.now.parts) ≤ length (from_of binder.now) }

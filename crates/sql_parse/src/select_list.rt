@@ -6,13 +6,13 @@ ghost use Rattle.schema_types.specs.Validity.{IsValid};
 ghost use Rattle.sql_tokens.specs.Words.{IsLexemeOf};
 ghost use Rattle.query_grammar.specs.Lexemes.{IsOutOf, IsOutListOf};
 ghost use Rattle.query_names.specs.Answers.{IsNameError};
-ghost use Rattle.query_names.specs.Scopes.{everything};
+ghost use Rattle.query_names.specs.Scopes.{whole_scope};
 ghost use Rattle.query_names.specs.Binding.{Shows, schema_of, from_of, out_offences_of, outs_offences_of};
 ghost use Rattle.sql_parse.specs.Outputs.{all_outs_by, outs_by, selected_by, capped};
 
 use crate::outputs::{Selected, add_column, add_entry};
 use base_io::NoMemory;
-use query_grammar::{OutText, OutsText};
+use query_grammar::{OutNode, OutsNode};
 use query_names::{Binder, Entry, QueryError, Visible};
 use sql_tokens::name;
 
@@ -37,11 +37,11 @@ fn all_outputs(binder: &Binder<'_>) -> Result<Selected, NoMemory>
 fn add_out(
     binder: &Binder<'_>,
     visible: &Visible,
-    out: &OutText,
+    out: &OutNode,
     found: &mut Selected,
 ) -> Result<(), QueryError>
     requires shows { Shows binder.now visible.now }
-    requires all { visible.now.scope ≡ everything (from_of binder.now) }
+    requires all { visible.now.scope ≡ whole_scope (from_of binder.now) }
     requires valid { IsValid (schema_of binder.now) }
     requires tokens { IsOutOf (IsLexemeOf binder.now.text.now) out.now }
     ensures names { IfOk result (λ _. out_offences_of binder.now visible.now.scope out.now ≡ []) }
@@ -51,14 +51,14 @@ fn add_out(
     ensures err { IfErr result (IsNameError (out_offences_of binder.now visible.now.scope out.now)) }
 {
     match out {
-        OutText::All(token) => {
+        OutNode::All(token) => {
             let alias = name(binder.alloc, binder.text, token)?;
             match binder.entry_named(visible.scope, alias.as_str()) {
                 Some(entry) => Ok(add_entry(binder, entry, found)?),
                 None => Err(QueryError::Name { at: token.start }),
             }
         }
-        OutText::Column { column, name } => match binder.resolve(visible, column)? {
+        OutNode::Column { column, name } => match binder.resolve(visible, column)? {
             Some(one) => {
                 let token = name.unwrap_or(column.column);
                 Ok(add_column(binder, one, &token, found)?)
@@ -71,9 +71,9 @@ fn add_out(
 }
 
 /// Looks at the names of all items of a list, in text order, and gathers what the items give.
-fn listed(binder: &Binder<'_>, visible: &Visible, list: &[OutText]) -> Result<Selected, QueryError>
+fn listed(binder: &Binder<'_>, visible: &Visible, list: &[OutNode]) -> Result<Selected, QueryError>
     requires shows { Shows binder.now visible.now }
-    requires all { visible.now.scope ≡ everything (from_of binder.now) }
+    requires all { visible.now.scope ≡ whole_scope (from_of binder.now) }
     requires valid { IsValid (schema_of binder.now) }
     requires tokens { All (IsOutOf (IsLexemeOf binder.now.text.now)) list.now }
     ensures names { IfOk result (λ _. flat_map (out_offences_of binder.now visible.now.scope) list.now ≡ []) }
@@ -94,10 +94,10 @@ fn listed(binder: &Binder<'_>, visible: &Visible, list: &[OutText]) -> Result<Se
 pub fn select(
     binder: &Binder<'_>,
     visible: &Visible,
-    outs: &OutsText,
+    outs: &OutsNode,
 ) -> Result<Selected, QueryError>
     requires shows { Shows binder.now visible.now }
-    requires all { visible.now.scope ≡ everything (from_of binder.now) }
+    requires all { visible.now.scope ≡ whole_scope (from_of binder.now) }
     requires valid { IsValid (schema_of binder.now) }
     requires tokens { IsOutListOf (IsLexemeOf binder.now.text.now) outs.now }
     ensures names { IfOk result (λ _. outs_offences_of binder.now visible.now.scope outs.now ≡ []) }
@@ -107,7 +107,7 @@ pub fn select(
     ensures err { IfErr result (IsNameError (outs_offences_of binder.now visible.now.scope outs.now)) }
 {
     match outs {
-        OutsText::All => Ok(all_outputs(binder)?),
-        OutsText::Listed(list) => listed(binder, visible, list.as_slice()),
+        OutsNode::All => Ok(all_outputs(binder)?),
+        OutsNode::Listed(list) => listed(binder, visible, list.as_slice()),
     }
 }

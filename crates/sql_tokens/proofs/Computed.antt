@@ -138,8 +138,8 @@ none_piece b rest none =
     let t = or_parts (eqb b 34) (eqb b 39) q.1 in
     let minus = and_left (eqb b 45) (eqb (slice_index rest 0) 45) (other_no_minus b p.1) in
     let pair = other_no_pair b (slice_index rest 0) p.1 in
-    let blank = s.0 in let letter = s.1 in let digit = r.1 in let double = t.0 in let single = t.1 in let sign = p.1 in
-    rw (blank, letter, digit, double, single, minus, pair, sign) refl
+    let blank = s.0 in let letter = s.1 in let digit = r.1 in let double = t.0 in let unquoted = t.1 in let sign = p.1 in
+    rw (blank, letter, digit, double, unquoted, minus, pair, sign) refl
 
 never_none : (q : ℕ) (rest : List ℕ) → ((body more : List ℕ) → Closes q rest body more → ⊥) → closed q rest ≡ None
 never_none q rest never = at (closed q rest) refl where

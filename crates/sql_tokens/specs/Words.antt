@@ -29,12 +29,12 @@ pub record IsLexemeOf (text : List ℕ) (lexeme : Lexeme) : Type 0 where
 -- ---- words
 
 -- ASCII letters in upper case, all else as it is
-abbrev pub folded : List ℕ → List ℕ
-folded bytes = map to_ascii_uppercase bytes
+abbrev pub in_upper_case : List ℕ → List ℕ
+in_upper_case bytes = map to_ascii_uppercase bytes
 
 -- the words that some rule of the two grammars asks for, each with its terminal
-abbrev pub read_words : List (List ℕ × Terminal)
-read_words =
+abbrev pub grammar_words : List (List ℕ × Terminal)
+grammar_words =
     (codes "AND", terminal.And) ∷ (codes "AS", terminal.As) ∷ (codes "BETWEEN", terminal.Between)
     ∷ (codes "BIGINT", terminal.Bigint) ∷ (codes "CHAR", terminal.Char) ∷ (codes "CHARACTER", terminal.Character)
     ∷ (codes "CONSTRAINT", terminal.Constraint) ∷ (codes "CREATE", terminal.Create) ∷ (codes "DEFAULT", terminal.Default)
@@ -63,7 +63,7 @@ reserved word = (word, terminal.Reserved)
 
 -- the words that have another terminal than `Name`
 abbrev pub keywords : List (List ℕ × Terminal)
-keywords = read_words ++ map reserved reserved_words
+keywords = grammar_words ++ map reserved reserved_words
 
 -- a word and its terminal, as the code lists them
 abbrev pub entry_of : Bor (List ℕ) × Terminal → List ℕ × Terminal
@@ -77,8 +77,8 @@ terminal_in (entry ∷ rest) word = if bytes_eq entry.0 word then entry.1 else t
 -- ---- terminals
 
 -- < > = ( ) , . ; * + -
-abbrev pub sign_terminal : ℕ → Terminal
-sign_terminal b =
+abbrev pub one_char_terminal : ℕ → Terminal
+one_char_terminal b =
     if b == 60 then terminal.Less
     else (if b == 62 then terminal.Greater
     else (if b == 61 then terminal.Equal
@@ -98,7 +98,7 @@ pair_terminal b c = if b == 62 then terminal.GreaterOrEqual else (if c == 62 the
 -- the terminal of a symbol's bytes
 abbrev pub symbol_terminal : List ℕ → Terminal
 symbol_terminal bytes = if length bytes == 2 then pair_terminal (slice_index bytes 0) (slice_index bytes 1)
-    else sign_terminal (slice_index bytes 0)
+    else one_char_terminal (slice_index bytes 0)
 
 abbrev pub is_zero_digit : ℕ → Bool
 is_zero_digit b = b == 48
@@ -109,7 +109,7 @@ number_terminal bytes = if list_all is_zero_digit bytes then terminal.Zero else 
 
 -- the terminal of a token of these bytes; a delimited identifier is a name, even if its characters are those of a keyword
 unfoldable pub terminal_of : TokenKind → List ℕ → Terminal
-terminal_of kind.Word bytes = terminal_in keywords (folded bytes)
+terminal_of kind.Word bytes = terminal_in keywords (in_upper_case bytes)
 terminal_of kind.Quoted bytes = terminal.Name
 terminal_of kind.Number bytes = number_terminal bytes
 terminal_of kind.Text bytes = terminal.Text
@@ -126,15 +126,15 @@ lexeme_of text token = record {
 -- ---- names, text literals and numbers
 
 -- the characters after an opening quote, up to the closing one; a doubled quote stands for one quote
-abbrev pub single : ℕ → List ℕ → List ℕ
-single quote [] = []
-single quote (b ∷ []) = if b == quote then [] else b ∷ []
-single quote (b ∷ c ∷ rest) = if b == quote then (if c == quote then quote ∷ single quote rest else []) else b ∷ single quote (c ∷ rest)
+abbrev pub unquoted : ℕ → List ℕ → List ℕ
+unquoted quote [] = []
+unquoted quote (b ∷ []) = if b == quote then [] else b ∷ []
+unquoted quote (b ∷ c ∷ rest) = if b == quote then (if c == quote then quote ∷ unquoted quote rest else []) else b ∷ unquoted quote (c ∷ rest)
 
 -- the name in a delimited identifier is what stands between its quotes; a word is folded
 abbrev pub name_of_bytes : List ℕ → List ℕ
 name_of_bytes [] = []
-name_of_bytes (b ∷ rest) = if b == 34 then single 34 rest else folded (b ∷ rest)
+name_of_bytes (b ∷ rest) = if b == 34 then unquoted 34 rest else in_upper_case (b ∷ rest)
 
 -- the name that a token stands for; names are equal if their lists are (SQL-92 5.2)
 unfoldable pub name_of : List ℕ → Lexeme → List ℕ
@@ -142,7 +142,7 @@ name_of text lexeme = name_of_bytes (slice text lexeme.start lexeme.end)
 
 abbrev pub literal_of_bytes : List ℕ → List ℕ
 literal_of_bytes [] = []
-literal_of_bytes (b ∷ rest) = if b == 39 then single 39 rest else b ∷ rest
+literal_of_bytes (b ∷ rest) = if b == 39 then unquoted 39 rest else b ∷ rest
 
 -- the characters of a text literal, without its quotes
 unfoldable pub literal_of : List ℕ → Lexeme → List ℕ

@@ -1,7 +1,7 @@
 //! Words that are no names everywhere (SQL-92 5.2), and their terminals.
 ghost use Rattle.std.specs.Prelude.{◌≡◌, map};
 ghost use Rattle.std.specs.Str.{bytes_eq};
-ghost use Rattle.sql_tokens.specs.Words.{entry_of, folded, keywords, terminal_in};
+ghost use Rattle.sql_tokens.specs.Words.{entry_of, in_upper_case, keywords, terminal_in};
 
 use ll_grammars::Terminal;
 
@@ -74,7 +74,7 @@ const KEYWORDS: &[(&str, Terminal)] = &[
 /// Whether the bytes are this word in upper or lower case.
 #[tactic(auto, using(crate::proofs::Spelling::other_length, crate::proofs::Spelling::one_letter_more, crate::proofs::Spelling::another_letter, crate::proofs::Spelling::no_letter_left))]
 fn is_spelled(word: &[u8], bytes: &[u8]) -> bool
-    ensures { result ≡ bytes_eq word.now (folded bytes.now) }
+    ensures { result ≡ bytes_eq word.now (in_upper_case bytes.now) }
 {
     if word.len() != bytes.len() {
         return false;
@@ -88,7 +88,7 @@ fn is_spelled(word: &[u8], bytes: &[u8]) -> bool
 }
 
 fn find(keywords: &[(&str, Terminal)], bytes: &[u8]) -> Terminal
-    ensures { result ≡ terminal_in (map entry_of keywords.now) (folded bytes.now) }
+    ensures { result ≡ terminal_in (map entry_of keywords.now) (in_upper_case bytes.now) }
 {
     'all: for (word, terminal) in keywords {
         if is_spelled(word.as_bytes(), bytes) {
@@ -100,7 +100,7 @@ fn find(keywords: &[(&str, Terminal)], bytes: &[u8]) -> Terminal
 
 /// The terminal of a word.
 pub fn word_terminal(bytes: &[u8]) -> Terminal
-    ensures { result ≡ terminal_in keywords (folded bytes.now) }
+    ensures { result ≡ terminal_in keywords (in_upper_case bytes.now) }
 {
     find(KEYWORDS, bytes)
 }

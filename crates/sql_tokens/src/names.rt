@@ -1,6 +1,6 @@
 //! The names, text literals and numbers that tokens are.
 ghost use Rattle.std.specs.Prelude.{◌≡◌, ◌<◌, ◌-◌, ◌^◌, IfOk, min, string_bytes};
-ghost use Rattle.sql_tokens.specs.Words.{IsLexemeOf, slice, name_of, literal_of, number_of, single, name_of_bytes, literal_of_bytes};
+ghost use Rattle.sql_tokens.specs.Words.{IsLexemeOf, slice, name_of, literal_of, number_of, unquoted, name_of_bytes, literal_of_bytes};
 
 use base_io::{Name, NoMemory};
 use ll_grammars::Lexeme;
@@ -21,7 +21,7 @@ fn part<'a>(text: &'a [u8], lexeme: &Lexeme) -> &'a str
 #[tactic(auto, using(crate::proofs::Unquoting::single_goes_on, crate::proofs::Unquoting::single_ends, crate::proofs::Unquoting::single_whole))]
 fn unquote(alloc: Global, quote: char, text: &str) -> Result<String, NoMemory>
     requires { quote < 128 }
-    ensures { IfOk result (λ found. string_bytes found ≡ single quote text.now) }
+    ensures { IfOk result (λ found. string_bytes found ≡ unquoted quote text.now) }
 {
     let mut found = String::new(alloc);
     let mut rest = text;

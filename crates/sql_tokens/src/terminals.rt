@@ -1,6 +1,6 @@
 //! The terminal of each token.
 ghost use Rattle.std.specs.Prelude.{◌≡◌, map, IfOk, All};
-ghost use Rattle.sql_tokens.specs.Words.{IsTokenOf, IsLexemeOf, lexeme_of, terminal_of, symbol_terminal, sign_terminal, pair_terminal, number_terminal, is_zero_digit};
+ghost use Rattle.sql_tokens.specs.Words.{IsTokenOf, IsLexemeOf, lexeme_of, terminal_of, symbol_terminal, one_char_terminal, pair_terminal, number_terminal, is_zero_digit};
 ghost use Rattle.std.specs.List.{list_all};
 
 use crate::keywords::word_terminal;
@@ -10,7 +10,7 @@ use ll_grammars::{Lexeme, Terminal};
 use std::alloc::Global;
 
 fn sign(byte: u8) -> Terminal
-    ensures { result ≡ sign_terminal byte }
+    ensures { result ≡ one_char_terminal byte }
 {
     match byte {
         b'<' => Terminal::Less,

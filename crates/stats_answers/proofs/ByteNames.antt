@@ -8,8 +8,8 @@ use Rattle.std.proofs.lemmas.Bool.Decides.{nat_tests}
 use Rattle.ll_grammars.specs.declared.lexeme.Lexeme.{Lexeme}
 use Rattle.schema_grammar.specs.declared.tree.Element.{Element}
 use Rattle.schema_grammar.specs.declared.tree.Element.TheVariants as element
-use Rattle.schema_grammar.specs.declared.tree.TableText.{TableText}
-use Rattle.sql_tokens.specs.Words.{folded, name_of, name_of_bytes, single, slice}
+use Rattle.schema_grammar.specs.declared.tree.TableNode.{TableNode}
+use Rattle.sql_tokens.specs.Words.{in_upper_case, name_of, name_of_bytes, unquoted, slice}
 use Rattle.schema_types.specs.declared.errors.SchemaError.{SchemaError}
 use Rattle.schema_types.specs.declared.types.Column.{Column}
 use Rattle.schema_types.specs.declared.types.Schema.{Schema}
@@ -35,25 +35,25 @@ rest_bytes zero bytes are = are
 rest_bytes (suc k) [] are = tt
 rest_bytes (suc k) (b ∷ bytes) are = rest_bytes k bytes are.1
 
-single_bytes : (quote : ℕ) (bytes : List ℕ) → AreBytes bytes → AreBytes (single quote bytes)
+single_bytes : (quote : ℕ) (bytes : List ℕ) → AreBytes bytes → AreBytes (unquoted quote bytes)
 single_bytes quote [] are = tt
 single_bytes quote (b ∷ []) are = cond_both (b == quote) [] (b ∷ []) AreBytes (λ e. tt) (λ e. are)
 single_bytes quote (b ∷ c ∷ rest) are =
-    cond_both (b == quote) (if c == quote then quote ∷ single quote rest else []) (b ∷ single quote (c ∷ rest)) AreBytes
-    (λ e. cond_both (c == quote) (quote ∷ single quote rest) [] AreBytes (λ f. (grind (arith, nat_tests), single_bytes quote rest are.1.1)) (λ f. tt))
+    cond_both (b == quote) (if c == quote then quote ∷ unquoted quote rest else []) (b ∷ unquoted quote (c ∷ rest)) AreBytes
+    (λ e. cond_both (c == quote) (quote ∷ unquoted quote rest) [] AreBytes (λ f. (grind (arith, nat_tests), single_bytes quote rest are.1.1)) (λ f. tt))
     (λ e. (are.0, single_bytes quote (c ∷ rest) are.1))
 
 upper_byte : (c : ℕ) → c < 256 → to_ascii_uppercase c < 256
 upper_byte c small = grind (arith, nat_tests)
 
-folded_bytes : (bytes : List ℕ) → AreBytes bytes → AreBytes (folded bytes)
+folded_bytes : (bytes : List ℕ) → AreBytes bytes → AreBytes (in_upper_case bytes)
 folded_bytes [] are = tt
 folded_bytes (b ∷ bytes) are = (upper_byte b are.0, folded_bytes bytes are.1)
 
 named_bytes : (bytes : List ℕ) → AreBytes bytes → AreBytes (name_of_bytes bytes)
 named_bytes [] are = tt
 named_bytes (b ∷ rest) are =
-    cond_both (b == 34) (single 34 rest) (folded (b ∷ rest)) AreBytes (λ e. single_bytes 34 rest are.1) (λ e. folded_bytes (b ∷ rest) are)
+    cond_both (b == 34) (unquoted 34 rest) (in_upper_case (b ∷ rest)) AreBytes (λ e. single_bytes 34 rest are.1) (λ e. folded_bytes (b ∷ rest) are)
 
 name_bytes : (text : List ℕ) (lexeme : Lexeme) → AreBytes text → AreBytes (name_of text lexeme)
 unfolding name_of
@@ -74,13 +74,13 @@ columns_bytes text (element.Column column ∷ elements) are zero d lt = name_byt
 columns_bytes text (element.Column column ∷ elements) are (suc k) d lt = columns_bytes text elements are k d (omega arith)
 columns_bytes text (element.Rule rule ∷ elements) are k d lt = columns_bytes text elements are k d lt
 
-tables_bytes : (text : List ℕ) (tables some : List TableText) → AreBytes text → All HasByteNames (map (table_of text tables) some)
+tables_bytes : (text : List ℕ) (tables some : List TableNode) → AreBytes text → All HasByteNames (map (table_of text tables) some)
 unfolding table_of
 tables_bytes text tables [] are k d lt = absurd (omega arith)
 tables_bytes text tables (table ∷ some) are zero d lt = columns_bytes text table.elements are
 tables_bytes text tables (table ∷ some) are (suc k) d lt = tables_bytes text tables some are k d (omega arith)
 
-schema_bytes : (text : List ℕ) (tables : List TableText) → AreBytes text → HasByteColumns (schema_of text tables)
+schema_bytes : (text : List ℕ) (tables : List TableNode) → AreBytes text → HasByteColumns (schema_of text tables)
 unfolding schema_of
 schema_bytes text tables are = tables_bytes text tables tables are
 

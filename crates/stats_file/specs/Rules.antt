@@ -75,7 +75,7 @@ abbrev pub StandsBefore : Pair → Pair → Type 0
 StandsBefore a b = (a.filter < b.filter) ⊎ ((a.filter ≡ b.filter) × (a.joined < b.joined))
 
 -- two pairs count the same rows of their filter column: frequent values and cuts are the same, and lists at equal places have equal sums
-pub record CountTheSame (a b : Pair) : Type 0 where
+pub record HaveSameFilterCounts (a b : Pair) : Type 0 where
   pub values : map (λ (f : Datum × List ℕ). f.0) a.frequent ≡ map (λ (f : Datum × List ℕ). f.0) b.frequent
   pub totals : map (λ (f : Datum × List ℕ). sum f.1) a.frequent ≡ map (λ (f : Datum × List ℕ). sum f.1) b.frequent
   pub rest : sum a.rest ≡ sum b.rest
@@ -85,7 +85,7 @@ pub record CountTheSame (a b : Pair) : Type 0 where
 -- two pairs agree: with the same joined column they have one list of all rows, and with the same filter column they count the same rows
 pub record Agree (a b : Pair) : Type 0 where
   pub joined : a.joined ≡ b.joined → a.whole ≡ b.whole
-  pub filter : a.filter ≡ b.filter → CountTheSame a b
+  pub filter : a.filter ≡ b.filter → HaveSameFilterCounts a b
 
 -- the section of a table of the schema: its number of rows, and pairs in order, any two of which agree
 pub record IsSection (schema : Schema) (section : TableStats) : Type 0 where

@@ -14,7 +14,7 @@ use Rattle.level_bounds.proofs.Lists.{all_true, in_map, true_in}
 use Rattle.stats_file.specs.declared.types.Datum.{Datum}
 use Rattle.stats_file.specs.declared.types.Pair.{Pair}
 use Rattle.stats_file.specs.declared.types.TableStats.{TableStats}
-use Rattle.stats_file.specs.Rules.{Agree, CountTheSame}
+use Rattle.stats_file.specs.Rules.{Agree, HaveSameFilterCounts}
 use Rattle.stats_file_of_query.specs.declared.needs.Needs.{Needs}
 use Rattle.stats_file_of_query.specs.declared.column_pairs.ColumnPair.{ColumnPair}
 use Rattle.stats_file_of_query.specs.Needs.{pairs_of}
@@ -76,7 +76,7 @@ same_end : (a b : Pair) → a.cuts ≡ b.cuts → (end : Option Value) → optio
 same_end a b same None = refl
 same_end a b same (Some value) = ap Some (same_leaf a b same value)
 
-pub count_sums : (a b : Pair) → CountTheSame a b → HaveSums a b
+pub count_sums : (a b : Pair) → HaveSameFilterCounts a b → HaveSums a b
 count_sums a b same = record {
   value = λ value. same_value value a.frequent b.frequent a.rest b.rest same.values same.totals same.rest;
   between = λ low high.

@@ -15,7 +15,7 @@ use Rattle.column_stats.specs.Stats.{frequent_list, frequent_lists}
 use Rattle.degree_sequences.specs.Degrees.{degree}
 use Rattle.level_bounds.proofs.Lists.{map_both}
 use Rattle.stats_file.specs.declared.types.Datum.{Datum}
-use Rattle.stats_file.specs.Rules.{CountTheSame}
+use Rattle.stats_file.specs.Rules.{HaveSameFilterCounts}
 use Rattle.stats_file_of_query.specs.Pairs.{frequent_in, pair_of}
 
 pub map-flat : (F : ℕ → List (List ℕ)) (xs : List ℕ) → map sum (flat_map F xs) ≡ flat_map (λ x. map sum (F x)) xs
@@ -55,7 +55,7 @@ module _ (le : ℕ → ℕ → Bool) (datum : ℕ → Datum) (k : ℕ) where
         ∙ map_both (λ (found : FrequentList). sum found.list) (frequent_list k rows) (λ n. count_by (λ other. eqb other n) (filter_values rows))
         (λ n. sum-compressed_degrees k (keys_with n rows) ∙ length-keys_where (λ other. eqb other n) rows) (frequent (filter_values rows))
 
-  pub count_same : (rows others : List (ℕ × ℕ)) → filter_values rows ≡ filter_values others → (a b a' b' : ℕ) → CountTheSame (pair_of le datum k rows a b) (pair_of le datum k others a' b')
+  pub count_same : (rows others : List (ℕ × ℕ)) → filter_values rows ≡ filter_values others → (a b a' b' : ℕ) → HaveSameFilterCounts (pair_of le datum k rows a b) (pair_of le datum k others a' b')
   count_same rows others same a b a' b' = record {
     values = values_are rows ∙ ap (λ (s : List ℕ). map datum (frequent s)) same ∙ sym (values_are others);
     totals = totals_are rows ∙ ap (λ (s : List ℕ). map (λ n. count_by (λ other. eqb other n) s) (frequent s)) same ∙ sym (totals_are others);

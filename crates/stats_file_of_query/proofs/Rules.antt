@@ -26,7 +26,7 @@ use Rattle.sql_meaning.proofs.LoopFacts.{rows_are}
 use Rattle.stats_file.specs.declared.types.Pair.{Pair}
 use Rattle.stats_file.specs.declared.types.StatsFile.{StatsFile}
 use Rattle.stats_file.specs.declared.types.TableStats.{TableStats}
-use Rattle.stats_file.specs.Rules.{Agree, CountTheSame, IsPair, IsSection, KeepsRules, StandsBefore}
+use Rattle.stats_file.specs.Rules.{Agree, HaveSameFilterCounts, IsPair, IsSection, KeepsRules, StandsBefore}
 use Rattle.stats_file_of_query.specs.declared.column_pairs.ColumnPair.{ColumnPair}
 use Rattle.stats_file_of_query.specs.Needs.{needed_of_table, table_of}
 use Rattle.stats_file_of_query.specs.Databases.{IsOverSchema, section_of_cells, sections_of_cells}
@@ -73,7 +73,7 @@ module _ (texts : List (List ℕ)) (differ : HaveDifferentCharacters texts) (utf
       ∙ sym (columns_are (cells_of_column cells other) (cells_of_column cells joined) (as_high other joined has_other has_joined)).1)
 
   same_counts : (filter joined also : ℕ) → filter < length cells.kinds → joined < length cells.kinds → also < length cells.kinds
-      → CountTheSame (pair_in_cells texts cells accuracy filter joined) (pair_in_cells texts cells accuracy filter also)
+      → HaveSameFilterCounts (pair_in_cells texts cells accuracy filter joined) (pair_in_cells texts cells accuracy filter also)
   same_counts filter joined also has_filter has_joined has_also =
       count_same (cell_le texts (kind_of_column cells filter)) (datum_of_cell texts cells filter) accuracy (rows_of_pair cells filter joined) (rows_of_pair cells filter also)
       ((columns_are (cells_of_column cells filter) (cells_of_column cells joined) (as_high filter joined has_filter has_joined)).0
@@ -83,7 +83,7 @@ module _ (texts : List (List ℕ)) (differ : HaveDifferentCharacters texts) (utf
       → Agree (pair_in_cells texts cells accuracy filter joined) (pair_in_cells texts cells accuracy other also)
   agree filter joined other also has_filter has_joined has_other has_also = record {
     joined = λ same. same_whole filter joined other has_filter has_joined has_other ∙ ap (λ j. (pair_in_cells texts cells accuracy other j).whole) same;
-    filter = λ same. subst (λ f. CountTheSame (pair_in_cells texts cells accuracy filter joined) (pair_in_cells texts cells accuracy f also)) same
+    filter = λ same. subst (λ f. HaveSameFilterCounts (pair_in_cells texts cells accuracy filter joined) (pair_in_cells texts cells accuracy f also)) same
         (same_counts filter joined also has_filter has_joined has_also);
   }
 

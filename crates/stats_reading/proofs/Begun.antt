@@ -15,7 +15,7 @@ use Rattle.stats_file.specs.declared.types.Datum.{Datum}
 use Rattle.stats_file.specs.declared.types.Datum.TheVariants as datum
 use Rattle.stats_file.specs.declared.types.Pair.{Pair}
 use Rattle.stats_file.specs.declared.types.TableStats.{TableStats}
-use Rattle.stats_file.specs.Rules.{datum_cmp, Agree, AreFrequent, CountTheSame, IsList, IsOfKind, IsPair, IsSection, IsHistogram, IsHistogramOf, KeepsRules}
+use Rattle.stats_file.specs.Rules.{datum_cmp, Agree, AreFrequent, HaveSameFilterCounts, IsList, IsOfKind, IsPair, IsSection, IsHistogram, IsHistogramOf, KeepsRules}
 use Rattle.stats_reading.specs.declared.draft.Draft.{Draft}
 use Rattle.stats_reading.specs.Drafts.{empty_pair, pair_ended, table_ended, AreSmall, BeginsPair, IsPlaceOf, HasAllNodes, MayBePair, MayBeTable, Place}
 use Rattle.stats_reading.specs.Left.{file_of_draft, frequent_lines, section_of, whole_line, CutsLeft, WholeLeft}
@@ -143,7 +143,7 @@ record Counted (s : Draft) (kind : Kind) (rows filter joined : ℕ) (whole : Lis
   rest_is : IsList rows rest
   tree : IsHistogramOf kind rows cuts nodes
   counts : (k : ℕ) (d : Pair) → k < length s.section.pairs → (get_or s.section.pairs k d).filter ≡ filter
-      → CountTheSame (get_or s.section.pairs k d) (record { filter = filter; joined = joined; whole = whole; frequent = frequent; rest = rest; cuts = cuts; nodes = nodes })
+      → HaveSameFilterCounts (get_or s.section.pairs k d) (record { filter = filter; joined = joined; whole = whole; frequent = frequent; rest = rest; cuts = cuts; nodes = nodes })
 
 no_values : (kind : Kind) (rows : ℕ) → AreFrequent kind rows []
 no_values kind rows = record {
@@ -188,8 +188,8 @@ copied table s kind filter joined place whole q is same agree at column = record
   counts = λ k d lt e. again k d ((members_agree s.section.pairs k place d q agree lt at).filter (e ∙ sym column));
 }
   where
-    again : (k : ℕ) (d : Pair) → CountTheSame (get_or s.section.pairs k d) q
-        → CountTheSame (get_or s.section.pairs k d) (record { filter = filter; joined = joined; whole = whole; frequent = q.frequent; rest = q.rest; cuts = q.cuts; nodes = q.nodes })
+    again : (k : ℕ) (d : Pair) → HaveSameFilterCounts (get_or s.section.pairs k d) q
+        → HaveSameFilterCounts (get_or s.section.pairs k d) (record { filter = filter; joined = joined; whole = whole; frequent = q.frequent; rest = q.rest; cuts = q.cuts; nodes = q.nodes })
     again k d h = record { values = h.values; totals = h.totals; rest = h.rest; cuts = h.cuts; nodes = h.nodes }
 
 -- the list of all rows

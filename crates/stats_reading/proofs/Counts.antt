@@ -4,20 +4,20 @@ use Rattle.std.specs.Prelude.{All, AllPairs, slice_get}
 use Rattle.std.proofs.lemmas.Option.{get_or_from_slice_get, slice_get_within}
 use Rattle.schema_types.specs.declared.types.Table.{Table}
 use Rattle.stats_file.specs.declared.types.Pair.{Pair}
-use Rattle.stats_file.specs.Rules.{Agree, CountTheSame}
+use Rattle.stats_file.specs.Rules.{Agree, HaveSameFilterCounts}
 use Rattle.stats_reading.specs.declared.draft.Draft.{Draft}
 use Rattle.stats_reading.specs.Drafts.{IsLike, IsTwin}
 use Rattle.stats_reading.specs.Valid.{IsKnown}
 use Rattle.stats_reading.proofs.NextFacts.{twin_whole}
 use Rattle.stats_reading.proofs.RuleFacts.{PairRules}
 
-pub counts_itself : (a : Pair) → CountTheSame a a
+pub counts_itself : (a : Pair) → HaveSameFilterCounts a a
 counts_itself a = record { values = refl; totals = refl; rest = refl; cuts = refl; nodes = refl }
 
-pub counts_back : (a b : Pair) → CountTheSame a b → CountTheSame b a
+pub counts_back : (a b : Pair) → HaveSameFilterCounts a b → HaveSameFilterCounts b a
 counts_back a b h = record { values = sym h.values; totals = sym h.totals; rest = sym h.rest; cuts = sym h.cuts; nodes = sym h.nodes }
 
-pub counts_too : (a b c : Pair) → CountTheSame a b → CountTheSame b c → CountTheSame a c
+pub counts_too : (a b c : Pair) → HaveSameFilterCounts a b → HaveSameFilterCounts b c → HaveSameFilterCounts a c
 counts_too a b c h k = record { values = h.values ∙ k.values; totals = h.totals ∙ k.totals; rest = h.rest ∙ k.rest; cuts = h.cuts ∙ k.cuts; nodes = h.nodes ∙ k.nodes }
 
 pub agree_back : (a b : Pair) → Agree a b → Agree b a
@@ -56,7 +56,7 @@ members_agree pairs i j d e agree lt is = subst (λ (x : Pair). Agree (get_or pa
 
 -- another pair of the same columns and list of all rows agrees, where it counts the same as the one with this filter column does
 pub agrees_after : (table : Table) (s : Draft) (p other : Pair) (rows : ℕ) → IsKnown table s → PairRules table rows s.section.pairs p → p.filter ≡ s.pair.filter
-    → other.filter ≡ p.filter → other.joined ≡ p.joined → other.whole ≡ p.whole → ((q : Pair) → IsLike s q → CountTheSame p other) → All (λ q. Agree q other) s.section.pairs
+    → other.filter ≡ p.filter → other.joined ≡ p.joined → other.whole ≡ p.whole → ((q : Pair) → IsLike s q → HaveSameFilterCounts p other) → All (λ q. Agree q other) s.section.pairs
 agrees_after table s p other rows known rules at_filter same_filter same_joined same_whole counts k d lt =
     let q = get_or s.section.pairs k d in
     let old = rules.agree k d lt in
@@ -65,7 +65,7 @@ agrees_after table s p other rows known rules at_filter same_filter same_joined 
       filter = λ e. by_like (e ∙ same_filter) (slice_get s.section.pairs s.same_filter_at) refl;
     }
   where
-    by_like : (get_or s.section.pairs k d).filter ≡ p.filter → (o : Option Pair) → slice_get s.section.pairs s.same_filter_at ≡ o → CountTheSame (get_or s.section.pairs k d) other
+    by_like : (get_or s.section.pairs k d).filter ≡ p.filter → (o : Option Pair) → slice_get s.section.pairs s.same_filter_at ≡ o → HaveSameFilterCounts (get_or s.section.pairs k d) other
     by_like e None is = absurd (known.same_filter_at.none is k d lt (e ∙ at_filter))
     by_like e (Some same_filter_at) is = counts_too (get_or s.section.pairs k d) p other ((rules.agree k d lt).filter e) (counts same_filter_at is)
 
@@ -76,7 +76,7 @@ agrees_whole table s p list rows known rules at_joined alike k d lt =
     let old = rules.agree k d lt in
     record { joined = λ e. by_twin e (slice_get s.section.pairs s.same_joined_at) refl; filter = λ e. again (old.filter e) }
   where
-    again : CountTheSame (get_or s.section.pairs k d) p → CountTheSame (get_or s.section.pairs k d) (record p { whole = list })
+    again : HaveSameFilterCounts (get_or s.section.pairs k d) p → HaveSameFilterCounts (get_or s.section.pairs k d) (record p { whole = list })
     again h = record { values = h.values; totals = h.totals; rest = h.rest; cuts = h.cuts; nodes = h.nodes }
 
     by_twin : (get_or s.section.pairs k d).joined ≡ p.joined → (o : Option Pair) → slice_get s.section.pairs s.same_joined_at ≡ o → (get_or s.section.pairs k d).whole ≡ list

@@ -7,7 +7,7 @@ use Rattle.schema_types.specs.declared.types.Schema.{Schema}
 use Rattle.schema_types.specs.declared.types.Table.{Table}
 use Rattle.stats_file.specs.declared.types.Datum.{Datum}
 use Rattle.stats_file.specs.declared.types.Pair.{Pair}
-use Rattle.stats_file.specs.Rules.{AreFrequent, CountTheSame, IsList, IsOfKind, KeepsRules}
+use Rattle.stats_file.specs.Rules.{AreFrequent, HaveSameFilterCounts, IsList, IsOfKind, KeepsRules}
 use Rattle.stats_reading.specs.declared.draft.Draft.{Draft}
 use Rattle.stats_reading.specs.Drafts.{with_frequent, with_rest, with_whole, IsLike, MayBeFrequent, MayBeRest, MayBeWhole}
 use Rattle.stats_reading.specs.Left.{file_of_draft, frequent_lines, section_of, histogram_lines, CutsLeft, FrequentLeft, WholeLeft}
@@ -81,7 +81,7 @@ whole_grown schema s list v may =
 record Next (s : Draft) (p : Pair) (f : Datum × List ℕ) (kind : Kind) : Type 0 where
   rest : List (Datum × List ℕ)
   are : AreFrequent kind s.section.rows (s.pair.frequent ++ f ∷ rest)
-  counts : (q : Pair) → IsLike s q → CountTheSame p (record p { frequent = s.pair.frequent ++ f ∷ rest })
+  counts : (q : Pair) → IsLike s q → HaveSameFilterCounts p (record p { frequent = s.pair.frequent ++ f ∷ rest })
 
 next_alone : (s : Draft) (p : Pair) (f : Datum × List ℕ) (old : List (Datum × List ℕ)) (kind : Kind) → kind ≡ s.kind → AreFrequent kind s.section.rows p.frequent
     → p.frequent ≡ s.pair.frequent ++ old → MayBeFrequent s f → slice_get s.section.pairs s.same_filter_at ≡ None → Next s p f kind
@@ -111,7 +111,7 @@ at_front [] (y ∷ old) x is = let same : y ≡ x = cc in (old, ap (λ z. z ∷ 
 at_front (z ∷ front) old x is = at_front front old x is
 
 next_like : (s : Draft) (p q : Pair) (f : Datum × List ℕ) (old : List (Datum × List ℕ)) (kind : Kind) → AreFrequent kind s.section.rows p.frequent → p.frequent ≡ s.pair.frequent ++ old
-    → MayBeFrequent s f → IsLike s q → CountTheSame q p → Next s p f kind
+    → MayBeFrequent s f → IsLike s q → HaveSameFilterCounts q p → Next s p f kind
 next_like s p q f old kind are is may same_filter_at same =
     let front = s.pair.frequent in
     let n = length front in
@@ -147,7 +147,7 @@ next_like s p q f old kind are is may same_filter_at same =
     }
 
 next_of : (s : Draft) (p : Pair) (f : Datum × List ℕ) (old : List (Datum × List ℕ)) (kind : Kind) → kind ≡ s.kind → AreFrequent kind s.section.rows p.frequent
-    → p.frequent ≡ s.pair.frequent ++ old → MayBeFrequent s f → ((q : Pair) → IsLike s q → CountTheSame q p) → Next s p f kind
+    → p.frequent ≡ s.pair.frequent ++ old → MayBeFrequent s f → ((q : Pair) → IsLike s q → HaveSameFilterCounts q p) → Next s p f kind
 next_of s p f old kind same are is may counts = by_like (slice_get s.section.pairs s.same_filter_at) refl
   where
     by_like : (o : Option Pair) → slice_get s.section.pairs s.same_filter_at ≡ o → Next s p f kind
@@ -157,7 +157,7 @@ next_of s p f old kind same are is may counts = by_like (slice_get s.section.pai
 -- the rules of a pair with other frequent values and another list of the others
 other_values : (table : Table) (s : Draft) (p : Pair) (frequent : List (Datum × List ℕ)) (rest : List ℕ) → IsKnown table s → PairRules table s.section.rows s.section.pairs p
     → p.filter ≡ s.pair.filter → AreFrequent s.kind s.section.rows frequent → IsList s.section.rows rest
-    → ((q : Pair) → IsLike s q → CountTheSame p (record p { frequent = frequent; rest = rest }))
+    → ((q : Pair) → IsLike s q → HaveSameFilterCounts p (record p { frequent = frequent; rest = rest }))
     → PairRules table s.section.rows s.section.pairs (record p { frequent = frequent; rest = rest })
 other_values table s p frequent rest known rules at_filter are is counts =
     let old = rules.is in
@@ -264,8 +264,8 @@ rest_grown schema s list v may =
     known_again : (table : Table) → IsKnown table s → IsKnown table (with_rest s list)
     known_again table k = record { column = k.column; column_is = k.column_is; kind_is = k.kind_is; same_filter_at = k.same_filter_at; same_joined_at = k.same_joined_at }
 
-    counted : (p : Pair) (old : List (Datum × List ℕ)) → p.frequent ≡ s.pair.frequent ++ old → (q : Pair) → IsLike s q → CountTheSame q p
-        → CountTheSame p (record p { frequent = s.pair.frequent; rest = list })
+    counted : (p : Pair) (old : List (Datum × List ℕ)) → p.frequent ≡ s.pair.frequent ++ old → (q : Pair) → IsLike s q → HaveSameFilterCounts q p
+        → HaveSameFilterCounts p (record p { frequent = s.pair.frequent; rest = list })
     counted p old is q same_filter_at counts =
         let alike = may.1.alike q same_filter_at in
         let len : length (s.pair.frequent ++ old) ≡ length s.pair.frequent = sym (ap length is) ∙ sym (same_count p q counts) ∙ alike.count_is in

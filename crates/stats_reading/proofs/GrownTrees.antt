@@ -9,7 +9,7 @@ use Rattle.schema_types.specs.declared.types.Schema.{Schema}
 use Rattle.schema_types.specs.declared.types.Table.{Table}
 use Rattle.stats_file.specs.declared.types.Datum.{Datum}
 use Rattle.stats_file.specs.declared.types.Pair.{Pair}
-use Rattle.stats_file.specs.Rules.{datum_cmp, CountTheSame, IsList, IsOfKind, IsHistogram, IsHistogramOf}
+use Rattle.stats_file.specs.Rules.{datum_cmp, HaveSameFilterCounts, IsList, IsOfKind, IsHistogram, IsHistogramOf}
 use Rattle.stats_reading.specs.declared.draft.Draft.{Draft}
 use Rattle.stats_reading.specs.Drafts.{with_cut, with_node, IsLike, MayBeCut, MayBeNode}
 use Rattle.stats_reading.specs.Left.{histogram_lines, CutsLeft, NodesLeft}
@@ -28,7 +28,7 @@ use Rattle.stats_reading.proofs.Grown.{at_front, kept, no_more, rules_of}
 record NextCut (s : Draft) (p : Pair) (cut : Datum) (kind : Kind) : Type 0 where
   rest : List Datum
   is : IsHistogram kind s.section.rows (s.pair.cuts ++ cut ∷ rest) p.nodes
-  counts : (q : Pair) → IsLike s q → CountTheSame p (record p { cuts = s.pair.cuts ++ cut ∷ rest })
+  counts : (q : Pair) → IsLike s q → HaveSameFilterCounts p (record p { cuts = s.pair.cuts ++ cut ∷ rest })
 
 next_cut_alone : (s : Draft) (p : Pair) (cut : Datum) (old : List Datum) (kind : Kind) → kind ≡ s.kind → IsHistogram kind s.section.rows p.cuts p.nodes → p.cuts ≡ s.pair.cuts ++ old
     → MayBeCut s cut → slice_get s.section.pairs s.same_filter_at ≡ None → NextCut s p cut kind
@@ -54,7 +54,7 @@ next_cut_alone s p cut old kind same tree is may none =
     }
 
 next_cut_like : (s : Draft) (p q : Pair) (cut : Datum) (old : List Datum) (kind : Kind) → IsHistogram kind s.section.rows p.cuts p.nodes → p.cuts ≡ s.pair.cuts ++ old
-    → MayBeCut s cut → IsLike s q → CountTheSame q p → NextCut s p cut kind
+    → MayBeCut s cut → IsLike s q → HaveSameFilterCounts q p → NextCut s p cut kind
 next_cut_like s p q cut old kind tree is may same_filter_at same =
     let front = s.pair.cuts in
     let there : slice_get (front ++ old) (length front) ≡ Some cut = ap (λ (l : List Datum). slice_get l (length front)) (sym (same.cuts ∙ is)) ∙ may.1.alike q same_filter_at in
@@ -67,7 +67,7 @@ next_cut_like s p q cut old kind tree is may same_filter_at same =
     }
 
 next_cut_of : (s : Draft) (p : Pair) (cut : Datum) (old : List Datum) (kind : Kind) → kind ≡ s.kind → IsHistogram kind s.section.rows p.cuts p.nodes → p.cuts ≡ s.pair.cuts ++ old
-    → MayBeCut s cut → ((q : Pair) → IsLike s q → CountTheSame q p) → NextCut s p cut kind
+    → MayBeCut s cut → ((q : Pair) → IsLike s q → HaveSameFilterCounts q p) → NextCut s p cut kind
 next_cut_of s p cut old kind same tree is may counts = by_like (slice_get s.section.pairs s.same_filter_at) refl
   where
     by_like : (o : Option Pair) → slice_get s.section.pairs s.same_filter_at ≡ o → NextCut s p cut kind
@@ -85,7 +85,7 @@ tree_back kind (suc n) cuts nodes some is = is
 -- the rules of a pair with another tree
 other_tree : (table : Table) (s : Draft) (p : Pair) (cuts : List Datum) (nodes : List (List ℕ)) → IsKnown table s → (rules : PairRules table s.section.rows s.section.pairs p)
     → p.filter ≡ s.pair.filter → 0 < s.section.rows → IsHistogram rules.is.filter.kind s.section.rows cuts nodes
-    → ((q : Pair) → IsLike s q → CountTheSame p (record p { cuts = cuts; nodes = nodes }))
+    → ((q : Pair) → IsLike s q → HaveSameFilterCounts p (record p { cuts = cuts; nodes = nodes }))
     → PairRules table s.section.rows s.section.pairs (record p { cuts = cuts; nodes = nodes })
 other_tree table s p cuts nodes known rules at_filter some is counts =
     let old = rules.is in
@@ -203,8 +203,8 @@ node_grown schema s node v may =
     known_again : (table : Table) → IsKnown table s → IsKnown table (with_node s node)
     known_again table k = record { column = k.column; column_is = k.column_is; kind_is = k.kind_is; same_filter_at = k.same_filter_at; same_joined_at = k.same_joined_at }
 
-    counted : (p q : Pair) (old : List ℕ) (rest : List (List ℕ)) → p.nodes ≡ s.pair.nodes ++ old ∷ rest → IsLike s q → CountTheSame q p
-        → CountTheSame p (record p { nodes = s.pair.nodes ++ node ∷ rest })
+    counted : (p q : Pair) (old : List ℕ) (rest : List (List ℕ)) → p.nodes ≡ s.pair.nodes ++ old ∷ rest → IsLike s q → HaveSameFilterCounts q p
+        → HaveSameFilterCounts p (record p { nodes = s.pair.nodes ++ node ∷ rest })
     counted p q old rest whole same_filter_at counts =
         let alike = may.1.alike q same_filter_at in
         let n = length s.pair.nodes in

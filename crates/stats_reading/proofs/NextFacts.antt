@@ -7,7 +7,7 @@ use Rattle.schema_types.specs.declared.types.Kind.{Kind}
 use Rattle.schema_types.specs.declared.types.Table.{Table}
 use Rattle.stats_file.specs.declared.types.Datum.{Datum}
 use Rattle.stats_file.specs.declared.types.Pair.{Pair}
-use Rattle.stats_file.specs.Rules.{datum_cmp, Agree, CountTheSame, IsList, IsOfKind, IsPair, IsHistogram, IsHistogramOf}
+use Rattle.stats_file.specs.Rules.{datum_cmp, Agree, HaveSameFilterCounts, IsList, IsOfKind, IsPair, IsHistogram, IsHistogramOf}
 use Rattle.stats_reading.specs.declared.draft.Draft.{Draft}
 use Rattle.stats_reading.specs.Drafts.{IsLike, IsSameTotal, IsSameValue, IsTwin, MayBeCut, MayBeFrequent, MayBeNode, MayBeRest, MayBeWhole}
 use Rattle.stats_reading.specs.Valid.{IsKnown}
@@ -20,7 +20,7 @@ kind_of_pair table s p rows known is same =
     ap (λ (c : Column). c.kind) (same_some is.filter known.column (slice_get table.columns s.pair.filter) at known.column_is) ∙ sym known.kind_is
 
 -- the earlier pair with this filter column counts the same
-pub like_counts : (table : Table) (s : Draft) (p : Pair) (rows : ℕ) → IsKnown table s → PairRules table rows s.section.pairs p → p.filter ≡ s.pair.filter → (q : Pair) → IsLike s q → CountTheSame q p
+pub like_counts : (table : Table) (s : Draft) (p : Pair) (rows : ℕ) → IsKnown table s → PairRules table rows s.section.pairs p → p.filter ≡ s.pair.filter → (q : Pair) → IsLike s q → HaveSameFilterCounts q p
 like_counts table s p rows known rules same q is =
     let agree = all_at (λ o. Agree o p) s.section.pairs s.same_filter_at q rules.agree is in
     agree.filter (known.same_filter_at.found q is ∙ sym same)
@@ -34,7 +34,7 @@ pub may_whole : (table : Table) (s : Draft) (p : Pair) → IsKnown table s → P
 may_whole table s p known rules same =
     (rules.is.whole, record { all = rules.is.all_rows; alike = twin_whole table s p s.section.rows known rules same })
 
-same_value : (s : Draft) (p q : Pair) (front : List (Datum × List ℕ)) (f : Datum × List ℕ) (rest : List (Datum × List ℕ)) → p.frequent ≡ front ++ f ∷ rest → CountTheSame q p
+same_value : (s : Draft) (p q : Pair) (front : List (Datum × List ℕ)) (f : Datum × List ℕ) (rest : List (Datum × List ℕ)) → p.frequent ≡ front ++ f ∷ rest → HaveSameFilterCounts q p
     → IsSameValue (length front) f q
 same_value s p q front f rest is same =
     let here : slice_get p.frequent (length front) ≡ Some f = ap (λ (l : List (Datum × List ℕ)). slice_get l (length front)) is ∙ get_here front f rest in
@@ -63,7 +63,7 @@ may_frequent table s p f rest known rules same is =
       },
     )
 
-pub same_count : (p q : Pair) → CountTheSame q p → length q.frequent ≡ length p.frequent
+pub same_count : (p q : Pair) → HaveSameFilterCounts q p → length q.frequent ≡ length p.frequent
 same_count p q same = sym (map_length (λ (e : Datum × List ℕ). e.0) q.frequent) ∙ ap length same.values ∙ map_length (λ (e : Datum × List ℕ). e.0) p.frequent
 
 pub may_rest : (table : Table) (s : Draft) (p : Pair) → IsKnown table s → PairRules table s.section.rows s.section.pairs p → p.filter ≡ s.pair.filter → p.frequent ≡ s.pair.frequent
@@ -103,7 +103,7 @@ may_cut table s p cut rest known rules same is =
       },
     )
 
-same_total : (p q : Pair) (front : List (List ℕ)) (node : List ℕ) (rest : List (List ℕ)) → p.nodes ≡ front ++ node ∷ rest → CountTheSame q p → IsSameTotal (length front) node q
+same_total : (p q : Pair) (front : List (List ℕ)) (node : List ℕ) (rest : List (List ℕ)) → p.nodes ≡ front ++ node ∷ rest → HaveSameFilterCounts q p → IsSameTotal (length front) node q
 same_total p q front node rest is same =
     let here : slice_get p.nodes (length front) ≡ Some node = ap (λ (l : List (List ℕ)). slice_get l (length front)) is ∙ get_here front node rest in
     let total = ap (λ (l : List ℕ). slice_get l (length front)) same.nodes ∙ get_map sum p.nodes (length front) node here in

@@ -4,7 +4,7 @@ use Rattle.std.proofs.lemmas.Bool.{ltb-true, ltb-false}
 use Rattle.std.specs.Bool.{⊤}
 use Rattle.limits.specs.Profile.{most_conjuncts, most_entries, most_outputs}
 use Rattle.ll_grammars.specs.declared.lexeme.Lexeme.{Lexeme}
-use Rattle.query_grammar.specs.declared.tree.QueryText.{QueryText}
+use Rattle.query_grammar.specs.declared.tree.QueryNode.{QueryNode}
 use Rattle.query_grammar.specs.Grammar.{QuerySpecification}
 use Rattle.query_grammar.specs.Nesting.{nesting}
 use Rattle.query_grammar.proofs.Whole.{reads_queries}
@@ -37,7 +37,7 @@ trees_told text_len tokens = is_spelling reads_queries tokens text_len
 -- ---- the answer is allowed
 
 module _ (schema : Schema) (text : List ℕ) where
-  spelled_allowed : (tokens : List Token) (tree : Result QueryText ℕ) → IsLexed text tokens → nesting (lexemes_of text tokens) ≤ most_nesting → IsSpelling QuerySpecification (lexemes_of text tokens) (length text) tree
+  spelled_allowed : (tokens : List Token) (tree : Result QueryNode ℕ) → IsLexed text tokens → nesting (lexemes_of text tokens) ≤ most_nesting → IsSpelling QuerySpecification (lexemes_of text tokens) (length text) tree
       → IsAnswer schema text (spelled_answer schema text (lexemes_of text tokens) tree)
   spelled_allowed tokens (Ok tree) lexed shallow spelled = inr (inr (inr (inr (record { tokens = tokens; lexed = lexed; shallow = shallow; tree = tree; spelled = spelled; answered = refl }))))
   spelled_allowed tokens (Err at) lexed shallow wrong = inr (inr (inr (inl (record { tokens = tokens; lexed = lexed; shallow = shallow; place = at; wrong = wrong; refused = refl }))))
@@ -95,7 +95,7 @@ limits_begin query lists =
     (over_begins limit.Conjuncts most_conjuncts (length query.conjuncts)))
     (over_begins limit.Outputs most_outputs (length query.select))
 
-refusals_begin : (schema : Schema) (text : List ℕ) (tree : QueryText) → BeginsWell (refusals schema text tree)
+refusals_begin : (schema : Schema) (text : List ℕ) (tree : QueryNode) → BeginsWell (refusals schema text tree)
 unfolding refusals
 refusals_begin schema text tree =
     let from = entries schema text tree in
@@ -109,7 +109,7 @@ unless_not_memory : (wrong : List QueryError) (query : Query) → BeginsWell wro
 unless_not_memory [] query h e = cc
 unless_not_memory (w ∷ rest) query h e = h (let same : w ≡ error.NoMemory = cc in same)
 
-bound_not_memory : (schema : Schema) (text : List ℕ) (tree : QueryText) → query_or_refusal schema text tree ≢ Err error.NoMemory
+bound_not_memory : (schema : Schema) (text : List ℕ) (tree : QueryNode) → query_or_refusal schema text tree ≢ Err error.NoMemory
 unfolding query_or_refusal
 bound_not_memory schema text tree = unless_not_memory (refusals schema text tree) (query_of schema text tree) (refusals_begin schema text tree)
 
@@ -118,7 +118,7 @@ number_not_memory [] answer h = h
 number_not_memory (place ∷ rest) answer h = λ e. cc
 
 module _ (schema : Schema) (text : List ℕ) where
-  spelled_not_memory : (tokens : List Lexeme) (tree : Result QueryText ℕ) → spelled_answer schema text tokens tree ≢ Err error.NoMemory
+  spelled_not_memory : (tokens : List Lexeme) (tree : Result QueryNode ℕ) → spelled_answer schema text tokens tree ≢ Err error.NoMemory
   spelled_not_memory tokens (Ok tree) = number_not_memory (number_offences text tokens) (query_or_refusal schema text tree) (bound_not_memory schema text tree)
   spelled_not_memory tokens (Err at) = λ e. cc
 

@@ -1,7 +1,7 @@
 -- A query that a text is answered with keeps the limits.
 use Rattle.std.proofs.Common.{◌≡◌, inl, inr, ℕ, ◌≤◌, List, [], ◌∷◌, ◌++◌, length, Ok, Err, subst}
 use Rattle.limits.specs.Profile.{most_conjuncts, most_entries, most_outputs}
-use Rattle.query_grammar.specs.declared.tree.QueryText.{QueryText}
+use Rattle.query_grammar.specs.declared.tree.QueryNode.{QueryNode}
 use Rattle.schema_types.specs.declared.errors.LimitKind.TheVariants as limit
 use Rattle.schema_types.specs.declared.types.Schema.{Schema}
 use Rattle.query_types.specs.declared.types.Query.{Query}
@@ -34,7 +34,7 @@ kept query lists none =
       outputs = not_over limit.Outputs most_outputs (length query.select) (none_behind (before ++ many_conjuncts) many_outputs none);
     }
 
-bound_keeps : (schema : Schema) (text : List ℕ) (tree : QueryText) (query : Query) → query_or_refusal schema text tree ≡ Ok query → KeepsLimits query
+bound_keeps : (schema : Schema) (text : List ℕ) (tree : QueryNode) (query : Query) → query_or_refusal schema text tree ≡ Ok query → KeepsLimits query
 unfolding query_or_refusal refusals
 bound_keeps schema text tree query is =
     let names : List QueryError = first_place name_error (name_offences schema text (entries schema text tree) tree) in

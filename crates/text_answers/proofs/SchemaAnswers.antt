@@ -1,7 +1,7 @@
 -- The answer that is computed of a schema text is the one that the relation allows.
 use Rattle.std.proofs.Common.{◌≡◌, ◌≢◌, ◌⊎◌, inl, inr, ℕ, List, [], ◌∷◌, map, length, Option, Some, None, Result, Ok, Err, refl, subst}
 use Rattle.std.specs.Bool.{⊤}
-use Rattle.schema_grammar.specs.declared.tree.TableText.{TableText}
+use Rattle.schema_grammar.specs.declared.tree.TableNode.{TableNode}
 use Rattle.schema_grammar.specs.Grammar.{SchemaText}
 use Rattle.schema_grammar.proofs.Rules.{reads_all_tables}
 use Rattle.sql_tokens.specs.declared.token.Token.{Token}
@@ -38,14 +38,14 @@ unless_declared : (found : Option ℕ) (cause : ℕ → SchemaError) (rest : Res
 unless_declared None cause rest causes is = is
 unless_declared (Some n) cause rest causes is = causes n
 
-within_declared : (text : List ℕ) (tables : List TableText) (rest : Result Schema SchemaError) → IsDeclared rest → IsDeclared (within_limits text tables rest)
+within_declared : (text : List ℕ) (tables : List TableNode) (rest : Result Schema SchemaError) → IsDeclared rest → IsDeclared (within_limits text tables rest)
 unfolding within_limits
 within_declared text tables rest is =
     unless_declared (first (above 64 (length tables ∷ []))) (λ found. error.Limit limit.Tables (in_64_bits found)) _ (λ n. tt)
     (unless_declared (first (above 64 (column_counts tables))) (λ found. error.Limit limit.Columns (in_64_bits found)) _ (λ n. tt)
     (unless_declared (first (above 1000000 (text_lengths text tables))) (λ found. error.Limit limit.TextLength (in_64_bits found)) rest (λ n. tt) is))
 
-bound_declared : (text : List ℕ) (tables : List TableText) → IsDeclared (schema_or_refusal text tables)
+bound_declared : (text : List ℕ) (tables : List TableNode) → IsDeclared (schema_or_refusal text tables)
 unfolding schema_or_refusal
 bound_declared text tables =
     unless_declared (first (offences text tables)) (λ at. error.Name at) _ (λ n. tt)
@@ -53,7 +53,7 @@ bound_declared text tables =
 
 -- ---- the answer is allowed
 
-declared_allowed : (text : List ℕ) (tables : List TableText) (answer : Result Schema SchemaError) → Spells text tables → schema_or_refusal text tables ≡ answer → IsDeclared answer → IsSchemaOf text answer
+declared_allowed : (text : List ℕ) (tables : List TableNode) (answer : Result Schema SchemaError) → Spells text tables → schema_or_refusal text tables ≡ answer → IsDeclared answer → IsSchemaOf text answer
 declared_allowed text tables (Ok schema) spells e is = record { tables = tables; spells = spells; answers = e }
 declared_allowed text tables (Err (error.Name at)) spells e is = record { tables = tables; spells = spells; answers = e }
 declared_allowed text tables (Err (error.Nullable at)) spells e is = record { tables = tables; spells = spells; answers = e }
@@ -65,7 +65,7 @@ tables_told : (text : List ℕ) (tokens : List Token) → IsSpelling SchemaText 
 unfolding tables_of
 tables_told text tokens = is_spelling reads_all_tables (map (lexeme_of text) tokens) (length text)
 
-spelled_allowed : (text : List ℕ) (tokens : List Token) (tables : Result (List TableText) ℕ) → IsLexed text tokens → IsSpelling SchemaText (map (lexeme_of text) tokens) (length text) tables
+spelled_allowed : (text : List ℕ) (tokens : List Token) (tables : Result (List TableNode) ℕ) → IsLexed text tokens → IsSpelling SchemaText (map (lexeme_of text) tokens) (length text) tables
     → IsSchemaOf text (after syntax tables (schema_or_refusal text))
 spelled_allowed text tokens (Ok tables) lexed spelled = declared_allowed text tables (schema_or_refusal text tables) (record { tokens = tokens; lexed = lexed; spelled = spelled }) refl (bound_declared text tables)
 spelled_allowed text tokens (Err at) lexed place = inr (record { tokens = tokens; lexed = lexed; place = place })
@@ -83,7 +83,7 @@ allowed text = lexed_allowed text (tokens_of text) (are_told text)
 not_memory : (answer : Result Schema SchemaError) → IsDeclared answer → answer ≢ Err error.NoMemory
 not_memory answer is e = subst IsDeclared e is
 
-spelled_not_memory : (text : List ℕ) (tables : Result (List TableText) ℕ) → after syntax tables (schema_or_refusal text) ≢ Err error.NoMemory
+spelled_not_memory : (text : List ℕ) (tables : Result (List TableNode) ℕ) → after syntax tables (schema_or_refusal text) ≢ Err error.NoMemory
 spelled_not_memory text (Ok tables) e = not_memory (schema_or_refusal text tables) (bound_declared text tables) e
 spelled_not_memory text (Err at) e = cc
 

@@ -20,23 +20,23 @@ use Rattle.text_answers.specs.SmallTexts.{one_column, ones}
 use Rattle.text_answers.specs.Stages.{tokens_of}
 use Rattle.text_answers.specs.QueryTexts.{syntax_tree_of, nested_answer, query_answer}
 use Rattle.ll_grammars.specs.declared.terminal.Terminal.TheVariants as terminal
-use Rattle.query_grammar.specs.declared.tree.LiteralText.{LiteralText}
-use Rattle.query_grammar.specs.declared.tree.LiteralText.TheVariants as literal_text
-use Rattle.query_grammar.specs.declared.tree.OperandText.TheVariants as operand
+use Rattle.query_grammar.specs.declared.tree.LiteralNode.{LiteralNode}
+use Rattle.query_grammar.specs.declared.tree.LiteralNode.TheVariants as literal_text
+use Rattle.query_grammar.specs.declared.tree.OperandNode.TheVariants as operand
 use Rattle.query_grammar.specs.declared.tree.Op.TheVariants as op
-use Rattle.query_grammar.specs.declared.tree.TestText.{TestText}
-use Rattle.query_grammar.specs.declared.tree.TestText.TheVariants as test
-use Rattle.query_grammar.specs.declared.tree.CondText.TheVariants as cond
-use Rattle.query_grammar.specs.declared.tree.OutText.TheVariants as out
-use Rattle.query_grammar.specs.declared.tree.OutsText.TheVariants as outs
-use Rattle.query_grammar.specs.declared.tree.QueryText.{QueryText}
+use Rattle.query_grammar.specs.declared.tree.TestNode.{TestNode}
+use Rattle.query_grammar.specs.declared.tree.TestNode.TheVariants as test
+use Rattle.query_grammar.specs.declared.tree.CondNode.TheVariants as cond
+use Rattle.query_grammar.specs.declared.tree.OutNode.TheVariants as out
+use Rattle.query_grammar.specs.declared.tree.OutsNode.TheVariants as outs
+use Rattle.query_grammar.specs.declared.tree.QueryNode.{QueryNode}
 use Rattle.query_grammar.specs.Examples.{token}
 use Rattle.query_names.specs.Values.{Meaning}
 use Rattle.sql_parse.proofs.KindFacts.{means_test}
 use Rattle.query_names.proofs.TestFacts.{tests_test}
 
 -- SELECT X FROM R WHERE, and a test
-abbrev x_where : TestText → QueryText
+abbrev x_where : TestNode → QueryNode
 x_where t = record {
   outs = outs.Listed (out.Column (record { table = None; column = token terminal.Name 7 8 }) None ∷ []);
   parts = record { first = record { table = token terminal.Name 14 15; alias = None }; joins = [] } ∷ [];
@@ -44,13 +44,13 @@ x_where t = record {
 }
 
 -- X = and a literal, from byte 22 on
-abbrev x_is : LiteralText → TestText
+abbrev x_is : LiteralNode → TestNode
 x_is l = test.Compare (operand.Column (record { table = None; column = token terminal.Name 22 23 })) op.Eq (operand.Literal l)
 
-abbrev is_one : TestText
+abbrev is_one : TestNode
 is_one = x_is (literal_text.Number None (token terminal.Number 26 27))
 
-abbrev is_a : TestText
+abbrev is_a : TestNode
 is_a = x_is (literal_text.Text (token terminal.Text 26 29))
 
 read_whole : query_answer one_column (codes "SELECT X FROM R WHERE X = 1") ≡ query_or_refusal one_column (codes "SELECT X FROM R WHERE X = 1") (x_where is_one)

@@ -2,7 +2,7 @@
 -- they spell, and what that gives.
 use Rattle.std.specs.Prelude.{ℕ, nat_lt, if◌then◌else◌, List, length, Result, Ok, Err}
 use Rattle.ll_grammars.specs.declared.lexeme.Lexeme.{Lexeme}
-use Rattle.query_grammar.specs.declared.tree.QueryText.{QueryText}
+use Rattle.query_grammar.specs.declared.tree.QueryNode.{QueryNode}
 use Rattle.query_grammar.specs.Nesting.{nesting}
 use Rattle.query_grammar.specs.Readers.{read_condition, read_query}
 use Rattle.schema_types.specs.declared.errors.LimitKind.TheVariants as limit
@@ -19,12 +19,12 @@ abbrev pub syntax : ℕ → QueryError
 syntax at = error.Syntax at
 
 -- the syntax tree that the tokens of a text of so many bytes spell
-unfoldable pub syntax_tree_of : ℕ → List Lexeme → Result QueryText ℕ
+unfoldable pub syntax_tree_of : ℕ → List Lexeme → Result QueryNode ℕ
 syntax_tree_of text_len tokens = parsed (read_query read_condition) text_len tokens
 
 module _ (schema : Schema) (text : List ℕ) where
   -- tokens that spell a tree, or go wrong at a place: a number outside the range is refused where it is the first offence
-  abbrev pub spelled_answer : List Lexeme → Result QueryText ℕ → Result Query QueryError
+  abbrev pub spelled_answer : List Lexeme → Result QueryNode ℕ → Result Query QueryError
   spelled_answer tokens (Ok tree) = unless_number (number_offences text tokens) (query_or_refusal schema text tree)
   spelled_answer tokens (Err at) = Err (error.Syntax (least at (number_offences text tokens)))
 

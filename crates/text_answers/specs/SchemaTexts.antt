@@ -1,6 +1,6 @@
 -- The one answer of a schema text, by computation: its tokens, the tables that they spell, and what these declare.
 use Rattle.std.specs.Prelude.{ℕ, List, map, length, Result}
-use Rattle.schema_grammar.specs.declared.tree.TableText.{TableText}
+use Rattle.schema_grammar.specs.declared.tree.TableNode.{TableNode}
 use Rattle.schema_grammar.specs.Readers.{read_all_tables}
 use Rattle.sql_tokens.specs.declared.token.Token.{Token}
 use Rattle.sql_tokens.specs.Words.{lexeme_of}
@@ -14,7 +14,7 @@ abbrev pub syntax : ℕ → SchemaError
 syntax at = error.Syntax at
 
 -- the tables that these tokens of a text spell
-unfoldable pub tables_of : List ℕ → List Token → Result (List TableText) ℕ
+unfoldable pub tables_of : List ℕ → List Token → Result (List TableNode) ℕ
 tables_of text tokens = parsed read_all_tables (length text) (map (lexeme_of text) tokens)
 
 -- the schema of a text, or its first refusal: Syntax, then Name, Nullable and Limit

@@ -17,16 +17,16 @@ use Rattle.sql_parse.specs.QueryOrRefusal.{long_lists, refusals, query_or_refusa
 use Rattle.text_answers.specs.Stages.{tokens_of}
 use Rattle.text_answers.specs.QueryTexts.{syntax_tree_of, nested_answer, query_answer}
 use Rattle.ll_grammars.specs.declared.terminal.Terminal.TheVariants as terminal
-use Rattle.query_grammar.specs.declared.tree.LiteralText.TheVariants as literal_text
-use Rattle.query_grammar.specs.declared.tree.OperandText.TheVariants as operand
+use Rattle.query_grammar.specs.declared.tree.LiteralNode.TheVariants as literal_text
+use Rattle.query_grammar.specs.declared.tree.OperandNode.TheVariants as operand
 use Rattle.query_grammar.specs.declared.tree.Op.TheVariants as op
-use Rattle.query_grammar.specs.declared.tree.TestText.{TestText}
-use Rattle.query_grammar.specs.declared.tree.TestText.TheVariants as test
-use Rattle.query_grammar.specs.declared.tree.CondText.{CondText}
-use Rattle.query_grammar.specs.declared.tree.CondText.TheVariants as cond
-use Rattle.query_grammar.specs.declared.tree.OutText.TheVariants as out
-use Rattle.query_grammar.specs.declared.tree.OutsText.TheVariants as outs
-use Rattle.query_grammar.specs.declared.tree.QueryText.{QueryText}
+use Rattle.query_grammar.specs.declared.tree.TestNode.{TestNode}
+use Rattle.query_grammar.specs.declared.tree.TestNode.TheVariants as test
+use Rattle.query_grammar.specs.declared.tree.CondNode.{CondNode}
+use Rattle.query_grammar.specs.declared.tree.CondNode.TheVariants as cond
+use Rattle.query_grammar.specs.declared.tree.OutNode.TheVariants as out
+use Rattle.query_grammar.specs.declared.tree.OutsNode.TheVariants as outs
+use Rattle.query_grammar.specs.declared.tree.QueryNode.{QueryNode}
 use Rattle.query_grammar.specs.Examples.{token}
 use Rattle.query_names.specs.Values.{Meaning, all_of, meaning, test_meaning}
 use Rattle.sql_parse.proofs.KindFacts.{means_and, means_test}
@@ -39,12 +39,12 @@ use Rattle.worked_run.specs.OneTable.{workers_query}
 use Rattle.worked_run.specs.TwoTables.{query_text}
 
 -- R.X = S.X, behind WHERE
-abbrev is_joined : TestText
+abbrev is_joined : TestNode
 is_joined = test.Compare (operand.Column (record { table = Some (token terminal.Name 27 28); column = token terminal.Name 29 30 }))
     op.Eq (operand.Column (record { table = Some (token terminal.Name 33 34); column = token terminal.Name 35 36 }))
 
 -- the whole text
-abbrev tree : QueryText
+abbrev tree : QueryNode
 tree = record {
   outs = outs.Listed (out.Column (record { table = Some (token terminal.Name 7 8); column = token terminal.Name 9 10 }) None ∷ []);
   parts = record { first = record { table = token terminal.Name 16 17; alias = None }; joins = [] }
@@ -70,18 +70,18 @@ query_read = spelled ∙ meant
 -- ---- a worker and the boss
 
 -- E.B = M.N, and M.R = 3
-abbrev is_boss : TestText
+abbrev is_boss : TestNode
 is_boss = test.Compare (operand.Column (record { table = Some (token terminal.Name 37 38); column = token terminal.Name 39 40 }))
     op.Eq (operand.Column (record { table = Some (token terminal.Name 43 44); column = token terminal.Name 45 46 }))
 
-abbrev is_of_region : TestText
+abbrev is_of_region : TestNode
 is_of_region = test.Compare (operand.Column (record { table = Some (token terminal.Name 51 52); column = token terminal.Name 53 54 }))
     op.Eq (operand.Literal (literal_text.Number None (token terminal.Number 57 58)))
 
-abbrev both_tests : List CondText
+abbrev both_tests : List CondNode
 both_tests = cond.Test is_boss ∷ cond.Test is_of_region ∷ []
 
-abbrev workers_tree : QueryText
+abbrev workers_tree : QueryNode
 workers_tree = record {
   outs = outs.Listed (out.Column (record { table = Some (token terminal.Name 7 8); column = token terminal.Name 9 10 }) None ∷ []);
   parts = record { first = record { table = token terminal.Name 16 17; alias = Some (token terminal.Name 21 22) }; joins = [] }
@@ -96,10 +96,10 @@ workers_spelled = refl
 abbrev everywhere : Scope
 everywhere = record { first = 0; end = 2 }
 
-abbrev means : CondText → Meaning
+abbrev means : CondNode → Meaning
 means = meaning worker_schema workers_query by_manager.from everywhere
 
-abbrev says : TestText → Meaning
+abbrev says : TestNode → Meaning
 says = test_meaning worker_schema workers_query by_manager.from everywhere
 
 both_mean : means (cond.And both_tests) ≡ all_of (says is_boss ∷ says is_of_region ∷ [])

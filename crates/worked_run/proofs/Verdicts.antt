@@ -35,7 +35,7 @@ use Rattle.safebound_words.specs.declared.command.PlanWork.{PlanWork}
 use Rattle.safebound_words.specs.declared.command.Shape.{Shape}
 use Rattle.safebound_words.specs.declared.command.Shape.TheVariants as shapes
 use Rattle.worked_run.specs.Meaning.{rows_of, small_lists, small_rows, two_tables_run, two_tables_tree}
-use Rattle.worked_run.specs.TwoTables.{audit_words, limited_words, narrow_words, query_text, r_text, run_words, s_text, schema_text, small_files, thrifty_words, tree_words}
+use Rattle.worked_run.specs.TwoTables.{audit_words, limited_words, small_memory_words, query_text, r_text, run_words, s_text, schema_text, small_files, small_budget_words, tree_words}
 use Rattle.worked_run.proofs.Levels.{lists_found}
 use Rattle.worked_run.proofs.Plans.{plan_found, plan_refused, tree_found}
 use Rattle.worked_run.proofs.Queries.{query_read}
@@ -63,7 +63,7 @@ tree_asked : command_stage tree_words ≡ Ok (ask out_text.Audit shapes.Tree 100
 unfolding command_of reading_of over_files parts_from kind_of number_of
 tree_asked = refl
 
-thrifty_asked : command_stage thrifty_words ≡ Ok (ask out_text.Rows shapes.Order 11 None)
+thrifty_asked : command_stage small_budget_words ≡ Ok (ask out_text.Rows shapes.Order 11 None)
 unfolding command_of reading_of over_files parts_from kind_of number_of
 thrifty_asked = refl
 
@@ -71,7 +71,7 @@ limited_asked : command_stage limited_words ≡ Ok (ask out_text.Rows shapes.Ord
 unfolding command_of reading_of over_files parts_from kind_of number_of
 limited_asked = refl
 
-narrow_asked : command_stage narrow_words ≡ Ok (ask out_text.Rows shapes.Order 1000000 (Some 555))
+narrow_asked : command_stage small_memory_words ≡ Ok (ask out_text.Rows shapes.Order 1000000 (Some 555))
 unfolding command_of reading_of over_files parts_from kind_of number_of
 narrow_asked = refl
 
@@ -178,11 +178,11 @@ audit_verdict = of_words audit_words (task out_text.Audit shapes.Order 1000000 N
 pub tree_verdict : verdict tree_words small_files ≡ Ok (Planned (two_tables_tree out_text.Audit None))
 tree_verdict = of_words tree_words (task out_text.Audit shapes.Tree 1000000 None) tree_asked ∙ tree_made out_text.Audit
 
-pub thrifty_verdict : verdict thrifty_words small_files ≡ Err (refusal.Budget 12)
-thrifty_verdict = of_words thrifty_words (task out_text.Rows shapes.Order 11 None) thrifty_asked ∙ plan_too_dear
+pub thrifty_verdict : verdict small_budget_words small_files ≡ Err (refusal.Budget 12)
+thrifty_verdict = of_words small_budget_words (task out_text.Rows shapes.Order 11 None) thrifty_asked ∙ plan_too_dear
 
 pub limited_verdict : verdict limited_words small_files ≡ Ok (Planned (two_tables_run out_text.Rows (Some 556)))
 limited_verdict = of_words limited_words (task out_text.Rows shapes.Order 1000000 (Some 556)) limited_asked ∙ plan_within out_text.Rows (Some 556)
 
-pub narrow_verdict : verdict narrow_words small_files ≡ Err (refusal.MemoryLimit 556)
-narrow_verdict = of_words narrow_words (task out_text.Rows shapes.Order 1000000 (Some 555)) narrow_asked ∙ plan_within out_text.Rows (Some 555)
+pub narrow_verdict : verdict small_memory_words small_files ≡ Err (refusal.MemoryLimit 556)
+narrow_verdict = of_words small_memory_words (task out_text.Rows shapes.Order 1000000 (Some 555)) narrow_asked ∙ plan_within out_text.Rows (Some 555)

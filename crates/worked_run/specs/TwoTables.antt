@@ -86,12 +86,12 @@ tree_words = codes "audit" ∷ codes "schema.sql" ∷ codes "query.sql" ∷ code
 abbrev pub limited_words : List (List ℕ)
 limited_words = codes "run" ∷ codes "schema.sql" ∷ codes "query.sql" ∷ codes "--memory" ∷ codes "556" ∷ []
 
-abbrev pub narrow_words : List (List ℕ)
-narrow_words = codes "run" ∷ codes "schema.sql" ∷ codes "query.sql" ∷ codes "--memory" ∷ codes "555" ∷ []
+abbrev pub small_memory_words : List (List ℕ)
+small_memory_words = codes "run" ∷ codes "schema.sql" ∷ codes "query.sql" ∷ codes "--memory" ∷ codes "555" ∷ []
 
 -- with a budget that is one too small
-abbrev pub thrifty_words : List (List ℕ)
-thrifty_words = codes "run" ∷ codes "schema.sql" ∷ codes "query.sql" ∷ codes "--budget" ∷ codes "11" ∷ []
+abbrev pub small_budget_words : List (List ℕ)
+small_budget_words = codes "run" ∷ codes "schema.sql" ∷ codes "query.sql" ∷ codes "--budget" ∷ codes "11" ∷ []
 
 -- over the rows that semi-joins leave, and then by counting over the same rows
 abbrev pub reduced_words : List (List ℕ)

@@ -8,7 +8,7 @@ ghost use Rattle.prepared_runs.specs.RunOutcome.{Planned};
 ghost use Rattle.safebound_top.specs.Texts.{out_text_of, plan_text};
 ghost use Rattle.prepared_runs.specs.Verdict.{verdict};
 ghost use Rattle.worked_run.specs.Calls.{EachCallEnds};
-ghost use Rattle.worked_run.specs.TwoTables.{audit_words, counted_words, limited_words, narrow_words, reduced_words, run_words, small_files, thrifty_words, tree_words};
+ghost use Rattle.worked_run.specs.TwoTables.{audit_words, counted_words, limited_words, small_memory_words, reduced_words, run_words, small_files, small_budget_words, tree_words};
 ghost use Rattle.worked_run.specs.Meaning.{two_tables_reduced, two_tables_run, two_tables_tree};
 
 /// `run schema.sql query.sql`: six of the 30 pairs of rows are joined. Both orders cost 12, the bound of the join of both tables. The
@@ -38,8 +38,8 @@ pub fn joined_by_a_tree()
 
 /// `run schema.sql query.sql --budget 11`: the query is refused, since no order costs less than 12.
 pub fn refused()
-    ensures verdict { verdict thrifty_words small_files ≡ Err (refusal.Budget 12) }
-    ensures call { EachCallEnds small_files thrifty_words (status.Refused (refusal.Budget 12)) (Some (codes "error budget 12\n")) None }
+    ensures verdict { verdict small_budget_words small_files ≡ Err (refusal.Budget 12) }
+    ensures call { EachCallEnds small_files small_budget_words (status.Refused (refusal.Budget 12)) (Some (codes "error budget 12\n")) None }
 {}
 
 /// `run schema.sql query.sql --memory 556`: the plan's buffers take exactly 556 bytes, and the last line of the plan's text says so.
@@ -52,8 +52,8 @@ pub fn joined_within_a_limit()
 
 /// `run schema.sql query.sql --memory 555`: the query is refused, since the plan's buffers take one byte more.
 pub fn above_its_limit()
-    ensures verdict { verdict narrow_words small_files ≡ Err (refusal.MemoryLimit 556) }
-    ensures call { EachCallEnds small_files narrow_words (status.Refused (refusal.MemoryLimit 556)) (Some (codes "error memory-limit 556\n")) None }
+    ensures verdict { verdict small_memory_words small_files ≡ Err (refusal.MemoryLimit 556) }
+    ensures call { EachCallEnds small_files small_memory_words (status.Refused (refusal.MemoryLimit 556)) (Some (codes "error memory-limit 556\n")) None }
 {}
 
 /// `run schema.sql query.sql --reduce`: three rows of R and two of S have a partner. Both orders cost 6, and S, R has the smaller sum of bounds.

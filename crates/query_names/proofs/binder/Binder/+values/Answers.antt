@@ -8,7 +8,7 @@ use Rattle.query_names.specs.Scopes.{tests}
 use Rattle.query_names.specs.Answers.{IsNameError}
 use Rattle.query_names.specs.Binding.{test_offences_of, value_by}
 use Rattle.query_grammar.specs.Lexemes.{IsCondOf}
-use Rattle.query_grammar.specs.declared.tree.CondText.TheViews.{the_lemmas}
+use Rattle.query_grammar.specs.declared.tree.CondNode.TheViews.{the_lemmas}
 use Rattle.query_names.proofs.Meanings.{told_and, told_or, told_not, told_test, one_of, if_ok_map, value_test}
 use Rattle.query_names.proofs.LookSteps.{wrong_in}
 use Rattle.query_names.proofs.CondFacts.{of_and, of_or, wrong_at, one_test, and_looked, or_looked, not_looked, not_empty}

@@ -8,7 +8,7 @@ use Rattle.base_io.proofs.WriteFacts.{flushed, put_as, put_cut, put_cut_next, pu
 use Rattle.printed_texts.specs.Faults.{behind_blank, error_line}
 use Rattle.printed_texts.specs.Words.{file_text}
 use Rattle.printed_texts.proofs.ErrorLines.{line_is, seen_words, word_parts, words_are}
-use Rattle.printed_texts.proofs.lines.write_words.Goals as goal
+use Rattle.printed_texts.proofs.lines.write_error_line.Goals as goal
 
 pub returns-in_err-put : goal.returns-in_err-put
 returns-in_err-put g c =
