@@ -47,17 +47,3 @@ module _ (schema : Schema) (file : StatsFile) (table : ℕ) (texts : List (List 
         room = omega (arith, room);
         pairs = λ j e below. pair_may is.table section.rows (get_or section.pairs j e) of room (is.pairs j e below);
       }
-
--- a pair of a table that had rows
-pub had_rows : (cells : Cells) (before : ℕ) (pair : Pair) → 0 < before → MayGrow cells before pair → MayGrow cells 1 pair
-had_rows cells before pair some may = record {
-  filter = may.filter;
-  joined = may.joined;
-  rows = may.rows;
-  cuts = may.cuts;
-  whole = may.whole;
-  rest = may.rest;
-  frequent = may.frequent;
-  nodes = may.nodes;
-  nodes_many = λ one. may.nodes_many some;
-}

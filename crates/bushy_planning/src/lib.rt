@@ -11,7 +11,7 @@
 //! let plan = plan_bushy(alloc, &query, &db, accuracy, budget)?;
 //! let mut lists = reserve_leaves(alloc, &plan, &query, &db)?;
 //! let reserved = reserve_bushy(alloc, &plan)?;
-//! scan_all(&query, &db, &mut lists);
+//! scan_all(&query, &db, lists.as_mut_slice());
 //! let done = execute_bushy(reserved, lists, &plan, &query, &db);
 //! ```
 #![tactic(auto)]

@@ -34,15 +34,6 @@ module _ (texts : List (List ℕ)) (cells : Cells) (column : ℕ) (has : HasColu
   are_read k read kind_is is = subst (λ (s : List ℕ). All (IsCell texts k) s) (sym is) (subst (λ (x : Kind). All (IsCell texts x) (cells_of_column cells column)) kind_is has.are_cells.cells)
 
 module _ (texts : List (List ℕ)) (cells : Cells) (filter joined : ℕ) (has_filter : HasColumn texts cells filter) (has_joined : HasColumn texts cells joined) where
-  same_heights : length (cells_of_column cells joined) ≡ length (cells_of_column cells filter)
-  same_heights = has_joined.are_cells.height ∙ sym has_filter.are_cells.height
-
-  pub filter_is : filter_values (rows_of_pair cells filter joined) ≡ cells_of_column cells filter
-  filter_is = firsts-zip (cells_of_column cells filter) (cells_of_column cells joined) same_heights
-
-  pub joined_is : joined_keys (rows_of_pair cells filter joined) ≡ cells_of_column cells joined
-  joined_is = seconds-zip (cells_of_column cells filter) (cells_of_column cells joined) same_heights
-
   pub rows_are : length (rows_of_pair cells filter joined) ≡ cells.rows
   rows_are = omega (arith, length-zip (cells_of_column cells filter) (cells_of_column cells joined), has_filter.are_cells.height, has_joined.are_cells.height)
 

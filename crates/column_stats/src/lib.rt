@@ -10,7 +10,7 @@
 //! on demand.
 //!
 //! ```text
-//! let stats = gather(alloc, &cells, &pool, 0, 1, 1)?;   // stats ≡ stats_of pool kind 1 (rows_of_pair cells 0 1)
+//! let stats = gather(alloc, &cells, &pool, 0, 1, Accuracy::of(1))?;   // stats ≡ stats_of pool kind 1 (rows_of_pair cells 0 1)
 //! let list = stats.for_range(Some(stats.leaf_int(2)), None);
 //! ```
 #![tactic(auto)]

@@ -14,7 +14,7 @@
 //!
 //! ```text
 //! let parts = split(alloc, &query)?;
-//! let stats = gather_query(alloc, &query, &parts, &db, 1)?;    // Tells query stats (statistics_of (tables_of db) 1)
+//! let stats = gather_query(alloc, &query, &parts, &db, Accuracy::of(1))?;    // Tells query stats (statistics_of (tables_of db) 1)
 //! let rows = stats.row_bound(alloc, 0)?;
 //! ```
 #![tactic(auto)]

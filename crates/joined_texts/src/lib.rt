@@ -7,8 +7,8 @@
 //! then the outputs are printed.
 //!
 //! Callers cite `printed_rows` and `level_counts`, of trees `selected_rows` and `node_counts` (in `specs/Printed.antt`),
-//! beside `rows_lines`, `audit_lines` and `tree_audits` of printed_texts. What `execute(reserved, &order, &query, &db)`
-//! ensures is what `write_rows(&levels, &order, &query, &db, out)` requires.
+//! beside `rows_lines`, `audit_lines` and `tree_audits` of printed_texts. What `execute` of hash_join ensures of the
+//! levels that it lists is what `write_rows` requires.
 #![tactic(auto)]
 
 mod audit;

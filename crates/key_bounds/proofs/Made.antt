@@ -1,9 +1,8 @@
 -- Row bounds and lists in a set, as they are put together.
-use Rattle.std.proofs.Common.{◌≡◌, ◌≢◌, ◌⊎◌, inl, inr, ℕ, ◌+◌, ◌<◌, ◌≤◌, ◌^◌, Bool, true, false, ◌&&◌, cond, eqb, List, [], ◌∷◌, length, map, min, sum, get_or, drop, Option, None, Some, option_map, refl, ap, sym, ◌∙◌, subst, arith}
+use Rattle.std.proofs.Common.{◌≡◌, ◌≢◌, ◌⊎◌, inl, inr, ℕ, ◌<◌, ◌≤◌, ◌^◌, Bool, true, false, ◌&&◌, cond, eqb, List, [], ◌∷◌, length, map, min, sum, get_or, Option, None, Some, option_map, refl, ap, sym, ◌∙◌, subst, arith}
 use Rattle.std.specs.Prelude.{All, IsSome, if◌then◌else◌, unwrap_or}
 use Rattle.std.specs.List.{AllByRecursion, filter}
 use Rattle.std.proofs.lemmas.Bool.{and_parts, cases_Bool, cases_eq, cases_lt, eqb-true, false≢true, lt-ltb, le-ltb}
-use Rattle.std.proofs.lemmas.List.{at_drop_more, drop_all}
 use Rattle.std.proofs.lemmas.List.Elements.{recursion_from_All}
 use Rattle.berge_tree.specs.declared.edges.Edge.{Edge}
 use Rattle.degree_sequences.specs.RunningSums.{lesser}
@@ -52,18 +51,6 @@ module _ (subset entry : ℕ) where
       by true = refl
       by false = refl
 
-  pub one_fewer : (carried : List Carried) (i : ℕ) (c : Carried) (rows new own : ℕ) → i < length carried → c ≡ get_or carried i c
-      → rows_within (drop i carried) subset entry rows ≡ rows_within carried subset entry own → new ≡ fewer_by subset entry c rows
-      → rows_within (drop (i + 1) carried) subset entry new ≡ rows_within carried subset entry own
-  one_fewer carried i c rows new own low at before is =
-      ap (rows_within (drop (i + 1) carried) subset entry) (is ∙ ap (λ (c : Carried). fewer_by subset entry c rows) at)
-      ∙ sym (next_rows (get_or carried i c) (drop (i + 1) carried) rows)
-      ∙ sym (at_drop_more (λ (s : List Carried). rows_within s subset entry rows) carried i c low) ∙ before
-
-  pub all_fewer : (carried : List Carried) (i rows own : ℕ) → length carried ≤ i → rows_within (drop i carried) subset entry rows ≡ rows_within carried subset entry own
-      → rows ≡ rows_within carried subset entry own
-  all_fewer carried i rows own past before = sym (ap (λ (s : List Carried). rows_within s subset entry rows) (drop_all i carried past)) ∙ before
-
   module _ (column : ℕ) where
     next_list : (c : Carried) (carried : List Carried) (list : List ℕ)
         → list_within (c ∷ carried) subset entry column list ≡ list_within carried subset entry column (narrowed_by subset entry column c list)
@@ -73,18 +60,6 @@ module _ (subset entry : ℕ) where
             ≡ list_within carried subset entry column (cond b (lesser list (list_carried entry column c)) list)
         by true = refl
         by false = refl
-
-    pub one_narrowed : (carried : List Carried) (i : ℕ) (c : Carried) (list new own : List ℕ) → i < length carried → c ≡ get_or carried i c
-        → list_within (drop i carried) subset entry column list ≡ list_within carried subset entry column own → new ≡ narrowed_by subset entry column c list
-        → list_within (drop (i + 1) carried) subset entry column new ≡ list_within carried subset entry column own
-    one_narrowed carried i c list new own low at before is =
-        ap (list_within (drop (i + 1) carried) subset entry column) (is ∙ ap (λ (c : Carried). narrowed_by subset entry column c list) at)
-        ∙ sym (next_list (get_or carried i c) (drop (i + 1) carried) list)
-        ∙ sym (at_drop_more (λ (s : List Carried). list_within s subset entry column list) carried i c low) ∙ before
-
-    pub all_narrowed : (carried : List Carried) (i : ℕ) (list own : List ℕ) → length carried ≤ i
-        → list_within (drop i carried) subset entry column list ≡ list_within carried subset entry column own → list ≡ list_within carried subset entry column own
-    all_narrowed carried i list own past before = sym (ap (λ (s : List Carried). list_within s subset entry column list) (drop_all i carried past)) ∙ before
 
     -- a carried list sums to the carried row bound
     carried_sum : (c : Carried) → IsSome (list_of c.lists entry column) → sum (list_carried entry column c) ≡ rows_carried entry c
@@ -110,33 +85,12 @@ module _ (subset entry : ℕ) where
         ap (λ (s : List ℕ). sum s) (next_list c carried list) ∙ within_sum carried (narrowed_by subset entry column c list) carry.1
         ∙ ap (rows_within carried subset entry) (narrowed_sum c list carry.0) ∙ sym (next_rows c carried (sum list))
 
--- a narrowed list has no more rows
-pub narrowed_small : (subset : ℕ) (entry column : ℕ) (c : Carried) (list : List ℕ) → sum list < 2 ^ 64 → sum (narrowed_by subset entry column c list) < 2 ^ 64
-narrowed_small subset entry column c list small = by (is_carried subset entry c)
-  where
-    by : (b : Bool) → sum (cond b (lesser list (list_carried entry column c)) list) < 2 ^ 64
-    by true = omega (arith, small, sum-lesser list (list_carried entry column c))
-    by false = small
-
 -- ---- rows
 
 module _ (bounds : EntryBounds) where
   pub record HasRowsTo (i : ℕ) (made : EntryLists) : Type 0 where
     pub there : (entry : ℕ) → entry < i → rows_of made entry ≡ Some (bounds.rows entry)
     pub past : (entry : ℕ) → i ≤ entry → rows_of made entry ≡ None
-
-  pub no_rows : (made : EntryLists) → ((entry : ℕ) → rows_of made entry ≡ None) → HasRowsTo 0 made
-  no_rows made none = record { there = λ entry low. absurd (omega arith); past = λ entry past. none entry }
-
-  pub rows_more : (i rows : ℕ) (old new : EntryLists) → HasRowsTo i old → rows ≡ bounds.rows i → rows_of new i ≡ Some rows
-      → ((other : ℕ) → other ≢ i → rows_of new other ≡ rows_of old other) → HasRowsTo (i + 1) new
-  rows_more i rows old new before is set others = record {
-    there = λ entry low. elim (cases_eq entry i) [
-      | inl same ↦ ap (rows_of new) same ∙ set ∙ ap Some (is ∙ ap bounds.rows (sym same))
-      | inr apart ↦ others entry apart ∙ before.there entry (omega arith)
-    ];
-    past = λ entry past. others entry (λ same. absurd (omega arith)) ∙ before.past entry (omega arith);
-  }
 
   -- ---- lists
 

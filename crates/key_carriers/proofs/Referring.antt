@@ -15,10 +15,6 @@ module _ (tables : Tables) (e : Edge) where
   abbrev pairs : List (ℕ × ℕ)
   pairs = widened tables e
 
-  -- a pair is a row with its partner
-  abbrev IsPairOf : ℕ → ℕ × ℕ → Type 0
-  IsPairOf row pair = (pair.0 ≡ row) × (referred_row tables e row ≡ Some pair.1)
-
   pair_of : (row : ℕ) (o : Option ℕ) (pair : ℕ × ℕ) → option_map (with_row row) o ≡ Some pair → (pair.0 ≡ row) × (o ≡ Some pair.1)
   pair_of row None pair is = absurd (cc)
   pair_of row (Some other) pair is =

@@ -13,8 +13,8 @@
 //! ```text
 //! let mut lists = reserve_scans(alloc, &query, &db, plan.scans.as_slice())?;
 //! let reserved = reserve_plan(alloc, &query, &db, &plan)?;
-//! scan_all(&query, &db, &mut lists);
-//! let executed = execute_plan(reserved, &plan, &query, &db, &lists);
+//! scan_all(&query, &db, lists.as_mut_slice());
+//! let executed = execute_plan(reserved, &plan, &query, &db, lists.as_slice());
 //! ```
 #![tactic(auto)]
 

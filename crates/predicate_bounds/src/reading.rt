@@ -9,7 +9,7 @@ ghost use Rattle.predicate_bounds.specs.Steps.{range_of, step_answers, steps_of,
 ghost use Rattle.join_graph.specs.Conjuncts.{local_of, names_just, numbers_where};
 
 use crate::comparing::{Compared, compared_of, opposite};
-use crate::ranges::{has_column, one_range};
+use crate::ranges::{has_column, intersection_of};
 use crate::steps::{Literal, Range, Step};
 use base_io::{NoMemory, Seq};
 use join_graph::Parts;
@@ -58,7 +58,7 @@ impl Members {
             let ranges = self.ranges.as_slice();
             let column = ranges[i].column;
             if !has_column(&ranges[..i], column) {
-                steps.push(Step::Within(one_range(alloc, ranges, column)?))?;
+                steps.push(Step::Within(intersection_of(alloc, ranges, column)?))?;
                 self.close(steps)?;
             }
         }

@@ -44,9 +44,6 @@ root_alone n plan is = elim (cases_lt 1 (length plan.scans)) [
 ]
 
 module _ (query : Query) (tables : Tables) (plan : BushyPlan) (is : IsTreePlan (length query.from) plan) (lists : List (List ℕ)) where
-  abbrev leaves : List ℕ
-  leaves = entries_at plan (node_count plan - 1)
-
   root_chosen : node_rows query tables lists plan (node_count plan - 1) ≡ chosen_rows query tables lists (entries_at plan (node_count plan - 1))
   root_chosen = rw (root_alone (length query.from) plan is) refl
 

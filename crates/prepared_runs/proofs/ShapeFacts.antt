@@ -1,11 +1,10 @@
 -- What holds of a plan of either shape by what a source gives, and of the entries that it joins.
-use Rattle.std.proofs.Common.{◌≡◌, ◌⊎◌, inl, inr, ℕ, ◌+◌, ◌-◌, ◌<◌, ◌≤◌, List, Result, Ok, Err, eqb, length, get_or, refl, ap, sym, ◌∙◌, subst, arith}
+use Rattle.std.proofs.Common.{◌≡◌, ℕ, ◌+◌, ◌-◌, ◌<◌, ◌≤◌, List, Result, Ok, Err, eqb, length, get_or, refl, ap, sym, ◌∙◌, subst, arith}
 use Rattle.std.specs.Prelude.{◌≢◌}
 use Rattle.std.specs.List.{AllByRecursion, IsDistinct}
 use Rattle.csv_tables.specs.declared.types.Database.{Database}
 use Rattle.plans.specs.LeftDeep.{IsPlan}
 use Rattle.plans.specs.declared.left_deep.Plan.{Plan}
-use Rattle.order_search.specs.declared.refusal.PlanError.{PlanError}
 use Rattle.order_search.specs.declared.refusal.PlanError.TheVariants as error
 use Rattle.plan_answers.specs.PlanAnswer.{plan_answer}
 use Rattle.plan_answers.proofs.OneChoice as orders
@@ -67,12 +66,6 @@ never_wants_memory shapes.Order given accuracy budget =
 never_wants_memory shapes.Tree given accuracy budget =
     never_seen over (tree_answer (given.sets accuracy) (given.scans accuracy) budget) error.NoMemory
     (trees.never_memory (given.sets accuracy) (given.scans accuracy) budget)
-
--- an answer that is another, or want of memory, is so with its value seen as another
-pub seen_answer : {A B : Type 0} (f : A → B) (r answer : Result A PlanError) → (r ≡ Err error.NoMemory) ⊎ (r ≡ answer)
-    → (seen f r ≡ Err error.NoMemory) ⊎ (seen f r ≡ seen f answer)
-seen_answer {A} f r answer (inl none) = inl (ap (λ (x : Result A PlanError). seen f x) none)
-seen_answer {A} f r answer (inr is) = inr (ap (λ (x : Result A PlanError). seen f x) is)
 
 -- by bounds that are known the answer is the plan
 pub planned_known : (shape : Shape) (given : Sourced) (accuracy budget : ℕ) (known : Known) → HasBounds (given.sets accuracy) (given.scans accuracy) known

@@ -1,5 +1,6 @@
--- How a run joins its entries: along an order, or over a tree. Here alone one shape is told from the other. The parts of a plan are the levels
--- of its order, or the inner nodes of its tree: each has a bound, and is listed.
+-- How a run joins its entries: along an order, or over a tree. The parts of a plan are the levels of its order, or the inner nodes of its
+-- tree: each has a bound, and is listed. Five other files tell one shape from the other too: Allowed (costs), PreparedQuery (rooms), Kept
+-- (joined rows), Commands of safebound_words (budgets) and Promise of safebound_top (plan texts).
 use Rattle.std.specs.Prelude.{ℕ, ◌+◌, ◌-◌, List, length, map, slice_index, Result}
 use Rattle.std.specs.List.{range_with_len}
 use Rattle.order_search.specs.declared.refusal.PlanError.{PlanError}

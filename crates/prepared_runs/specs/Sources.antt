@@ -1,4 +1,5 @@
--- What the bounds of a run are made from, and the rows that are joined. Here alone one source is told from another.
+-- What the bounds of a run are made from, and the rows that are joined: in each function below each source has its line. Which sources join
+-- reduced scans is also said of accepted runs (`BoundsHold` in AcceptedQuery), and in the promise (`AreScans` of safebound_top).
 use Rattle.std.specs.Prelude.{ℕ, List, ⊤}
 use Rattle.schema_types.specs.declared.types.Schema.{Schema}
 use Rattle.query_types.specs.declared.types.Query.{Query}

@@ -85,7 +85,7 @@ plan_stage task schema query rows = do
   plan ← told plan_refusal (plan_asked task schema query (tables_in rows))
   within_limit task.memory (shape_bytes plan) (Planned (run_asked task query rows plan))
 
--- what is done with a query; only this definition tells one work from another
+-- what is done with a query
 abbrev pub work_run : Work → Schema → Query → Files → Result RunOutcome Refusal
 work_run (works.Plan task) schema query files = do
   rows ← tables_stage schema query.from files

@@ -1,8 +1,7 @@
 -- How the proofs of this crate go: what was hard, and what closed it.
 --
--- Each loop carries `AllZip` of a relation over `take i` of the sizes and the buffers so far (`zip_more`, `zip_all`): one lemma for lists
--- of two types serves row buffers and chains. Levels are exact by `RowForest::reserve`. `&order[1..]` is `take (length - 1) (drop 1 order)`
--- in goals, so one `take_all` stands in the last answer.
+-- Levels are exact by `RowForest::reserve`. `&order[1..]` is `take (length - 1) (drop 1 order)` in goals, so one `take_all` stands in the
+-- last answer.
 
 pub mod Roomy
 pub mod Few

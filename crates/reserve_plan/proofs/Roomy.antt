@@ -1,7 +1,7 @@
 -- Buffers one by one.
-use Rattle.std.proofs.Common.{◌≡◌, ℕ, zero, suc, ◌+◌, ◌*◌, ◌<◌, ◌≤◌, max, List, [], ◌∷◌, ◌++◌, length, map, sum, take, drop, get_or, refl, ap, sym, ◌∙◌, subst, arith}
+use Rattle.std.proofs.Common.{◌≡◌, ℕ, zero, suc, ◌+◌, ◌*◌, ◌<◌, ◌≤◌, max, List, [], ◌∷◌, length, map, sum, drop, get_or, refl, ap, sym, ◌∙◌, subst, arith}
 use Rattle.std.specs.List.{AllZip}
-use Rattle.std.proofs.lemmas.List.{take_more, take_all, drop_more, drop_all, length-map}
+use Rattle.std.proofs.lemmas.List.{drop_more, drop_all, length-map}
 use Rattle.row_buf.specs.declared.TheConstants.{BUFFER_BYTES, KEY_BYTES, ROW_NUMBER_BYTES}
 use Rattle.row_buf.specs.Rows.{Rows, capacity}
 use Rattle.link_index.specs.Bytes.{chains_bytes, forest_bytes}
@@ -13,21 +13,6 @@ use Rattle.reserve_plan.specs.Memory.{lists_bytes, row_chain_bytes, rooms_bytes}
 use Rattle.reserve_plan.specs.Rooms.{buffer_for, chains_for, greatest, rooms, HasRooms, IsRoomFor, IsRoomForKeys, IsRoomForLevel}
 
 -- ---- lists one by one
-
-zip_push : {A B : Type 0} (R : A → B → Type 0) (xs : List A) (ys : List B) (x : A) (y : B) → AllZip R xs ys → R x y → AllZip R (xs ++ x ∷ []) (ys ++ y ∷ [])
-zip_push R [] [] x y all one = (one, tt)
-zip_push R [] (b ∷ ys) x y all one = absurd all
-zip_push R (a ∷ xs) [] x y all one = absurd all
-zip_push R (a ∷ xs) (b ∷ ys) x y all one = (all.0, zip_push R xs ys x y all.1 one)
-
--- one more of them
-pub zip_more : {A B : Type 0} (R : A → B → Type 0) (xs : List A) (i : ℕ) (d : A) (ys new : List B) (y : B) → AllZip R (take i xs) ys → i < length xs → R (get_or xs i d) y → new ≡ ys ++ y ∷ [] → AllZip R (take (i + 1) xs) new
-zip_more R xs i d ys new y so_far low one pushed =
-    subst (λ s. AllZip R s new) (sym (take_more xs i d low))
-    (subst (λ s. AllZip R (take i xs ++ get_or xs i d ∷ []) s) (sym pushed) (zip_push R (take i xs) ys (get_or xs i d) y so_far one))
-
-pub zip_all : {A B : Type 0} (R : A → B → Type 0) (xs : List A) (i : ℕ) (ys : List B) → AllZip R (take i xs) ys → length xs ≤ i → AllZip R xs ys
-zip_all R xs i ys so_far end = subst (λ s. AllZip R s ys) (take_all i xs end) so_far
 
 pub zip_long : {A B : Type 0} (R : A → B → Type 0) (xs : List A) (ys : List B) → AllZip R xs ys → length xs ≡ length ys
 zip_long R [] [] all = refl
@@ -46,13 +31,6 @@ zip_each [] [] long each = tt
 zip_each [] (m ∷ ms) long each = absurd (omega arith)
 zip_each (n ∷ ns) [] long each = absurd (omega arith)
 zip_each (n ∷ ns) (m ∷ ms) long each = (each 0 (omega arith), zip_each ns ms (omega arith) (λ i low. each (suc i) (omega arith)))
-
--- the items of a mapped list
-pub zip_mapped : {A B C : Type 0} (R : A → B → Type 0) (f : C → A) (xs : List C) (ys : List B) → AllZip (λ x y. R (f x) y) xs ys → AllZip R (map f xs) ys
-zip_mapped R f [] [] all = tt
-zip_mapped R f [] (y ∷ ys) all = absurd all
-zip_mapped R f (x ∷ xs) [] all = absurd all
-zip_mapped R f (x ∷ xs) (y ∷ ys) all = (all.0, zip_mapped R f xs ys all.1)
 
 -- where the relation holds of a lower number, too
 zip_less : {B : Type 0} (R : ℕ → B → Type 0) → ((n m : ℕ) (y : B) → n ≤ m → R m y → R n y) → (ns ms : List ℕ) (ys : List B) → AllZip ◌≤◌ ns ms → AllZip R ms ys → AllZip R ns ys

@@ -72,18 +72,6 @@ one_or_more (x ∷ s) all = (omega (arith, all.0), one_or_more s all.1)
 pub fitted_falls : (rows : ℕ) (s : List ℕ) → IsFalling s → IsFalling (fitted rows s)
 fitted_falls rows s fall = falls_on (cut_at s rows) 1 (rows - sum (cut_at s rows)) (IsFalling-cut_at s rows fall) (one_or_more (cut_at s rows) (positive-cut_at s rows fall))
 
-ones_positive : (n : ℕ) → AllByRecursion (λ x. 0 < x) (replicate n 1)
-ones_positive zero = tt
-ones_positive (suc n) = (omega arith, ones_positive n)
-
-both_positive : (s t : List ℕ) → AllByRecursion (λ x. 0 < x) s → AllByRecursion (λ x. 0 < x) t → AllByRecursion (λ x. 0 < x) (s ++ t)
-both_positive [] t all others = others
-both_positive (x ∷ s) t all others = (all.0, both_positive s t all.1 others)
-
-pub fitted_positive : (rows : ℕ) (s : List ℕ) → IsFalling s → AllByRecursion (λ x. 0 < x) (fitted rows s)
-fitted_positive rows s fall =
-    both_positive (cut_at s rows) (replicate (rows - sum (cut_at s rows)) 1) (positive-cut_at s rows fall) (ones_positive (rows - sum (cut_at s rows)))
-
 -- ---- as it is made
 
 -- the elements of a cut list are at least 1, and it has room for as many more as are left

@@ -8,5 +8,4 @@ pub mod Holding
 pub mod Bounded
 pub mod Totals
 pub mod GivenSets
-pub mod Working
 pub mod Finding

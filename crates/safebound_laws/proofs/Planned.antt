@@ -167,9 +167,6 @@ module _ (made : StatsCall) (schema : Schema) (first_bytes : List ℕ) (start : 
   pub of_schema : IsOf schema its.query
   of_schema = query_of_schema planned.query_file planned.files schema its.query query_there
 
-  abbrev pub old : Tables
-  old = moved start.query (tables_of start.database) its.query
-
   -- ---- the rows of its entries
 
   pub made_so : (first_missing its.query its.stats ≡ None) × (planned_by_file its.query its.stats planned.budget ≡ Ok its.plan)

@@ -20,7 +20,7 @@ mod tree;
 ghost use Rattle.std.specs.Prelude.{◌≡◌, Contains, IfErr, IfOk, List, MatchResult};
 ghost use Rattle.ll_grammars.specs.declared.lexeme.Lexeme.{Lexeme as Token};
 ghost use Rattle.ll_grammars.specs.Places.{IsSyntaxError};
-ghost use Rattle.schema_grammar.specs.declared.tree.TableText.{TableNode as Table};
+ghost use Rattle.schema_grammar.specs.declared.tree.TableNode.{TableNode as Table};
 ghost use Rattle.schema_grammar.specs.Grammar.{SchemaText};
 ghost use Rattle.schema_grammar.specs.Lexemes.{AreOf};
 

@@ -10,10 +10,7 @@
 //! holds of every query that was read. So a caller writes
 //!
 //! ```text
-//! if text.len() > 1_048_576 {
-//!     return Err(Refused::TooLarge);
-//! }
-//! let query = read_query(alloc, &schema, text)?;
+//! let query = read_query(alloc, &schema, text)?;    // of a text of at most MOST_TEXT bytes
 //! ```
 //!
 //! over a schema that `read_schema` gave, and knows `IsOf schema query` from there on.

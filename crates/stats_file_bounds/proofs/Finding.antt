@@ -1,5 +1,5 @@
 -- What is found, and what is found nowhere.
-use Rattle.std.proofs.Common.{◌≡◌, ℕ, zero, suc, ◌+◌, ◌<◌, ◌≤◌, Bool, true, false, List, [], ◌∷◌, None, Some, ap, sym, ◌∙◌, subst, inl, inr, arith}
+use Rattle.std.proofs.Common.{◌≡◌, ℕ, zero, suc, ◌+◌, ◌<◌, ◌≤◌, Bool, false, List, [], ◌∷◌, None, Some, ap, sym, ◌∙◌, subst, inl, inr, arith}
 use Rattle.std.specs.Prelude.{find, unwrap_or}
 use Rattle.std.specs.List.{All, AllByRecursion, range_with_len}
 use Rattle.std.proofs.lemmas.Bool.{cases_Bool, cases_eq}
@@ -21,14 +21,6 @@ found_one P p [] x all e = absurd (cc)
 found_one P p (y ∷ xs) x all e = elim (cases_Bool (p y)) [
   | inl t ↦ (let is : Some y ≡ Some x = rw t at e in let same : y ≡ x = cc in subst P same all.0)
   | inr n ↦ (let rest : find p xs ≡ Some x = rw n at e in found_one P p xs x all.1 rest)
-]
-
--- what is found passes
-pub found_passes : {X : Type 0} (p : X → Bool) (xs : List X) (x : X) → find p xs ≡ Some x → p x ≡ true
-found_passes p [] x e = cc
-found_passes p (y ∷ xs) x e = elim (cases_Bool (p y)) [
-  | inl t ↦ (let is : Some y ≡ Some x = rw t at e in let same : y ≡ x = cc in ap p (sym same) ∙ t)
-  | inr n ↦ (let rest : find p xs ≡ Some x = rw n at e in found_passes p xs x rest)
 ]
 
 -- the pair of two columns is one of the section's, or the empty one

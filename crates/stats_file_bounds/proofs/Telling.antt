@@ -42,9 +42,6 @@ module _ (P : ℕ → EntryStats → Type 0) where
     pub as_many : length entries ≡ n
     pub each : (entry : ℕ) → entry < n → P entry (get_or entries entry no_columns)
 
-  pub none_each : (entries : List EntryStats) → entries ≡ [] → AreEach 0 entries
-  none_each entries none = record { as_many = ap (λ (s : List EntryStats). length s) none; each = λ entry low. absurd (omega (arith, low)) }
-
   pub one_each : (n : ℕ) (old new : List EntryStats) (one : EntryStats) → AreEach n old → P n one → new ≡ old ++ one ∷ [] → AreEach (n + 1) new
   one_each n old new one before here pushed = record {
     as_many = ap (λ (s : List EntryStats). length s) pushed ∙ length_push old one ∙ omega (arith, before.as_many);

@@ -1,14 +1,12 @@
 -- One column more, and one pair more.
-use Rattle.std.proofs.Common.{◌≡◌, ◌==◌, true, false, ℕ, ◌+◌, ◌<◌, ◌≤◌, List, [], ◌∷◌, ◌++◌, map, length, take, get_or, append_assoc, Option, None, Some, refl, ap, sym, ◌∙◌, arith}
-use Rattle.std.specs.List.{filter_map, flat_map, list_any}
-use Rattle.std.proofs.lemmas.Grind.{flat_map-append}
+use Rattle.std.proofs.Common.{◌≡◌, ◌==◌, true, false, ℕ, ◌+◌, ◌<◌, ◌≤◌, List, [], ◌∷◌, ◌++◌, map, length, take, get_or, append_assoc, Option, None, Some, refl, ap, sym, ◌∙◌}
+use Rattle.std.specs.List.{filter_map, list_any}
 use Rattle.std.proofs.lemmas.List.{append-nil, map-append, take_all, take_more}
 use Rattle.std.proofs.lemmas.List.Elements.{filter_map-append}
 use Rattle.degree_lists.proofs.OneMoreKey.{different-push}
 use Rattle.degree_sequences.specs.Degrees.{different}
 use Rattle.stats_file_of_query.specs.declared.column_pairs.ColumnPair.{ColumnPair}
 use Rattle.stats_file_of_query.specs.Columns.{with_column}
-use Rattle.stats_file_of_query.specs.ColumnPairs.{of_itself, pairs_between, with_each}
 
 -- ---- columns
 
@@ -45,32 +43,3 @@ pub one_pair_more : {X Y : Type 0} (f : X → Y) (xs : List X) (i : ℕ) (x : X)
 one_pair_more f xs i x first old new low before pushed =
     pushed ∙ ap (λ s. s ++ f (get_or xs i x) ∷ []) before ∙ append_assoc first (map f (take i xs)) (f (get_or xs i x) ∷ [])
     ∙ ap (λ s. first ++ s) (sym (map-append f (take i xs) (get_or xs i x ∷ [])) ∙ ap (map f) (sym (take_more xs i x low)))
-
-pub all_pairs : {X Y : Type 0} (f : X → Y) (xs : List X) (i : ℕ) (first new : List Y) → length xs ≤ i → new ≡ first ++ map f (take i xs) → new ≡ first ++ map f xs
-all_pairs f xs i first new past are = are ∙ ap (λ s. first ++ map f s) (take_all i xs past)
-
-pub one_list_more : {X Y : Type 0} (f : X → List Y) (xs : List X) (i : ℕ) (x : X) (first old new : List Y) → i < length xs → old ≡ first ++ flat_map f (take i xs)
-    → new ≡ old ++ f (get_or xs i x) → new ≡ first ++ flat_map f (take (i + 1) xs)
-one_list_more f xs i x first old new low before added =
-    added ∙ ap (λ s. s ++ f (get_or xs i x)) before ∙ append_assoc first (flat_map f (take i xs)) (f (get_or xs i x))
-    ∙ ap (λ s. first ++ s) (ap (λ s. flat_map f (take i xs) ++ s) (sym (append-nil (f (get_or xs i x)))) ∙ sym (flat_map-append f (take i xs) (get_or xs i x ∷ []))
-    ∙ ap (flat_map f) (sym (take_more xs i x low)))
-
-pub all_lists : {X Y : Type 0} (f : X → List Y) (xs : List X) (i : ℕ) (first new : List Y) → length xs ≤ i → new ≡ first ++ flat_map f (take i xs) → new ≡ first ++ flat_map f xs
-all_lists f xs i first new past are = are ∙ ap (λ s. first ++ flat_map f s) (take_all i xs past)
-
--- ---- by the kinds of columns that there are
-
-pub only_joined : (filters joined : List ℕ) → length filters ≡ 0 → map of_itself joined ≡ pairs_between filters joined
-only_joined [] joined none = refl
-only_joined (f ∷ filters) joined none = absurd (omega (arith, none))
-
-pub only_filters : (filters joined : List ℕ) → (length filters ≡ 0 → ⊥) → length joined ≡ 0 → map of_itself filters ≡ pairs_between filters joined
-only_filters [] joined some none = absurd (some refl)
-only_filters (f ∷ filters) [] some none = refl
-only_filters (f ∷ filters) (j ∷ joined) some none = absurd (omega (arith, none))
-
-pub both_kinds : (filters joined : List ℕ) → (length filters ≡ 0 → ⊥) → (length joined ≡ 0 → ⊥) → flat_map (with_each joined) filters ≡ pairs_between filters joined
-both_kinds [] joined some also = absurd (some refl)
-both_kinds (f ∷ filters) [] some also = absurd (also refl)
-both_kinds (f ∷ filters) (j ∷ joined) some also = refl

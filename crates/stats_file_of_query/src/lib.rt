@@ -8,9 +8,9 @@
 //! for the file, and `StandsFor` (in `specs/Standing.antt`) for when a file stands for tables.
 //!
 //! ```text
-//! let needs = needs_of(alloc, steps, equalities, 0)?;      // needs ≡ needs_of query 0
-//! needs.add_pairs(&mut pairs)?;                            // pairs ≡ pairs_of needs
-//! let file = stats_of(alloc, &schema, &query, &db, 1)?;    // file ≡ file_of_query schema query (tables_of db) 1
+//! let needs = needs_of(alloc, steps, equalities, 0)?;                    // needs ≡ needs_of query 0
+//! needs.add_pairs(&mut pairs)?;                                          // pairs ≡ pairs_of needs
+//! let file = stats_of(alloc, &schema, &query, &db, Accuracy::of(1))?;    // file ≡ file_of_query schema query (tables_of db) 1
 //! write_stats(&file, &schema, sink)?;
 //! ```
 #![tactic(auto)]

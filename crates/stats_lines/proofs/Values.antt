@@ -1,7 +1,6 @@
 -- Values of the rules, decided, and the value that a word spells.
 use Rattle.std.proofs.Common.{◌≡◌, inl, inr, ℕ, zero, suc, ◌^◌, ◌<◌, ◌≤◌, List, [], ◌∷◌, length, ap, arith}
-use Rattle.std.specs.Prelude.{All, sum, ℤ, pos, negsuc, FitsSigned, IsUtf8, decimal}
-use Rattle.std.specs.Int.{w64}
+use Rattle.std.specs.Prelude.{All, sum, ℤ, pos, negsuc, IsUtf8, decimal}
 use Rattle.std.specs.List.{flat_map}
 use Rattle.std.specs.Str.{is_utf8}
 use Rattle.std.proofs.lemmas.List.Sums.{sum_by-cons}
@@ -73,16 +72,6 @@ list {F = F} follows rows word =
 
 pub is_text : (bytes : List ℕ) → Decided (IsUtf8 bytes)
 is_text bytes = alike (IsUtf8-from_is_utf8 bytes) (is_utf8-from_IsUtf8 bytes) (is_true (is_utf8 bytes))
-
-fits : (z : ℤ) → Decided (FitsSigned w64 z)
-fits (pos n) = alike (λ h. record { sfits = h }) (λ h. h.sfits) (less n (2 ^ 63))
-fits (negsuc n) = alike (λ h. record { sfits = h }) (λ h. h.sfits) (less n (2 ^ 63))
-
-pub is_of_kind : (kind : Kind) (v : Datum) → Decided (IsOfKind kind v)
-is_of_kind kinds.Int (datum.Int z) = fits z
-is_of_kind kinds.Int (datum.Text bytes) = inr (λ h. h)
-is_of_kind (kinds.Text most) (datum.Int z) = inr (λ h. h)
-is_of_kind (kinds.Text most) (datum.Text bytes) = is_text bytes
 
 pub same_value : (a b : Datum) → Decided (a ≡ b)
 same_value (datum.Int (pos a)) (datum.Int (pos b)) = alike (λ e. ap (λ n. datum.Int (pos n)) e) (λ e. cc) (same_number a b)

@@ -1,7 +1,7 @@
 use Rattle.std.proofs.Common.{arith}
 use Rattle.predicate_bounds.specs.Steps.{range_of}
 use Rattle.predicate_bounds.proofs.Narrow.{narrowed_more, other_more}
-use Rattle.predicate_bounds.proofs.ranges.one_range.Goals as goal
+use Rattle.predicate_bounds.proofs.ranges.intersection_of.Goals as goal
 
 pub loop-i-preserved-then-range-column : goal.loop-i-preserved-then-range-column
 loop-i-preserved-then-range-column c = (
