@@ -9,5 +9,3 @@ rose_then_later before mid now first rose next = grind arith
 -- and however many came before
 pub later_then_rose : (before mid now : ℕ) → before ≤ mid → Rose mid now → Rose before now
 later_then_rose before mid now first rose = grind arith
-
-pub ruleset count_steps = (rose_then_later, later_then_rose)

@@ -64,14 +64,6 @@ impl Pool {
         self.texts[code as usize].as_str()
     }
 
-    /// The text of a cell.
-    pub(crate) fn text_of_cell(&self, cell: u64) -> &str
-        requires { cell < length self.now }
-        ensures { slice_get self.now cell ≡ Some result.now }
-    {
-        self.texts[cell as usize].as_str()
-    }
-
     /// The number of a text. If the text is new, it is added at the end of the pool. If there is too
     /// little memory, the pool stays as it was.
     pub fn intern(&mut self, text: &str) -> Result<u32, NoMemory>
