@@ -1,4 +1,4 @@
-"""`safebound convert`: a file in another encoding or with other separators, written as the program reads it."""
+"""`safebound convert`: writes a text file in UTF-8, and a table as CSV with commas, as the program reads them."""
 from __future__ import annotations
 
 import codecs
@@ -53,7 +53,7 @@ PACKED = (
 
 @dataclass
 class Sheet:
-    """A text of records: how its fields are separated, how many lines stand before them, and its records."""
+    """A table's text: its separator, the number of lines before the first record, and the records."""
     separator: str
     lines_before: int
     records: list[list[str]]
@@ -82,7 +82,7 @@ def convert(line: Line) -> int:
 
 
 def in_cents(line: Line, file: str, sheet: Sheet | None) -> str:
-    """Writes the column of `--cents` in whole numbers, and says so; nothing where that isn't asked for."""
+    """Changes the column of `--cents` to whole numbers, and returns a sentence on it; "" without this option."""
     name, digits = line.own.get(CENTS.word), line.own.get(DIGITS.word, "2")
     if name is None and DIGITS.word not in line.own:
         return ""
@@ -107,7 +107,7 @@ def read(file: str) -> bytes:
 
 
 def packed(data: bytes) -> str:
-    """What a file is that holds no text, and what to do; nothing of others."""
+    """What a workbook or a packed file is, and what the user has to do with it; "" for any other file."""
     return next((says for start, says in PACKED if data.startswith(start)), "")
 
 
@@ -121,7 +121,7 @@ def of_folder(folder: str) -> str:
 
 
 def encoding_of(data: bytes) -> str:
-    """The encoding by the file's mark, else by its bytes."""
+    """The encoding that the byte order mark names. Without a mark it is guessed from the bytes."""
     marked = next((name for mark, name in MARKS if data.startswith(mark)), None)
     if marked:
         return marked
@@ -153,7 +153,7 @@ def decoded(file: str, data: bytes, encoding: str) -> str:
 
 
 def sheet_of(text: str) -> Sheet:
-    """The records of a text. A first line `sep=;`, which Excel understands, names the separator and is no record."""
+    """The records of a text. A first line `sep=;`, as Excel has it, names the separator; else the fittest is taken."""
     first, _, rest = text.partition("\n")
     named = first.rstrip("\r").removeprefix("sep=")
     if first.startswith("sep=") and named in SEPARATORS:
@@ -168,7 +168,7 @@ def parsed(text: str, separator: str) -> Iterator[list[str]]:
 
 
 def evenness(text: str, separator: str) -> tuple[bool, int, int]:
-    """How well a separator fits: whether the header has it, how many records then are as wide, and how wide."""
+    """How well a separator fits: whether it splits the header, how many records are as wide, and the header's width."""
     widths = [len(record) for _, record in zip(range(LOOKED_AT), parsed(text, separator))]
     wide = widths[0] if widths else 1
     return wide > 1, widths.count(wide), wide
@@ -181,7 +181,7 @@ def written(sheet: Sheet) -> str:
 
 
 def ragged(sheet: Sheet) -> str:
-    """A sentence on records that have another number of fields than the header."""
+    """A warning that names the records with more or fewer fields than the header; "" if all have as many."""
     wide = len(sheet.records[0]) if sheet.records else 0
     found = [number for number, record in enumerate(sheet.records) if len(record) != wide]
     said = f"record {found[0]}" if len(found) == 1 else f"records {listed(map(str, found), most=4)}"
@@ -189,13 +189,13 @@ def ragged(sheet: Sheet) -> str:
 
 
 def free(name: str) -> str:
-    """A name that no file has: this one, or one with a number behind it."""
+    """A name that no file has: `name`, or `name` with a number after it."""
     number = next(n for n in itertools.count(1) if not os.path.lexists(f"{name}{n if n > 1 else ''}"))
     return f"{name}{number if number > 1 else ''}"
 
 
 def laid(file: str, old: bytes, new: bytes, output: str | None, says: str, warning: str, numbers_kept: bool) -> int:
-    """Writes what came out. No file is written over: one that keeps its name is kept under another name first."""
+    """Writes the new text, over no other file. If the input has the target's name, its old bytes are kept first."""
     folder, base = os.path.split(file)
     target = output or os.path.join(
         folder, base.lower() if base.lower().endswith((".csv", ".sql")) else os.path.splitext(base)[0].lower() + ".csv"

@@ -1,4 +1,4 @@
--- x stands 5, 3 and 1 times in r, and 3, 2, 2 and 1 times in s: at most 5 * 3 + 3 * 2 + 1 * 2 rows join.
+-- The values of x occur 5, 3 and 1 times in r, and 3, 2, 2 and 1 times in s. So the join has at most 5 * 3 + 3 * 2 + 1 * 2 rows.
 CREATE TABLE r (x integer, c text);
 INSERT INTO r VALUES (8, 'a'), (8, 'a'), (8, 'a'), (8, 'b'), (8, 'b'), (2, 'a'), (2, NULL), (2, 'a'), (5, 'b'), (NULL, 'b');
 CREATE TABLE s (x bigint);
@@ -17,15 +17,15 @@ SELECT rows_of('SELECT FROM r FULL JOIN s USING (x)') = 23 + 10 + 8 AS full_join
 SELECT rows_of('SELECT FROM r WHERE NOT EXISTS (SELECT FROM s WHERE r.x = s.x)') = 10 AS anti_join;
 SELECT rows_of('SELECT FROM r WHERE c = ''a''') = 5 AS one_value, rows_of('SELECT FROM r WHERE c IS NULL') = 1 AS no_value;
 SELECT rows_of('SELECT FROM r WHERE c IN (''a'', ''b'')') = 9 AS two_values, rows_of('SELECT FROM r WHERE c IS NULL OR c = ''b''') = 5 AS either;
--- Of the rows with a, x stands 3 and 2 times.
+-- In the rows of r with c = 'a', the values of x occur 3 and 2 times.
 SELECT rows_of('SELECT FROM r JOIN s USING (x) WHERE c = ''a''') = 3 * 3 + 2 * 2 AS filtered;
--- One of s stands beside five of r.
+-- The row of table one matches five rows of r.
 CREATE TABLE one (x integer);
 INSERT INTO one VALUES (8);
 SELECT safebound.keep('one') > 0 AS one;
 SELECT rows_of('SELECT FROM r WHERE EXISTS (SELECT FROM one WHERE r.x = one.x)') = 5 AS semi_join,
        rows_of('SELECT FROM r WHERE r.x IN (SELECT x FROM s)') BETWEEN 8 AND 10 AS within;
--- A condition above an outer join isn't one of the scan below it, and one of its ON is.
+-- A condition above an outer join doesn't filter the scan below it. A condition in its ON does.
 CREATE FUNCTION scanned(query text, alias text) RETURNS integer LANGUAGE plpgsql AS $$
 DECLARE told jsonb;
 BEGIN
@@ -35,18 +35,18 @@ END $$;
 SELECT scanned('SELECT FROM r FULL JOIN s USING (x) WHERE c IS NULL', 'r') = 10 AS above_full,
        scanned('SELECT FROM s LEFT JOIN r USING (x) WHERE c IS NULL', 'r') = 10 AS above_left,
        scanned('SELECT FROM s LEFT JOIN r ON r.x = s.x AND c IS NULL', 'r') = 1 AS within;
--- Three rows: 1 of s has no partner, so that c is NULL beside it; the row of r without c meets two of s.
+-- The view has three rows. The 1 of s has no match, so c is NULL there. The row of r in which c is NULL matches two rows of s.
 CREATE VIEW apart AS SELECT s.x FROM (one RIGHT JOIN r ON one.x = r.x) FULL JOIN s ON r.x = s.x
     WHERE NOT EXISTS (SELECT FROM one e WHERE r.x = e.x) AND r.c IS NULL;
 SELECT count(*), rows_of('SELECT FROM apart') >= count(*) AS enough FROM apart;
 DROP VIEW apart;
 DROP FUNCTION scanned;
--- A parameter may be any value.
+-- A parameter may have any value, so the bound holds for each.
 PREPARE with_parameter(text) AS SELECT FROM r WHERE c = $1;
 SET plan_cache_mode = force_generic_plan;
 SELECT rows_of('EXECUTE with_parameter(''b'')') = 5 AS parameter;
 RESET plan_cache_mode;
--- Under another collation a value may be equal to more values.
+-- Under another collation more values may be equal to a given one.
 CREATE COLLATION caseless (provider = icu, locale = 'und-u-ks-level2', deterministic = false);
 CREATE TABLE cases (c text, d text COLLATE caseless);
 INSERT INTO cases VALUES ('a', 'a'), ('A', 'A'), ('A', 'A'), ('b', 'B');
@@ -56,7 +56,7 @@ SELECT rows_of('SELECT FROM cases WHERE c = ''a''') = 1 AS own, rows_of('SELECT 
        rows_of('SELECT FROM cases JOIN cases o ON cases.c = o.d') = 4 * 4 AS mixed, rows_of('SELECT FROM cases JOIN cases o USING (d)') = 3 * 3 + 1 AS joined;
 DROP TABLE one, cases;
 DROP COLLATION caseless;
--- 64 parts of 1000 values: one ends at 250, one at 500 and one at 750.
+-- The 1000 values of k are cut into 64 parts. One part ends at 250, one at 500 and one at 750.
 CREATE TABLE n (k integer, x integer, c text COLLATE "C");
 INSERT INTO n SELECT i, i % 10, CASE WHEN i <= 300 THEN 'aa' WHEN i <= 500 THEN 'ab' ELSE 'b_' END || i % 3 FROM generate_series(1, 1000) i;
 INSERT INTO n VALUES (NULL, 1, NULL);
@@ -68,11 +68,11 @@ SELECT rows_of('SELECT FROM n WHERE k <= 250') = 250 AS up_to, rows_of('SELECT F
 SELECT rows_of('SELECT FROM n WHERE k > 250 AND k <= 500') = 250 AS both_ends, rows_of('SELECT FROM n WHERE k <= 250 OR k > 750') = 500 AS either_end,
        rows_of('SELECT FROM n WHERE k BETWEEN 300 AND 305') BETWEEN 6 AND 32 AS few, rows_of('SELECT FROM n WHERE k > 1000') = 1 AS none;
 SELECT rows_of('SELECT FROM n JOIN m USING (x) WHERE n.k > 250 AND n.k <= 500') = 250 AS joined;
--- Nine texts, each a part: aa0 to aa2 stand 100 times each, ab0 to ab2 66 or 67 times. The part with the first text behind counts too.
+-- Each of the nine texts is a part: aa0 to aa2 occur 100 times each, ab0 to ab2 66 or 67 times. A bound may also count the part after its range.
 SELECT rows_of('SELECT FROM n WHERE c LIKE ''a%''') BETWEEN 500 AND 667 AS front, rows_of('SELECT FROM n WHERE c LIKE ''b\_1''') = 500 AS escaped,
        rows_of('SELECT FROM n WHERE c LIKE ''%a''') = 1000 AS no_front, rows_of('SELECT FROM n WHERE c LIKE ''aa_''') BETWEEN 300 AND 367 AS longer;
 DROP TABLE n, m;
--- Of 158 rows two refer to rows with a; one value alone stands in 100.
+-- Of the 158 rows of f that refer to d, two refer to rows with c = 'a'. The most frequent key occurs 100 times.
 CREATE TABLE d (k integer PRIMARY KEY, c text, n integer);
 INSERT INTO d SELECT i, CASE WHEN i IN (3, 4) THEN 'a' ELSE 'b' END, i FROM generate_series(1, 10) i;
 CREATE TABLE f (k integer REFERENCES d, x integer);
@@ -88,7 +88,7 @@ SET join_collapse_limit = 1;
 SELECT relations, bound >= (SELECT count(*) FROM f JOIN f g USING (x)) AS whole FROM safebound.bounds('SELECT FROM (f JOIN f g USING (x)) JOIN d ON f.k = d.k WHERE c = ''a''') WHERE 'd' <> ALL (relations);
 RESET join_collapse_limit;
 SELECT safebound.bounds('VACUUM');
--- What is expected follows the lists along a reference and the counted numbers of distinct values. A condition without lists is PostgreSQL's.
+-- Estimates by mean use the lists along a reference, and the counted distinct values. Where a condition has no lists, PostgreSQL estimates it.
 CREATE TABLE g (k integer);
 INSERT INTO g SELECT generate_series(1, 1000);
 ALTER TABLE g ALTER k SET (n_distinct = 10);
@@ -100,7 +100,7 @@ SELECT rows_of('SELECT FROM f JOIN d USING (k) WHERE n = 1') BETWEEN 95 AND 100 
 SET safebound.estimates = off;
 SELECT rows_of('SELECT FROM f JOIN d USING (k) WHERE n = 1') < 20 AS own, rows_of('SELECT k FROM g GROUP BY k') = 10 AS own_groups;
 DROP TABLE f, d, g;
--- An index with a condition finds fewer rows than its column has for a value: it costs what PostgreSQL expects.
+-- A partial index finds fewer rows for a value than the column has. Its cost stays what PostgreSQL expects.
 CREATE FUNCTION cost_by(mode text) RETURNS float8 LANGUAGE plpgsql AS $$
 DECLARE told json;
 BEGIN
@@ -119,7 +119,7 @@ SELECT safebound.keep('p') > 0 AS p, safebound.keep('q') > 0 AS q, cost_by('mean
 RESET enable_hashjoin; RESET enable_mergejoin; RESET enable_material;
 DROP TABLE p, q;
 DROP FUNCTION cost_by;
--- A list is another one where more of what its table refers to is joined: here 14 rows, and 50 by the list of the join before.
+-- When a second referenced table is joined, another list of f is used. It gives 14 rows here; the list of the join before would give 50.
 CREATE TABLE d (k integer PRIMARY KEY, c text);
 CREATE TABLE e (j integer PRIMARY KEY, c text);
 INSERT INTO d VALUES (1, 'a'), (2, 'b');
@@ -136,7 +136,7 @@ SELECT rows_of('SELECT FROM f JOIN d USING (k) JOIN g USING (x) WHERE d.c = ''a'
        rows_of('SELECT FROM f JOIN d USING (k) JOIN g USING (x) JOIN e USING (j) WHERE d.c = ''a'' AND e.c = ''a''') = 5 + 9 AS both;
 RESET join_collapse_limit;
 DROP TABLE f, d, e, g;
--- A scan that is repeated for each row of others has the rows that the bound leaves for each of them.
+-- A nested loop repeats its inner scan for each outer row. The scan's rows are the bound of the join, divided by that of the outer rows.
 CREATE FUNCTION repeated(query text) RETURNS integer LANGUAGE plpgsql AS $$
 DECLARE told json;
 BEGIN

@@ -1,4 +1,4 @@
-"""The best plans by bounds: orders and join trees, which know their query."""
+"""Plans and their bounds: left-deep orders and join trees. A plan has a reference to the query that made it."""
 
 from __future__ import annotations
 
@@ -16,20 +16,20 @@ Shape = Union[str, Tuple["Shape", "Shape"]]
 
 
 class _OfQuery:
-    """What orders and trees have in common: the query whose plan it is."""
+    """The common base of orders and trees. It has the query that made the plan."""
 
     _query: Optional[Query] = None
 
     @property
     def query(self) -> Optional[Query]:
-        """The query that made this plan; None of one that was put together by hand, or comes from a statistics file."""
+        """The query that made this plan. It is None if the plan was built by hand or comes from a statistics file."""
         return self._query
 
     def explain(self) -> str:
-        """Each step with its entries, the equalities and the lists that it uses, and its bound, as text.
+        """A text with each step of the plan: its entries, the equalities and lists that it uses, and its bound.
 
         Raises:
-            BadPlan: no query made it.
+            BadPlan: no query made this plan.
         """
         if self._query is None:
             raise BadPlan("no query made this plan: nothing is known of its lists", None)
@@ -52,7 +52,7 @@ class Order(_OfQuery, _OrderParts):
 
     @property
     def cost(self) -> int:
-        """The greatest level: the least budget for this order."""
+        """The largest bound of a level. It is the least budget that admits this order."""
         return max(self.levels)
 
     def __str__(self) -> str:
@@ -76,7 +76,7 @@ class _TreeParts(NamedTuple):
 class Tree(_OfQuery, _TreeParts):
     """A join tree over n entries.
 
-    The nodes 0 to n - 1 are `entries`, and node n + i is `joins[i]`; the last is the root.
+    The nodes 0 to n - 1 are `entries`, and node n + i is `joins[i]`. The last node is the root.
 
     >>> print(Tree(("a", "b", "c"), (Join(1, 2, 6), Join(0, 3, 30))))
     join  left  right   rows at most
@@ -86,10 +86,10 @@ class Tree(_OfQuery, _TreeParts):
 
     @property
     def cost(self) -> int:
-        """The greatest bound of its joins, or of an entry alone its own: the least budget for this tree.
+        """The largest bound of a join, or the row bound of a single entry. It is the least budget that admits the tree.
 
         Raises:
-            BadPlan: it is an entry alone, and no query made it.
+            BadPlan: the tree has one entry, and no query made it.
         """
         if self.joins:
             return max(join.bound for join in self.joins)
@@ -106,7 +106,7 @@ class Tree(_OfQuery, _TreeParts):
         return nodes[-1]
 
     def node(self, number: int) -> str:
-        """How a node is called: an entry's name, or `join` with its number."""
+        """The name of a node: the name of its entry, or `join` and the number of the join."""
         return self.entries[number] if number < len(self.entries) else f"join {number - len(self.entries)}"
 
     def __str__(self) -> str:

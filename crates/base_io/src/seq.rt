@@ -4,7 +4,8 @@ use crate::NoMemory;
 use std::alloc::Global;
 use std::marker::Model;
 
-/// A list that contracts see as its items alone. A recursive type may contain a list of its own type.
+/// A growable list. Contracts speak of its items, and not of its capacity. A recursive type may have a field that is a `Seq` of that same
+/// type.
 #[derive(Debug, Drop)]
 pub struct Seq<T> {
     items: Vec<T>,
@@ -31,21 +32,21 @@ impl<T> Seq<T> {
         }
     }
 
-    /// The list of these items.
+    /// Makes a list of a vector's items.
     pub fn from_vec(items: Vec<T>) -> Seq<T>
         ensures { result ≡ items.items }
     {
         Seq { items }
     }
 
-    /// Removes the last item and hands it out.
+    /// Removes the last item and returns it. An empty list gives `None`.
     pub fn pop(&mut self) -> Option<T>
         ensures { MatchOption result ((self.old ≡ []) × (self.new ≡ [])) (λ last. self.old ≡ self.new ++ last ∷ []) }
     {
         self.items.pop()
     }
 
-    /// Puts an item at a place, and hands the old one back.
+    /// Puts an item at a place, counted from 0, and returns the item that was there.
     pub fn replace(&mut self, i: usize, item: T) -> T
         requires { i < length self.old }
         ensures old { slice_get self.old i ≡ Some result }

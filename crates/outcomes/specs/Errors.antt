@@ -1,7 +1,7 @@
--- What the readers refuse, as refusals and as endings.
+-- Each error of a reader or of the planner, as a refusal and as an ending.
 --
--- A reader's error may be want of memory, which is no refusal. No text, no table's bytes and no plan answer it, as functions (the law
--- `no_reader_wants_memory` of safebound_laws), so the refusal in its place stands for nothing.
+-- An error may be `NoMemory`, which isn't a refusal. The functions to `Refusal` need some value for it, and give `Usage`. No definition gives
+-- the error `NoMemory` (law `no_reader_wants_memory` of safebound_laws), so the verdict never has this `Usage`.
 use Rattle.std.specs.Prelude.{ℕ}
 use Rattle.schema_types.specs.declared.errors.LimitKind.TheVariants as limit
 use Rattle.schema_types.specs.declared.errors.SchemaError.{SchemaError}
@@ -38,7 +38,7 @@ query_refusal (query.Kind at) = refusal.Query query_cause.Kind at
 query_refusal (query.Limit which found) = refusal.Limit which file.Query found
 query_refusal query.NoMemory = refusal.Usage
 
--- of the table with this place in the schema
+-- the refusal of a table's file; the table has this place in the schema
 abbrev pub table_refusal : ℕ → TableError → Refusal
 table_refusal number (table.Utf8 at) = refusal.Table number (table_cause.Utf8 at)
 table_refusal number (table.Header column) = refusal.Table number (table_cause.Header column)
@@ -48,13 +48,13 @@ table_refusal number (table.Key row earlier) = refusal.Table number (table_cause
 table_refusal number (table.Limit found) = refusal.Limit limit.Rows (file.Table number) found
 table_refusal number table.NoMemory = refusal.Usage
 
--- of a file of statistics, with the line
+-- the refusal of a statistics file, at a line of it
 abbrev pub stats_refusal : StatsError → Refusal
 stats_refusal (stats.Syntax line) = refusal.Stats stats_cause.Syntax line
 stats_refusal (stats.Rule line) = refusal.Stats stats_cause.Rule line
 stats_refusal stats.NoMemory = refusal.Usage
 
--- of a plan
+-- the refusal of a plan
 abbrev pub plan_refusal : PlanError → Refusal
 plan_refusal (plan.Budget least) = refusal.Budget least
 plan_refusal plan.PastBits = refusal.PastBits

@@ -1,4 +1,4 @@
--- The outcome of a run that isn't refused, as the words and the files determine it, and what holds of it.
+-- The outcome of a run that isn't refused, and what is proved of it. The words and the files determine the outcome.
 use Rattle.std.specs.Prelude.{ℕ, ◌≡◌, List, Option, ⊤}
 use Rattle.appended_stats.specs.Appended.{file_after}
 use Rattle.appended_stats.specs.Conditions.{HasNewRows}
@@ -18,7 +18,7 @@ use Rattle.prepared_runs.specs.AcceptedQuery.{AcceptedQuery, BoundsHold, RowsAre
 use Rattle.prepared_runs.specs.Limits.{IsWithinLimit}
 use Rattle.prepared_runs.specs.Shapes.{shape_bytes}
 
--- a statistics file of a query, and for each FROM entry the rows of its table, from which the file is made
+-- a statistics file for a query, and the rows of each FROM entry's table: the file is made from these rows
 pub record StatsFileOfTables : Type 0 where
   pub schema : Schema
   pub query : Query
@@ -32,14 +32,14 @@ pub record PlanFromStatsFile : Type 0 where
   pub plan : Plan
   pub memory : Option ℕ
 
--- a statistics file over a schema, the place of a table, and the new rows of this table that are in the file
+-- a statistics file after an append: its schema, the place of one table in the schema, the rows that were added to this table, and the file
 pub record AppendedRows : Type 0 where
   pub schema : Schema
   pub table : ℕ
   pub rows : List Row
   pub file : StatsFile
 
--- a plan over tables, with what is joined; a statistics file of tables; a plan from a statistics file; or a statistics file with new rows
+-- a plan from tables, with the rows that are joined; a new statistics file; a plan from a statistics file; or a statistics file after an append
 pub data RunOutcome : Type 0 where
   Planned : AcceptedQuery → RunOutcome
   StatsMade : StatsFileOfTables → RunOutcome
@@ -60,8 +60,8 @@ pub record StandsForMore (made : AppendedRows) : Type 0 where
   pub stands : (query : Query) (tables after : Tables) → StandsFor query before tables → HasNewRows query made.table made.rows tables after
       → StandsFor query made.file after
 
--- No bound is too low. A plan over tables has bounds for these tables. A plan from a file has bounds for all tables for which the file stands.
--- A file that is written stands for its tables, and a file with new rows stands for what it stood for before, with these rows.
+-- No bound is too low. A plan from tables has bounds for these tables. A plan from a file has bounds for all tables for which the file stands. A
+-- new file stands for the tables from which it is made. A file after an append stands for the tables of the earlier file with the rows added.
 abbrev pub NoBoundIsTooLow : RunOutcome → Type 0
 NoBoundIsTooLow (Planned run) = BoundsHold run
 NoBoundIsTooLow (StatsMade made_stats) = StandsFor made_stats.query made_stats.file (tables_in made_stats.rows)
@@ -75,7 +75,7 @@ PrintsTheAnswer (StatsMade made_stats) = ⊤
 PrintsTheAnswer (PlannedFromStats made) = ⊤
 PrintsTheAnswer (Appended made) = ⊤
 
--- a plan takes no more bytes than its limit of memory, if there is one
+-- the buffers of a plan take no more bytes than its limit of memory, if there is one
 abbrev pub KeepsItsLimit : RunOutcome → Type 0
 KeepsItsLimit (Planned run) = IsWithinLimit run.memory (shape_bytes run.plan)
 KeepsItsLimit (StatsMade made_stats) = ⊤

@@ -1,4 +1,4 @@
-//! The plan text of a join tree. Nothing here takes memory.
+//! Writes the plan text of a join tree. No function here allocates memory.
 ghost use Rattle.std.specs.Prelude.{◌≡◌, ◌<◌, ◌+◌, ◌^◌, length};
 ghost use Rattle.base_io.specs.Devices.{growth};
 ghost use Rattle.base_io.specs.Writes.{Put, Wrote};
@@ -16,7 +16,8 @@ const SPACE: &[u8] = b" ";
 
 const LINE_END: &[u8] = b"\n";
 
-/// Writes what the line of an inner node begins with: its number, those of the two nodes that it joins, and its bound in rows.
+/// Writes the start of an inner node's line: the node's number, the numbers of the two nodes that it joins, and its bound in rows. It writes no
+/// line end.
 pub fn put_node_bound<N: Sink>(
     k: u64,
     join: Join,
@@ -41,7 +42,7 @@ fn write_node<N: Sink>(k: u64, join: Join, buffer: &mut Buffer, sink: &mut N) ->
     buffer.put(sink, LINE_END)
 }
 
-// A line for each inner node; the first one has this number.
+// Writes a line for each inner node. The first node has the number `first`.
 fn write_nodes<N: Sink>(
     first: u64,
     joins: &[Join],
@@ -57,8 +58,8 @@ fn write_nodes<N: Sink>(
     Ok(())
 }
 
-/// Writes the plan text of a join tree: a line for each entry's scan in FROM order, and then one for each inner node in the order of their
-/// numbers, with its bound in rows.
+/// Writes the plan text of a join tree: first a line for each entry's scan, in FROM order, and then a line for each inner node, in the order of
+/// the nodes' numbers. Each line ends with a bound in rows.
 pub fn write_tree<N: Sink>(plan: &BushyPlan, sources: &[Source], sink: &mut N) -> Result<(), Failed>
     requires { IsTreePlan (length sources.now) plan.now }
     ensures { Wrote (growth N.taken N.faults sink.old sink.new) (tree_lines sources.now plan.now) result }

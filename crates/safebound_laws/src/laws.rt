@@ -1,4 +1,4 @@
-//! What holds of every run.
+//! Laws about every run. A function here does nothing: its `ensures` clauses are the law.
 ghost use Rattle.std.specs.Prelude.{◌≡◌, ◌≢◌, ◌∷◌, [], ℕ, List, Err, IfOk, Ok, Some, codes};
 ghost use Rattle.base_io.specs.Files.{Files};
 ghost use Rattle.csv_tables.specs.Files.{rows_of_file};
@@ -31,24 +31,25 @@ ghost use Rattle.prepared_runs.specs.Verdict.{verdict};
 ghost use Rattle.safebound_words.specs.declared.command.ListSource.{ListSource};
 ghost use Rattle.safebound_words.specs.declared.command.Shape.{Shape};
 
-/// The outcome that the words and the files determine has no bound that is too low. If it prints rows, these are the answer of the query. For a
-/// plan from a statistics file, the bounds hold over all tables for which the file stands. A statistics file that is made stands for its
-/// tables. A plan takes no more bytes than the limit of memory, if there is one. The function does nothing.
+/// The words of a command line and the files determine a verdict: a refusal or an outcome. An outcome has no bound that is too low. If a plan
+/// comes from a statistics file, its bounds hold for all tables for which that file stands. A new statistics file stands for the tables from
+/// which it was made. If an outcome prints rows, they are the answer of the query. A plan's buffers take no more bytes than the limit of
+/// memory, if there is one.
 pub fn run_law()
     ensures bounds { (words : List (List ℕ)) (files : Files) → IfOk (verdict words files) NoBoundIsTooLow }
     ensures rows { (words : List (List ℕ)) (files : Files) → IfOk (verdict words files) PrintsTheAnswer }
     ensures limits { (words : List (List ℕ)) (files : Files) → IfOk (verdict words files) KeepsItsLimit }
 {}
 
-/// What `demo NUMBER` answers over any files is what `audit schema.sql query.sql` answers over them. It does nothing.
+/// Over the same files, `demo NUMBER` has the same verdict as `audit schema.sql query.sql`.
 pub fn demo_is_an_audit()
     ensures { (number : ℕ) (words : List (List ℕ)) (files : Files) → command_of words ≡ Some (demo_of number)
         → verdict words files ≡ verdict (codes "audit" ∷ codes "schema.sql" ∷ codes "query.sql" ∷ []) files }
 {}
 
-/// What each source gives stands for the rows of the query, at every accuracy: no bound is below what it bounds, and no
-/// row of the answer is lost. Where conditions are carried through keys, declared keys have to hold; they do in tables that
-/// were read from files. It does nothing.
+/// A source gives bounds, and the rows that are joined. At every accuracy, no bound is below the number of rows that it bounds, and the joined
+/// rows lose no row of the answer. The source `Keyed` carries conditions through keys, so it needs tables in which the declared keys hold. They
+/// hold in all tables that were read from files.
 pub fn sources_stand()
     ensures stand { (source : ListSource) (schema : Schema) (query : Query) (tables : Tables) → Needs source schema query tables
         → IsSource query tables (sourced source schema query tables) }
@@ -56,9 +57,9 @@ pub fn sources_stand()
         → tables_stage schema query.from files ≡ Ok rows → Needs source schema query (tables_in rows) }
 {}
 
-/// The definitions never answer that memory was wanting: not for a text, not for a table's bytes, and not for a plan, whatever its source and
-/// shape, nor for a plan from a statistics file. So each refusal of the verdict says something about the words or about a file. The function
-/// does nothing.
+/// The program may run out of memory, but the definitions that specify it never give the error `NoMemory`. This holds for the texts of a schema,
+/// a query and statistics, for a table's bytes, for a plan of any source and shape, and for a plan from a statistics file. So each refusal of
+/// the verdict is about the words or about a file.
 pub fn no_reader_wants_memory()
     ensures schemas { (text : List ℕ) → schema_answer text ≢ Err schema_error.NoMemory }
     ensures queries { (schema : Schema) (text : List ℕ) → query_answer schema text ≢ Err query_error.NoMemory }
