@@ -1,5 +1,5 @@
-/* Row numbers from bounds, given to PostgreSQL's planner at the hooks where it makes paths. Each hook calls the one that was there
-   before. What has no bound keeps PostgreSQL's number. */
+/* Gives row numbers from bounds to PostgreSQL's planner, in the hooks where it makes paths. Each hook calls the hook that was set
+   before it. A relation without a bound keeps PostgreSQL's number. */
 #include "planning.h"
 
 #include <math.h>
@@ -15,7 +15,7 @@
 
 int			estimates_mode = ESTIMATES_OFF;
 
-/* PostgreSQL may expect nearly nothing of many joins. */
+/* PostgreSQL may expect almost no rows of many joins. A mean takes at least this many. */
 #define LEAST_EXPECTED 0.01
 
 static planner_hook_type planner_before;
@@ -24,20 +24,20 @@ static set_join_pathlist_hook_type join_paths_before;
 static join_search_hook_type join_search_before;
 static create_upper_paths_hook_type upper_paths_before;
 
-/* One call of the planner. A function that it evaluates may call it again. */
+/* One call of the planner. A function that the planner evaluates may call the planner again. */
 typedef struct Planning
 {
 	struct Planning *outer;
 	List	   *queries;		/* of BoundedQuery, one for each PlannerInfo that has joins or scans */
-	List	  **told;			/* where they are told, if anywhere */
+	List	  **told;			/* where the queries go at its end; NULL: nowhere */
 } Planning;
 
 static Planning *planning;
 
-/* Where the next call tells its queries. */
+/* Where the next call of the planner puts its queries. */
 static List **told_next;
 
-/* What PostgreSQL by itself expects of a relation. A join relation that is in the table has its rows. */
+/* How many rows PostgreSQL by itself expects of a relation. A join relation is in the table once its bound was looked for. */
 typedef struct OwnRows
 {
 	RelOptInfo *rel;
@@ -68,8 +68,9 @@ note_own_rows(BoundedQuery *query, RelOptInfo *rel, double rows)
 	own->rows = rows;
 }
 
-/* The number to plan with: the bound, or a geometric mean of bound and expectation, which is never above the bound. Both count alike for
-   one relation. At each join of a bound the busiest ends meet, so of n relations it counts for 1/n^2. */
+/* The number of rows to plan with: the bound, or a weighted geometric mean of bound and expectation, but at most the bound. For one
+   relation both have the same weight. A bound assumes at each join that the most frequent values meet, so it weighs less the more
+   relations there are: 1/n^2 for n of them. */
 static double
 rows_by_mode(double bound, double expected, int relations)
 {
@@ -79,7 +80,8 @@ rows_by_mode(double bound, double expected, int relations)
 	return clamp_row_est(Min(bound, mean));
 }
 
-/* Where no condition has a list, the bound is that of the whole table and says nothing of them. */
+/* If no condition has a list, the bound is the whole table's and says nothing of the conditions. Then a mean leaves PostgreSQL's number,
+   up to the bound. */
 static double
 scan_rows(const Entry *entry)
 {
@@ -88,7 +90,7 @@ scan_rows(const Entry *entry)
 	return blind ? Min(entry->rel->rows, (double) entry->rows) : rows_by_mode((double) entry->rows, entry->rel->rows, 1);
 }
 
-/* All base relations get their numbers before the first of them has its paths for good: the paths of one cost by the rows of others. */
+/* All base relations get their numbers before the first one's paths are final: what its paths cost depends on the rows of others. */
 static void
 set_base_rows(BoundedQuery *query)
 {
@@ -125,14 +127,14 @@ query_of(PlannerInfo *root, bool make)
 	return query;
 }
 
-/* The query of a PlannerInfo whose rows are given; NULL where they are PostgreSQL's own. */
+/* The query of a PlannerInfo, if bounds set its rows; NULL if its rows are PostgreSQL's own. */
 BoundedQuery *
 query_being_planned(PlannerInfo *root)
 {
 	return estimates_mode != ESTIMATES_OFF && planning ? query_of(root, false) : NULL;
 }
 
-/* What allpaths.c makes for a plain table. */
+/* Makes the paths that allpaths.c makes for a plain table. */
 static void
 make_scan_paths(PlannerInfo *root, RelOptInfo *rel)
 {
@@ -150,7 +152,7 @@ make_scan_paths(PlannerInfo *root, RelOptInfo *rel)
 	create_tidscan_paths(root, rel);
 }
 
-/* A scan that is repeated for each row of others: what the bound of the join leaves for each of their rows. */
+/* Sets the rows of a scan that is repeated for each row of other relations: the bound of the join with them, divided by their bound. */
 static void
 set_parameterised_rows(BoundedQuery *query, RelOptInfo *rel, ParamPathInfo *info)
 {
@@ -165,8 +167,8 @@ set_parameterised_rows(BoundedQuery *query, RelOptInfo *rel, ParamPathInfo *info
 	info->ppi_rows = Min(rel->rows, rows_by_mode((double) joined / Max(outer, 1), expected, bms_num_members(both)));
 }
 
-/* PostgreSQL has made the paths already, with the parameters that scans may have. For the first relation it did so by its own rows; for
-   the others only the rows of scans with parameters are its own still. */
+/* PostgreSQL has made the paths already, also those of parameterized scans. For the first relation it used its own rows. For the others
+   only the rows of parameterized scans are still PostgreSQL's own. */
 static void
 make_paths_again(BoundedQuery *query, RelOptInfo *rel, bool first)
 {
@@ -184,7 +186,7 @@ make_paths_again(BoundedQuery *query, RelOptInfo *rel, bool first)
 		make_scan_paths(query->root, rel);
 }
 
-/* Sets the rows of a path, and of the only part that it appends: the plan has that one in its place. */
+/* Sets the rows of a path. If it appends a single path, it sets that path's rows too: the plan has that path in its place. */
 static void
 set_path_rows(Path *path, double rows)
 {
@@ -195,7 +197,8 @@ set_path_rows(Path *path, double rows)
 		set_path_rows(linitial(parts), rows);
 }
 
-/* The paths of a partitioned table append those of its parts, which have PostgreSQL's own rows. The whole has its bound. */
+/* The paths of a partitioned table append those of its parts, whose rows are PostgreSQL's own. The appending paths get their rows from
+   the bound of the whole table. */
 static void
 set_append_rows(BoundedQuery *query, RelOptInfo *rel)
 {
@@ -235,7 +238,8 @@ on_rel_paths(PlannerInfo *root, RelOptInfo *rel, Index rti, RangeTblEntry *rte)
 		rel_paths_before(root, rel, rti, rte);
 }
 
-/* Of a query over one partitioned table alone PostgreSQL makes the paths once more, from those of the parts. */
+/* For a query over one partitioned table alone, PostgreSQL makes the table's paths once more from those of its parts. So their rows are
+   set again. */
 static void
 on_upper_paths(PlannerInfo *root, UpperRelationKind stage, RelOptInfo *input, RelOptInfo *output, void *extra)
 {
@@ -247,7 +251,7 @@ on_upper_paths(PlannerInfo *root, UpperRelationKind stage, RelOptInfo *input, Re
 		upper_paths_before(root, stage, input, output, extra);
 }
 
-/* What PostgreSQL would expect of a join, had it expected its own rows of both sides. */
+/* How many rows PostgreSQL would expect of a join if both sides still had PostgreSQL's own rows. */
 static double
 own_join_rows(BoundedQuery *query, RelOptInfo *joinrel, RelOptInfo *outer, RelOptInfo *inner, JoinType type)
 {
@@ -258,7 +262,8 @@ own_join_rows(BoundedQuery *query, RelOptInfo *joinrel, RelOptInfo *outer, RelOp
 	return rows;
 }
 
-/* Sets a join relation's rows and takes its paths away, where it has a bound; they are to be made again. */
+/* Notes PostgreSQL's own rows of a join relation. If it has a bound, sets its rows, drops its paths and answers true: the caller has to
+   make the paths again. */
 static bool
 set_join_rows(BoundedQuery *query, RelOptInfo *joinrel, double estimate)
 {
@@ -280,7 +285,8 @@ is_new(BoundedQuery *query, RelOptInfo *joinrel)
 	return joinrel->reloptkind == RELOPT_JOINREL && hash_search(query->estimates, &joinrel, HASH_FIND, NULL) == NULL;
 }
 
-/* At a join relation's first pair its rows are set, and the pair's paths are made again. */
+/* PostgreSQL calls this for each pair of sides of a join relation. At the first pair this hook sets the relation's rows, and makes
+   the pair's paths again. */
 static void
 on_join_paths(PlannerInfo *root, RelOptInfo *joinrel, RelOptInfo *outer, RelOptInfo *inner, JoinType type, JoinPathExtraData *extra)
 {
@@ -293,7 +299,7 @@ on_join_paths(PlannerInfo *root, RelOptInfo *joinrel, RelOptInfo *outer, RelOptI
 		join_paths_before(root, joinrel, outer, inner, type, extra);
 }
 
-/* Joins with a condition that names no relation don't come to the hook above. A level that has such a join is made once more. */
+/* PostgreSQL doesn't call the hook above for joins with a condition that names no relation. A level with such a join is made again. */
 static void
 search_level(PlannerInfo *root, BoundedQuery *query, int level)
 {
@@ -312,7 +318,7 @@ search_level(PlannerInfo *root, BoundedQuery *query, int level)
 		join_search_one_level(root, level);
 }
 
-/* What allpaths.c does once a level has its relations. */
+/* Does what allpaths.c does once a level has its relations. */
 static void
 finish_level(PlannerInfo *root, int level)
 {
@@ -329,7 +335,7 @@ finish_level(PlannerInfo *root, int level)
 	}
 }
 
-/* PostgreSQL's own search, with a look at each level. */
+/* PostgreSQL's own search, but `search_level` makes each level. */
 static RelOptInfo *
 on_join_search(PlannerInfo *root, int levels, List *initial)
 {
@@ -378,7 +384,7 @@ on_planner(Query *parse, const char *text, int options, ParamListInfo parameters
 	return plan;
 }
 
-/* Plans a query as this session does, and tells what is known of each part of it. */
+/* Plans a query as this session would, and puts what is known of each part of it into `queries`. */
 PlannedStmt *
 plan_and_tell(Query *query, const char *text, List **queries)
 {
@@ -392,7 +398,7 @@ plan_and_tell(Query *query, const char *text, List **queries)
 	}
 	PG_FINALLY();
 	{
-		/* Another hook may have failed before ours took it. */
+		/* Another planner hook may have failed before ours took `told_next`. */
 		told_next = NULL;
 	}
 	PG_END_TRY();

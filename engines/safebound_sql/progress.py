@@ -1,4 +1,4 @@
-"""What is being done, and for how long: one line on standard error, where that is a terminal."""
+"""Shows on a terminal what is being done, and for how long: one line on standard error."""
 
 from __future__ import annotations
 
@@ -10,7 +10,7 @@ from typing import Callable, Iterator, TextIO
 
 
 class Progress:
-    """Says what is being done while it is done. It says nothing where nobody looks."""
+    """Writes the line while the work lasts. It writes nothing if the stream isn't a terminal."""
 
     def __init__(self, stream: TextIO | None = None) -> None:
         self.stream = sys.stderr if stream is None else stream
@@ -18,8 +18,8 @@ class Progress:
 
     @contextlib.contextmanager
     def doing(self, what: str) -> Iterator[Callable[[], None]]:
-        """Shows the words and the seconds until the work in it ends, or until it calls what it gets; then nothing of
-        them."""
+        """Shows `what` and the seconds while the body of the `with` runs, then wipes the line. The body gets a function
+        that wipes it earlier."""
         if not self.shown:
             yield lambda: None
             return

@@ -1,4 +1,4 @@
-//! Row buffers, chains, linked rows and what is reserved.
+//! Tests of row buffers, of chains of equal keys, of linked rows, and of what `reserve` takes.
 use base_io::NoMemory;
 use link_index::{Chains, Link, RowForest};
 use reserve_plan::{reserve, row_buffers};
@@ -23,7 +23,8 @@ fn reserved_rows_are_pushed(rt: HostRuntime) -> Result<(), Fail> {
     Ok(())
 }
 
-// The first place of 7, and those behind it, among 7, 9, 7, 7, and among 8, 7, which are loaded in their place.
+// Where 7 stands among the keys 7, 9, 7, 7: its first place, and the next one. Then the keys 8, 7 replace these: again the
+// first place of 7, and the next one.
 fn places_of_seven(alloc: Global) -> Result<[Option<u32>; 4], NoMemory> {
     let mut chains = Chains::with_room(alloc, 4, 3)?;
     chains.load(&[7, 9, 7, 7]);
@@ -41,7 +42,7 @@ fn chains_ascend(rt: HostRuntime) -> Result<(), Fail> {
     Ok(())
 }
 
-// The rows of the second link of the second level.
+// The row of the second link of the second level, after the row of its parent.
 fn linked(alloc: Global) -> Result<[u32; 2], NoMemory> {
     let mut forest = RowForest::reserve(alloc, &[1, 2])?;
     forest.add(0, Link { parent: 0, row: 5 });
@@ -58,7 +59,7 @@ fn a_row_leads_to_those_above_it(rt: HostRuntime) -> Result<(), Fail> {
     Ok(())
 }
 
-// How many lists and chains stand ready for two entries.
+// How many row lists and how many chains are reserved for two entries.
 fn reserved(alloc: Global) -> Result<(usize, usize), NoMemory> {
     let lists = row_buffers(alloc, &[6, 0])?;
     let reserved = reserve(alloc, &[1, 0], &[6, 0], &[0, 12])?;

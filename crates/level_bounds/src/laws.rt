@@ -1,4 +1,4 @@
-//! What holds of scans, levels and bounds: no law computes anything, and the contract is the law.
+//! Laws of scans, levels and bounds. Each function has an empty body: its contract is the law.
 ghost use Rattle.std.specs.Prelude.{◌≡◌, ◌↔◌, ◌+◌, ◌*◌, ◌^◌, ◌<◌, ◌≤◌, ◌==◌, ℕ, IsPermutation, IsSomeAnd, IsTrue, List, [], ◌∷◌, All};
 ghost use Rattle.std.specs.Prelude.{Some, length, map, slice_get, slice_index_or, take};
 ghost use Rattle.std.specs.List.{AllByRecursion, Contains, IsDistinct, filter, list_all, range_with_len};
@@ -28,8 +28,8 @@ ghost use Rattle.level_bounds.specs.Orders.{IsOrderOfSet, reordered};
 ghost use Rattle.level_bounds.specs.Scans.{BoundsEachScan, BoundsScans, equalities_in, filters_of, query_level, query_scan};
 ghost use Rattle.level_bounds.specs.Whole.{AreCompressed, keys_of, uncompressed};
 
-/// A conjunct is in the part of just one entry exactly where it counts in the scan of that entry: the scan has the rows
-/// for which all conjuncts hold that name just this entry.
+/// The planner and the meaning of SQL agree which conjuncts are an entry's own. The entry's scan has the rows for which all
+/// of its own conjuncts hold; `local_of` has their places in the query.
 pub fn scans_ask_local_conjuncts()
     ensures same { (tables : Tables) (entry : ℕ) (cond : Cond) → names_just_it (conjunct_of tables cond) entry ≡ names_just entry cond }
     ensures scan { (query : Query) (tables : Tables) (entry : ℕ)
@@ -41,7 +41,7 @@ pub fn scans_ask_local_conjuncts()
         → IsSomeAnd (slice_get query.conjuncts k) (λ cond. IsTrue (cond_holds tables (λ e. row) cond)))) }
 {}
 
-/// Each equality that joins two entries is a conjunct, which names these two and holds exactly where the two values are equal.
+/// Each equality that joins two entries is a conjunct. It names these two, and holds exactly where the two values are equal.
 pub fn equalities_are_conjuncts()
     ensures stand { (query : Query) (e : Edge)
         → Contains (equalities_of query) e ↔ ((cond : Cond) × Contains query.conjuncts cond × (equality_of cond ≡ Some e)) }
@@ -50,8 +50,8 @@ pub fn equalities_are_conjuncts()
         → cond_holds tables row_of cond ≡ are_equal_at tables e (row_of e.left.entry) (row_of e.right.entry) }
 {}
 
-/// Where the texts of a database are different, its cells are keys: rows that an equality joins have equal cells. The keys
-/// of a whole column are its cells.
+/// Where no two texts of a database are the same, its cells are keys: rows that an equality joins have equal cells. The
+/// keys of a whole column are its cells.
 pub fn cells_are_keys()
     ensures cells { (query : Query) (db : Database) → IsDatabaseOf query db → HaveDifferentCharacters db.pool
         → AreKeys (tables_of db) (cell_at db) (equalities_of query) }
@@ -61,7 +61,8 @@ pub fn cells_are_keys()
     ensures texts { (texts : List (List ℕ)) → All IsUtf8 texts → AreDifferentTexts texts → HaveDifferentCharacters texts }
 {}
 
-/// Different entries make an order of their set, each prefix too, and all of them an order of all.
+/// A list of different entries is an order of their set, and so is each prefix of the list. If it has all n entries, it is
+/// an order of all entries.
 pub fn orders_are_of_their_sets()
     ensures prefixes { (order : List ℕ) (k : ℕ) → AllByRecursion (λ entry. entry < 16) order → IsDistinct ◌==◌ order
         → IsOrderOfSet (entries_of_set (set_of (take k order))) (take k order) }
@@ -80,39 +81,38 @@ pub fn levels_are_choices_of_scanned_rows()
         → ChoicesAreDifferent (entries_of_set subset) (map (row_in order) (query_level query tables order)) }
 {}
 
-/// Never under: a level over the entries of a set, in any order, has at most as many rows as the bound of the set says,
-/// over the least of its turns, where the bounds of the entries are at least what their scans have.
+/// No bound is too low: a level over the entries of a set, in any order, has at most as many rows as the bound of the set.
+/// This needs bounds of the entries that hold for their scans.
 pub fn levels_are_never_under()
     ensures database { (query : Query) (db : Database) (b : EntryBounds) (subset : ℕ) (order : List ℕ)
         → IsDatabaseOf query db → HaveDifferentCharacters db.pool → BoundsScans b query (tables_of db) (cell_at db) subset
         → IsOrderOfSet (entries_of_set subset) order
         → length (query_level query (tables_of db) order) ≤ bound_of_set b (equalities_of query) subset }
-    // each level of an order of all entries, the first k entries being its set
+    // for level k of an order of all entries; its set is the first k entries
     ensures levels { (query : Query) (db : Database) (b : EntryBounds) (order : List ℕ) (k : ℕ)
         → IsDatabaseOf query db → HaveDifferentCharacters db.pool → BoundsEachScan b query (tables_of db) (cell_at db)
         → IsOrderOfSet (entries_of query) order
         → length (level (conjuncts_of query (tables_of db)) (row_counts (tables_of db)) order k)
         ≤ bound_of_set b (equalities_of query) (set_of (take k order)) }
-    // over any tables, and any keys that rows share where an equality joins them
+    // for any tables, and for any keys that are equal in rows that an equality joins
     ensures tables { (query : Query) (tables : Tables) (key : Keys) (b : EntryBounds) (subset : ℕ) (order : List ℕ)
         → AreKeys tables key (equalities_in query subset) → BoundsScans b query tables key subset
         → IsOrderOfSet (entries_of_set subset) order
         → length (query_level query tables order) ≤ bound_of_set b (equalities_of query) subset }
-    // over any conjuncts
+    // for any conjuncts, if each equality of the set follows from one of them
     ensures conjuncts { (conjuncts : List Conjunct) (rows : ℕ → ℕ) (key : Keys) (es : List Edge) (b : EntryBounds) (subset : ℕ)
         (order : List ℕ) → AllByRecursion AsksOnly conjuncts → AllByRecursion (IsImplied conjuncts rows key) (equalities_within subset es)
         → SetHasLists b es subset → SetDominates b (scanned (scan conjuncts rows) key) es subset
         → IsOrderOfSet (entries_of_set subset) order → length (level_of conjuncts rows order) ≤ bound_of_set b es subset }
 {}
 
-/// What bounds know of each scan of a query, they know for every set of its entries.
+/// Bounds that hold for each scan of a query hold for the scans of every set of its entries.
 pub fn each_scan_is_enough()
     ensures { (query : Query) (tables : Tables) (key : Keys) (b : EntryBounds) (subset : ℕ) → BoundsEachScan b query tables key
         → AllByRecursion (λ entry. entry < length query.from) (entries_of_set subset) → BoundsScans b query tables key subset }
 {}
 
-/// A level depends on its entries as a set, up to the order of its rows: in another order of the same entries it has
-/// the same choices.
+/// If the same entries are joined in another order, the level has the same choices. Only the order of its rows may differ.
 pub fn levels_are_of_sets()
     ensures rearranged { (conjuncts : List Conjunct) (rows : ℕ → ℕ) (set order other : List ℕ)
         → IsOrderOfSet set order → IsOrderOfSet set other
@@ -122,8 +122,8 @@ pub fn levels_are_of_sets()
         → length (level_of conjuncts rows order) ≡ length (level_of conjuncts rows other) }
 {}
 
-/// The last level of any order of all entries, each choice as the values of the outputs, is the answer of the query,
-/// each row as often as there.
+/// In any order of all entries, the outputs of the last level's choices are the rows of the query's answer, each as often
+/// as in the answer.
 pub fn last_levels_are_the_answer()
     ensures tables { (query : Query) (tables : Tables) (order : List ℕ) → NamesItsEntries query → IsOrderOfSet (entries_of query) order
         → IsPermutation (map (λ choice. selected query tables (row_in order choice)) (query_level query tables order))
@@ -133,8 +133,8 @@ pub fn last_levels_are_the_answer()
         (answer query (tables_of db)) }
 {}
 
-/// Where no conjunct names just an entry, its scan is its whole table. Bounds from compressed degree lists of whole tables
-/// are at least what such scans have.
+/// The scan of an entry without own conjuncts is its whole table. Bounds from compressed degree lists of whole tables hold
+/// for these scans.
 pub fn unfiltered_scans_are_whole_tables()
     ensures whole { (query : Query) (tables : Tables) (entry : ℕ) → filters_of query entry ≡ []
         → query_scan query tables entry ≡ range_with_len 0 (row_counts tables entry) }
@@ -143,8 +143,8 @@ pub fn unfiltered_scans_are_whole_tables()
         → AreCompressed accuracy b tables key (equalities_of query) subset → BoundsScans b query tables key subset }
 {}
 
-/// Near: at accuracy K, K^n times the bound of a set of n entries from compressed lists is at most (K + 1)^n times the
-/// bound of the same set from the degree lists themselves, each over the least of its turns.
+/// Compressed lists raise a bound by little. At accuracy K, the bound of a set of n entries is at most ((K + 1) / K)^n times
+/// its bound from the degree lists themselves. The law multiplies both sides by K^n.
 pub fn compressed_bounds_are_near()
     ensures { (query : Query) (tables : Tables) (key : Keys) (accuracy : ℕ) (b : EntryBounds) (subset : ℕ)
         → AreCompressed accuracy b tables key (equalities_of query) subset

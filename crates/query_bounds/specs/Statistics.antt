@@ -1,4 +1,4 @@
--- What is known of the entries of a query, and when statistics tell it and stand for tables.
+-- What is known of a query's entries (`Statistics`), when a `QueryStats` tells it, and when it bounds tables.
 use Rattle.std.specs.Prelude.{◌≡◌, ℕ, ◌<◌, ◌≤◌, ◌^◌, [], length}
 use Rattle.degree_sequences.specs.Compression.{compressed}
 use Rattle.degree_sequences.specs.Degrees.{degree_list}
@@ -14,39 +14,39 @@ use Rattle.filtered_lists.specs.Standing.{CountsStandFor, ListsStandFor, SumTo}
 use Rattle.predicate_bounds.specs.declared.columns.QueryStats.{QueryStats}
 use Rattle.predicate_bounds.specs.Told.{HasLists, HasRowLists}
 
--- for each FROM entry numbers of its rows, and for each of its columns lists
+-- row counts for each FROM entry, and lists for each of its columns
 pub record Statistics : Type 0 where
   pub counts : ℕ → RowCounts
   pub lists : ℕ → ℕ → ColumnLists
 
--- ---- what is told
+-- ---- when a `QueryStats` tells it
 
--- for the row bound of an entry the lists of one of its columns are told, and its table has at most 2^32 rows
+-- for an entry's row bound `stats` tells the lists of one of its columns. They sum to its row counts; that of all rows is at most 2^32
 pub record TellsEntry (query : Query) (stats : QueryStats) (known : Statistics) (entry : ℕ) : Type 0 where
   pub column : ℕ
   pub lists : HasRowLists query stats entry (known.lists entry column)
   pub sums : SumTo (known.lists entry column) (known.counts entry)
   pub small : (known.counts entry).whole ≤ 2 ^ 32
 
--- the lists of a column of an entry are told
+-- `stats` tells the lists of this column of an entry, and they sum to the entry's row counts
 pub record TellsColumn (query : Query) (stats : QueryStats) (known : Statistics) (entry column : ℕ) : Type 0 where
   pub lists : HasLists query stats entry column (known.lists entry column)
   pub sums : SumTo (known.lists entry column) (known.counts entry)
 
--- all FROM entries are told, and all columns that an equality joins
+-- `stats` tells what is known of all FROM entries, and of all columns that an equality joins
 pub record Tells (query : Query) (stats : QueryStats) (known : Statistics) : Type 0 where
   pub one_each : length stats.entries ≡ length query.from
   pub entries : (entry : ℕ) → entry < length query.from → TellsEntry query stats known entry
   pub columns : EachNamedColumn (TellsColumn query stats known) (equalities_of query)
 
--- there is something that is told
+-- `stats` tells some `Statistics`; the field `known` says which
 pub record StatsAreTold (query : Query) (stats : QueryStats) : Type 0 where
   pub known : Statistics
   pub tells : Tells query stats known
 
--- ---- what it stands for
+-- ---- when it bounds tables
 
--- the numbers of rows stand for the table of each entry, and the lists for the keys of each column that an equality joins
+-- the known counts bound the rows of each entry's table, and the known lists dominate the keys of each column that an equality joins
 pub record StandFor (query : Query) (known : Statistics) (tables : Tables) (key : Keys) : Type 0 where
   pub counts : (entry : ℕ) → entry < length query.from → CountsStandFor (known.counts entry) tables entry
   pub lists : EachNamedColumn
@@ -54,8 +54,8 @@ pub record StandFor (query : Query) (known : Statistics) (tables : Tables) (key 
 
 -- ---- whole columns
 
--- no conjunct names just one entry, and what is known is of whole tables: the number of rows of each entry's table, and of each
--- column that an equality joins the degree list, compressed with this accuracy
+-- no entry has own conjuncts, and whole tables are known: each entry's number of rows and, for each column that an equality joins,
+-- its degree list, compressed at this accuracy
 pub record AreWhole (query : Query) (known : Statistics) (tables : Tables) (key : Keys) (accuracy : ℕ) : Type 0 where
   pub unfiltered : (entry : ℕ) → own_conjuncts entry query.conjuncts ≡ []
   pub counts : (entry : ℕ) → entry < length query.from → (known.counts entry).whole ≡ row_counts tables entry

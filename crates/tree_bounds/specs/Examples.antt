@@ -39,11 +39,11 @@ two_keys (suc entry) column = 1 ∷ 1 ∷ 4 ∷ 5 ∷ 6 ∷ []
 abbrev pub two_tables : KeyedTables
 two_tables = record { rows = two_rows; keys = two_keys }
 
--- the first rows of both, and the first row of the one with the second row of the other
+-- two choices: row 0 of R with row 0 of S, and row 0 of R with row 1 of S
 abbrev pub two_choices : List (ℕ → ℕ)
 two_choices = (λ entry. 0) ∷ (λ entry. entry) ∷ []
 
--- the degree lists of the keys
+-- the degree lists of these keys
 abbrev pub exact_list : ℕ → ℕ → List ℕ
 exact_list zero column = 3 ∷ 2 ∷ 1 ∷ []
 exact_list (suc entry) column = 2 ∷ 1 ∷ 1 ∷ 1 ∷ []
@@ -51,7 +51,7 @@ exact_list (suc entry) column = 2 ∷ 1 ∷ 1 ∷ 1 ∷ []
 abbrev pub exact_bounds : EntryBounds
 exact_bounds = record { rows = two_rows; list = exact_list }
 
--- the same, compressed
+-- the same lists, compressed
 abbrev pub compressed_list : ℕ → ℕ → List ℕ
 compressed_list zero column = 3 ∷ 3 ∷ []
 compressed_list (suc entry) column = 2 ∷ 2 ∷ 1 ∷ []
@@ -65,7 +65,7 @@ compressed_bounds = record { rows = two_rows; list = compressed_list }
 abbrev pub triangle_bounds : EntryBounds
 triangle_bounds = record { rows = λ entry. 3; list = λ entry column. 2 ∷ 1 ∷ [] }
 
--- three rows for each entry, which in column A are alike and in column B all different
+-- the lists of three rows that have one key in column 0, and three different keys in each other column
 abbrev pub alike_or_different : ℕ → List ℕ
 alike_or_different zero = 3 ∷ []
 alike_or_different (suc column) = 1 ∷ 1 ∷ 1 ∷ []
@@ -73,14 +73,14 @@ alike_or_different (suc column) = 1 ∷ 1 ∷ 1 ∷ []
 abbrev pub pair_bounds : EntryBounds
 pair_bounds = record { rows = λ entry. 3; list = λ entry column. alike_or_different column }
 
--- ---- entries in one class, of 1700 rows each with one key
+-- ---- entries in one class: each has 1700 rows, all with one key
 
--- n entries and one more, from a first one on
+-- n + 1 entries, numbered from `first` on
 abbrev pub members_from : ℕ → ℕ → Members
 members_from first zero = one_member first 0 no_class
 members_from first (suc n) = and_member first 0 no_class (members_from (suc first) n)
 
--- n entries and two more in one class
+-- n + 2 entries in one class: the root, and n + 1 below it
 abbrev pub one_class : ℕ → BergeTree
 one_class n = record { root = 0; below = and_class 0 (members_from 1 n) no_class }
 
