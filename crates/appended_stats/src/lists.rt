@@ -1,4 +1,4 @@
-//! The lists of the new rows that have a value, and the frequent values with theirs.
+//! Adds new rows to the lists of the frequent values.
 ghost use Rattle.std.specs.Prelude.{◌≡◌, ◌<◌, ◌+◌, ◌^◌, All, IfOk, length, map};
 ghost use Rattle.std.specs.List.{sum, zip};
 ghost use Rattle.csv_tables.specs.Cells.{IsCell, value_of_cell};
@@ -17,7 +17,7 @@ use schema_types::Kind;
 use stats_file::Datum;
 use std::alloc::Global;
 
-/// Two lists added rank by rank, of fewer than 2^64 rows each.
+/// Adds two lists rank by rank. Each has fewer than 2^64 rows.
 pub(crate) fn added(list: &Pieces, other: &Pieces) -> Result<Pieces, NoMemory>
     requires list { sum list.now < 2 ^ 64 }
     requires other { sum other.now < 2 ^ 64 }
@@ -26,7 +26,7 @@ pub(crate) fn added(list: &Pieces, other: &Pieces) -> Result<Pieces, NoMemory>
     list.sum(other)
 }
 
-// The joined keys of the rows that have a value.
+// The joined keys of the rows whose cell has this value.
 fn keys_with(
     alloc: Global,
     pool: &Pool,
@@ -49,7 +49,7 @@ fn keys_with(
     Ok(keys)
 }
 
-// The list of the rows that have a value.
+// The list that the joined keys of these rows make, compressed at this accuracy.
 fn list_with(
     alloc: Global,
     pool: &Pool,
@@ -70,7 +70,7 @@ fn list_with(
     whole_list(alloc, keys.as_slice(), accuracy)
 }
 
-/// The frequent values, each with its list and that of the new rows that have it.
+/// The frequent values. To the list of each, the list of the new rows that have this value is added.
 pub(crate) fn grown_frequent(
     alloc: Global,
     frequent: Seq<(Datum, Pieces)>,
@@ -91,6 +91,7 @@ pub(crate) fn grown_frequent(
     for i in 0..grown.len() {
         let more = list_with(alloc, pool, kind, cells, joined, &grown.get(i).0, accuracy)?;
         let list = added(&grown.get(i).1, &more)?;
+        // A placeholder lies here until the value goes back with its new list.
         let (value, _) = grown.replace(i, (Datum::Int(0), Pieces::empty(alloc)));
         let _ = grown.replace(i, (value, list));
     }

@@ -1,4 +1,4 @@
--- When a condition holds where each FROM entry has a row (SQL-92 8.2 and 8.12, without nulls and without padding).
+-- Whether a condition holds for one row of each FROM entry (SQL-92 8.2 and 8.12; there are no nulls, and texts aren't padded).
 use Rattle.std.specs.Prelude.{ℕ, Bool, true, false, not, ◌&&◌, ◌||◌, List, [], ◌∷◌, pos, slice_index_or}
 use Rattle.std.specs.Ordering.{is_eq, is_ne, is_lt, is_le, is_gt, is_ge}
 use Rattle.std.specs.declared.cmp.Ordering.{Ordering}
@@ -14,18 +14,18 @@ use Rattle.query_types.specs.declared.types.Cond.TheOpen.{Cond-F}
 use Rattle.query_types.specs.declared.types.Cond.TheOpen as layer
 use Rattle.sql_meaning.specs.Tables.{Tables}
 
--- the value of a column in its entry's row (0 where there is no such row or column, which no query of a schema asks in a choice of its rows)
+-- the value of a column in its entry's row. Columns of a query and rows of a choice exist; for any other it is 0
 abbrev pub column_value : Tables → (ℕ → ℕ) → ColumnRef → Value
 column_value tables row_of column =
     slice_index_or (slice_index_or (tables column.from) (row_of column.from) []) column.column (Int (pos 0))
 
--- the value of an operand: of a column in these rows, or of a literal
+-- the value of an operand: a column has its value in these rows, and a literal its own
 abbrev pub operand_value : Tables → (ℕ → ℕ) → Operand → Value
 operand_value tables row_of (operand.Column column) = column_value tables row_of column
 operand_value tables row_of (operand.Int number) = Int number
 operand_value tables row_of (operand.Text text) = Text text
 
--- whether a comparison holds of two values that stand in this order
+-- whether an operator holds for two values that are less, equal or greater as `order` says
 abbrev pub compares : Op → Ordering → Bool
 compares op.Eq order = is_eq order
 compares op.Ne order = is_ne order
@@ -34,7 +34,7 @@ compares op.Le order = is_le order
 compares op.Gt order = is_gt order
 compares op.Ge order = is_ge order
 
--- what a comparison says where each entry has its row
+-- whether a comparison of two operands holds in these rows
 abbrev pub comparison_says : Tables → (ℕ → ℕ) → Op → Operand → Operand → Bool
 comparison_says tables row_of op left right =
     compares op (value_cmp (operand_value tables row_of left) (operand_value tables row_of right))
@@ -47,13 +47,13 @@ abbrev pub any_of : List Bool → Bool
 any_of [] = false
 any_of (b ∷ bs) = b || any_of bs
 
--- one condition, with what each inner one says in its place
+-- whether a condition holds, from whether each condition inside it holds
 abbrev pub holds_step : Tables → (ℕ → ℕ) → Cond-F Bool → Bool
 holds_step tables row_of (layer.And all) = all_of all
 holds_step tables row_of (layer.Or any) = any_of any
 holds_step tables row_of (layer.Not inner) = not inner
 holds_step tables row_of (layer.Compare op left right) = comparison_says tables row_of op left right
 
--- the condition holds where each entry has this row
+-- whether a condition holds when each entry has the row that `row_of` picks
 abbrev pub cond_holds : Tables → (ℕ → ℕ) → Cond → Bool
 cond_holds tables row_of = fold-Cond Bool (holds_step tables row_of)
