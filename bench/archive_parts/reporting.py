@@ -202,7 +202,7 @@ def plans(found: Lines) -> None:
     """`plan` beside the `run` right after it, for what the budget admits: each cell has median, 90th percentile and
     worst."""
     loads, refused = [float(one["load"]) for one in found], [one for one in found if one["run_status"] != "0"]
-    longest = {command: max(float(one[f"{command}_seconds"]) for one in refused) for command in COMMANDS}
+    longest = {command: max((float(one[f"{command}_seconds"]) for one in refused), default=0.0) for command in COMMANDS}
     print(
         f"{len(found)} plans, each with its run right after it, at load {min(loads):.0f} to {max(loads):.0f};"
         f" {len(refused)} times both refused, in at most {longest['plan']:.1f} s and {longest['run']:.1f} s. Median,"
