@@ -4,7 +4,7 @@ from __future__ import annotations
 
 import glob
 import os
-from typing import Any
+from typing import Any, Sequence
 
 import psycopg
 import reading
@@ -33,14 +33,14 @@ def load(connection: psycopg.Connection[Any]) -> None:
     connection.execute("ANALYZE")
 
 
-def numbered(query: reading.Query, order: tuple[int, ...], outputs: str, ends: str) -> str:
+def numbered(query: reading.Query, order: Sequence[int], outputs: str, ends: str) -> str:
     """The query over some entries, over the tables whose rows have numbers."""
     entries = ", ".join(f"NUMBERED_{query.entries[entry][0]} E{entry}" for entry in order)
     inner = [asked.cond_sql(query, cond) for cond in query.conjuncts if reading.named(cond) <= set(order)]
     return f"SELECT {outputs} FROM {entries} WHERE {' AND '.join(inner) or 'TRUE'} {ends}"
 
 
-def rows_text(connection: psycopg.Connection[Any], query: reading.Query, order: tuple[int, ...]) -> str:
+def rows_text(connection: psycopg.Connection[Any], query: reading.Query, order: Sequence[int]) -> str:
     """The rows in the order of nested loops along the plan's order."""
     outputs = ", ".join(asked.side_sql(query, ("column", entry, column)) for entry, column, _ in query.outputs)
     sql = numbered(query, order, outputs, "ORDER BY " + ", ".join(f"E{entry}.ROW_NUMBER" for entry in order))
