@@ -10,6 +10,8 @@ it.
 A source archive has the package and this file. It builds where one of these folders has the library.
 """
 
+from __future__ import annotations
+
 import base64
 import hashlib
 import io
@@ -20,10 +22,11 @@ import sysconfig
 import tarfile
 import tempfile
 import zipfile
+from typing import Any
 
 HERE = os.path.dirname(os.path.abspath(__file__))
 PACKAGE = os.path.join(HERE, "safebound")
-VERSION = runpy.run_path(os.path.join(PACKAGE, "_version.py"))["VERSION"]
+VERSION: str = runpy.run_path(os.path.join(PACKAGE, "_version.py"))["VERSION"]
 INFO = f"safebound-{VERSION}.dist-info"
 LIBRARIES = ("safebound", "safebound_command")
 VARIABLE = "SAFEBOUND_LIBRARY_DIR"
@@ -41,12 +44,12 @@ Description-Content-Type: text/markdown
 """
 
 
-def read(*path):
+def read(*path: str) -> bytes:
     with open(os.path.join(*path), "rb") as f:
         return f.read()
 
 
-def place_of(name):
+def place_of(name: str) -> str:
     """Where a file of the project lies: in a source archive beside this file, and in a clone in a folder of its own."""
     beside = os.path.join(HERE, name)
     above = {"safebound.map": "library"}.get(name, "")
@@ -56,15 +59,15 @@ def place_of(name):
 # ---- the library
 
 
-def files_of(folder, name):
-    """The shared object and the archive of a library, as far as they are there."""
+def files_of(folder: str, name: str) -> list[str | None]:
+    """The shared object and the archive of a library, None for each that isn't in the folder."""
     ends = (".so", ".so." + VERSION.partition(".")[0]), (".a",)
     named = [[os.path.join(folder, f"lib{name}{end}") for end in some] for some in ends]
-    return [next(filter(os.path.isfile, paths), None) for paths in named]
+    return [next((path for path in paths if os.path.isfile(path)), None) for paths in named]
 
 
-def installed():
-    """What pkg-config says of this version; nothing where there is none."""
+def installed() -> str:
+    """The folder that pkg-config says for this version; the empty text where it knows no folder."""
     words = [os.environ.get("PKG_CONFIG", "pkg-config"), "--variable=libdir", f"safebound = {VERSION}"]
     try:
         return subprocess.run(words, capture_output=True, text=True, check=True).stdout.strip()
@@ -72,7 +75,7 @@ def installed():
         return ""
 
 
-def folder_of_library():
+def folder_of_library() -> str:
     named = os.environ.get(VARIABLE)
     folders = [named] if named else [os.path.join(HERE, "..", "library", "out"), installed()]
     found = next((folder for folder in folders if folder and any(files_of(folder, "safebound"))), None)
@@ -85,8 +88,8 @@ def folder_of_library():
     return found
 
 
-def linked(archive, name):
-    """The shared object of an archive."""
+def linked(archive: str, name: str) -> bytes:
+    """The shared object that the C compiler makes of an archive."""
     with tempfile.TemporaryDirectory() as room:
         names, made = place_of("safebound.map"), os.path.join(room, "made.so")
         whole = ["-Wl,--whole-archive", archive, "-Wl,--no-whole-archive"]
@@ -96,35 +99,37 @@ def linked(archive, name):
         return read(made)
 
 
-def libraries():
-    """The shared objects by their names in the package. The library for the whole program may be wanting."""
+def libraries() -> dict[str, bytes]:
+    """The shared objects by their names in the package. The library for the whole program may be missing."""
     folder, found = folder_of_library(), {}
     for name in LIBRARIES:
         shared, archive = files_of(folder, name)
-        if shared or archive:
-            found[f"safebound/lib{name}.so"] = read(shared) if shared else linked(archive, name)
+        if shared:
+            found[f"safebound/lib{name}.so"] = read(shared)
+        elif archive:
+            found[f"safebound/lib{name}.so"] = linked(archive, name)
     return found
 
 
 # ---- archives
 
 
-def tag():
-    """What has a shared object is of this platform."""
+def tag() -> str:
+    """The wheel's tag: a shared object is for this platform alone."""
     return "py3-none-" + sysconfig.get_platform().replace("-", "_").replace(".", "_")
 
 
-def sources():
+def sources() -> dict[str, bytes]:
     names = [name for name in sorted(os.listdir(PACKAGE)) if name.endswith(".py") or name == "py.typed"]
     return {"safebound/" + name: read(PACKAGE, name) for name in names}
 
 
-def metadata():
+def metadata() -> bytes:
     return METADATA.encode() + read(HERE, "README.md")
 
 
-def record(files):
-    """Each file with its checksum and its size, and the record itself without."""
+def record(files: dict[str, bytes]) -> bytes:
+    """One line for each file, with its checksum and its size; the line of the record itself has neither."""
     lines = []
     for name, data in files.items():
         digest = base64.urlsafe_b64encode(hashlib.sha256(data).digest()).rstrip(b"=").decode()
@@ -132,7 +137,8 @@ def record(files):
     return "".join(lines + [f"{INFO}/RECORD,,\n"]).encode()
 
 
-def write(folder, files):
+def write(folder: str, files: dict[str, bytes]) -> str:
+    """Makes a wheel of the files and its own, and gives its name."""
     wheel = f"Wheel-Version: 1.0\nGenerator: build_safebound\nRoot-Is-Purelib: false\nTag: {tag()}\n"
     own = {"METADATA": metadata(), "WHEEL": wheel.encode(), "LICENSE": read(place_of("LICENSE"))}
     files = {**files, **{f"{INFO}/{name}": data for name, data in own.items()}}
@@ -144,16 +150,20 @@ def write(folder, files):
     return name
 
 
-def build_wheel(wheel_directory, config_settings=None, metadata_directory=None):
+def build_wheel(
+    wheel_directory: str, config_settings: dict[str, Any] | None = None, metadata_directory: str | None = None
+) -> str:
     return write(wheel_directory, {**sources(), **libraries()})
 
 
-def build_editable(wheel_directory, config_settings=None, metadata_directory=None):
+def build_editable(
+    wheel_directory: str, config_settings: dict[str, Any] | None = None, metadata_directory: str | None = None
+) -> str:
     """A link to the package where it lies; it finds the library where `make library` leaves it."""
     return write(wheel_directory, {"safebound.pth": (HERE + "\n").encode()})
 
 
-def build_sdist(sdist_directory, config_settings=None):
+def build_sdist(sdist_directory: str, config_settings: dict[str, Any] | None = None) -> str:
     root = f"safebound-{VERSION}"
     names = ("LICENSE", "README.md", "build_safebound.py", "pyproject.toml", "safebound.map")
     own = {name: read(place_of(name)) for name in names}

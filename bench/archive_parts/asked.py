@@ -1,4 +1,9 @@
-"""Questions: the query of each file, and the connected sets of its entries, each as a query of its own."""
+"""The questions: the query of each file, and each connected set of its entries as a query of its own.
+
+Queries are those of cases/reading.py. A condition is a tuple there: ("and", [conditions]), ("or", [conditions]),
+("not", condition), or a comparison such as ("<", left, right). A side of a comparison is ("column", entry, column) or
+("literal", value).
+"""
 
 from __future__ import annotations
 
@@ -6,13 +11,16 @@ import copy
 import glob
 import itertools
 import os
-import sys
-from typing import Iterator
+from typing import Any, Iterator, Tuple
+
+import reading
 
 from . import places
 
-sys.path.insert(0, os.path.join(places.ROOT, "cases"))
-import reading  # noqa: E402
+Condition = Tuple[Any, ...]
+# An entry and one of its columns, both by number.
+Column = Tuple[int, int]
+Equality = Tuple[Column, Column]
 
 
 class Question:
@@ -23,7 +31,6 @@ class Question:
         with open(path, encoding="utf-8") as f:
             self.text = f.read()
         self.query = reading.Query(schema, self.text)
-        self.cyclic = is_cyclic(self.query)
 
 
 def schema() -> reading.Schema:
@@ -37,7 +44,7 @@ def questions(folder: str = os.path.join(places.QUERIES, "profile")) -> list[Que
 
 
 def is_cyclic(query: reading.Query) -> bool:
-    """An equality stands between entries that others connect already."""
+    """Whether some equality stands between entries that others connect already."""
     equals = reading.equalities(query)
     return len(reading.kept(equals)) < len(equals)
 
@@ -46,16 +53,27 @@ def is_connected(query: reading.Query) -> bool:
     return len(reading.kept(reading.equalities(query))) == len(query.entries) - 1
 
 
+def is_equality(cond: Condition) -> bool:
+    """Whether a condition is an equality of two columns, of one entry or of two."""
+    return cond[0] == "=" and all(side[0] == "column" for side in cond[1:])
+
+
+def own_conjuncts(query: reading.Query, entry: int) -> list[Condition]:
+    """The conjuncts that name this entry and no other."""
+    return [cond for cond in query.conjuncts if reading.named(cond) == {entry}]
+
+
 def restricted(query: reading.Query, entries: tuple[int, ...]) -> reading.Query:
-    """The query over some of its entries, with the conditions that name no others."""
+    """The query over some of its entries, with the conjuncts that name no others."""
     place, inner = {entry: at for at, entry in enumerate(entries)}, copy.copy(query)
     inner.entries = [query.entries[entry] for entry in entries]
-    inner.conjuncts = [renumbered(c, place) for c in query.conjuncts if reading.named(c) <= set(entries)]
+    inner.conjuncts = [renumbered(cond, place) for cond in query.conjuncts if reading.named(cond) <= set(entries)]
     inner.outputs = []
     return inner
 
 
-def renumbered(cond: tuple, place: dict[int, int]) -> tuple:
+def renumbered(cond: Condition, place: dict[int, int]) -> Condition:
+    """The condition with each entry's number in `place`."""
     if cond[0] in ("and", "or"):
         return cond[0], [renumbered(part, place) for part in cond[1]]
     if cond[0] == "not":
@@ -74,13 +92,16 @@ def connected_sets(query: reading.Query) -> Iterator[tuple[int, ...]]:
 # ---- as SQL, under names that depend on places alone, so that equal sets of different questions have one text
 
 
-def side_sql(query: reading.Query, side: tuple) -> str:
+def side_sql(query: reading.Query, side: Condition) -> str:
     if side[0] == "literal":
-        return str(side[1]) if isinstance(side[1], int) else "'" + side[1].replace("'", "''") + "'"
-    return f"E{side[1]}.{query.schema[query.entries[side[1]][0]][0][side[2]][0]}"
+        text = str(side[1])
+        return text if isinstance(side[1], int) else "'" + text.replace("'", "''") + "'"
+    _, entry, column = side
+    table, _ = query.entries[entry]
+    return f"E{entry}.{query.schema[table][0][column][0]}"
 
 
-def cond_sql(query: reading.Query, cond: tuple) -> str:
+def cond_sql(query: reading.Query, cond: Condition) -> str:
     if cond[0] in ("and", "or"):
         return "(" + f" {cond[0].upper()} ".join(cond_sql(query, part) for part in cond[1]) + ")"
     if cond[0] == "not":
@@ -89,6 +110,6 @@ def cond_sql(query: reading.Query, cond: tuple) -> str:
 
 
 def sql(query: reading.Query) -> str:
-    """The rows of a set of entries, each as a 1."""
+    """A statement that gives a 1 for each row of the query's join."""
     entries = ", ".join(f"{table} E{at}" for at, (table, _) in enumerate(query.entries))
     return f"SELECT 1 FROM {entries} WHERE {' AND '.join(cond_sql(query, cond) for cond in query.conjuncts)}"

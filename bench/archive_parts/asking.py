@@ -1,4 +1,4 @@
-"""One question over the tables, as somebody asks who is new here."""
+"""Answers one question over the tables: `make archive`, which someone new to the project runs first."""
 
 from __future__ import annotations
 
@@ -14,6 +14,7 @@ PICTURE = os.path.join(places.MADE, "plan.svg")
 
 
 def ask() -> int:
+    """Runs the question and draws its plan; makes the tables first where there are none. Gives the exit status."""
     if not making.is_made():
         fetching.fetch()
         print("tables are made of it, which takes about a minute", file=sys.stderr, flush=True)
@@ -23,16 +24,7 @@ def ask() -> int:
     with open(question, encoding="utf-8") as f:
         print(f.read(), file=sys.stderr, flush=True)
     words = ["schema.sql", NAME + ".sql", "--reduce"]
-    status = subprocess.run([os.path.join(places.ROOT, "tools", "run"), places.TABLES, "run", *words]).returncode
-    if status == 0:
-        command = [
-            os.path.join(places.ROOT, "bin", "safebound"),
-            "picture",
-            *words,
-            "--data",
-            places.TABLES,
-            "--output",
-            PICTURE,
-        ]
-        return subprocess.run(command).returncode
-    return status
+    run = [os.path.join(places.ROOT, "tools", "run"), places.TABLES, "run", *words]
+    program = os.path.join(places.ROOT, "bin", "safebound")
+    picture = [program, "picture", *words, "--data", places.TABLES, "--output", PICTURE]
+    return subprocess.run(run).returncode or subprocess.run(picture).returncode

@@ -2,16 +2,16 @@
 
 from __future__ import annotations
 
-from functools import lru_cache
 from typing import NamedTuple
 
+import reading
+
 from . import asked, degrees
-from .asked import reading
 from .columns import Rows, Tables
 
 
 class Flags(NamedTuple):
-    """A choice of options, and where its lists come from."""
+    """A choice of options: where the lists come from, and how accurate they are."""
 
     source: str
     accuracy: int
@@ -34,18 +34,18 @@ TRIED = (*ALL, COUNT)
 
 
 class Bounder:
-    """Bounds of sets, each taken as a query of its own; the same set of two questions is bounded once."""
+    """Bounds of sets, each taken as a query of its own. A set that two questions share is bounded once."""
 
     def __init__(self, tables: Tables) -> None:
-        self.tables, self.known = tables, {}
-        self.statistics = lru_cache(None)(lambda accuracy: degrees.Statistics(tables, accuracy))
+        self.tables = tables
+        self.known: dict[str, dict[Flags, int]] = {}
+        self.statistics = {flags.accuracy: degrees.Statistics(tables, flags.accuracy) for flags in ALL}
 
     def lists(self, query: reading.Query, flags: Flags, rows: Rows) -> degrees.Known:
         if flags.source == "reduce":
             return degrees.known_reduced(rows, flags.accuracy)
-        return (degrees.known_by_keys if flags.source == "keys" else degrees.known)(
-            self.statistics(flags.accuracy), query
-        )
+        known = degrees.known_by_keys if flags.source == "keys" else degrees.known
+        return known(self.statistics[flags.accuracy], query)
 
     def of(self, query: reading.Query) -> dict[Flags, int]:
         """The bound of all entries together."""

@@ -1,24 +1,28 @@
 """Degree lists and bounds of sets, after docs/DEFINITIONS.md, over columns of numbers: cases/reading.py for millions of
 rows.
 
-A list is an array of degrees, the greatest first; bounds take it as runs of equal degrees."""
+A list is an array of degrees, the greatest first. Bounds take it as runs of equal degrees.
+"""
 
 from __future__ import annotations
 
-from functools import cached_property, lru_cache
+from functools import cached_property, lru_cache, partial
 from math import prod
-from typing import Any, Callable
+from typing import Callable, List, NamedTuple, Tuple
 
 import numpy as np
+import reading
 
-from .asked import reading
+from . import asked
+from .asked import Column, Condition, Equality
 from .columns import Rows, Tables
 
 # Degrees, each with how many keys have it.
-Runs = list[tuple[int, int]]
+Runs = List[Tuple[int, int]]
 
 
 def falling(keys: np.ndarray) -> np.ndarray:
+    """The degrees of keys: how often each occurs."""
     return np.sort(np.unique(keys, return_counts=True)[1])[::-1]
 
 
@@ -30,22 +34,27 @@ def runs_of(degrees: np.ndarray) -> Runs:
 
 
 def compressed(degrees: np.ndarray, accuracy: int) -> np.ndarray:
-    """Each degree becomes its head, the last one above it by at most one K-th, until the sum is reached."""
-    heads: list[list[int]] = []
-    for degree, keys in runs_of(degrees):
-        if not heads or (accuracy + 1) * degree < accuracy * heads[-1][0]:
-            heads.append([degree, 0])
-        heads[-1][1] += degree * keys
-    found, done, end, total = [], 0, 0, int(degrees.sum())
-    for head, rows in heads:
+    """Each degree becomes its head, a degree that is greater by at most one K-th, until the sum is reached."""
+    parts, done, end, total = [np.zeros(0, np.int64)], 0, 0, int(degrees.sum())
+    for head, rows in heads_of(degrees, accuracy):
         end += rows
         times = max(-(-(end - done) // head), 0)
-        found.append(np.full(times, head, np.int64))
+        parts.append(np.full(times, head, np.int64))
         done += times * head
-    found = np.concatenate(found) if found else np.zeros(0, np.int64)
+    found = np.concatenate(parts)
     if done > total:
         found[-1] -= done - total
     return found
+
+
+def heads_of(degrees: np.ndarray, accuracy: int) -> list[tuple[int, int]]:
+    """The heads, each with the rows of the degrees that it replaces."""
+    heads: list[tuple[int, int]] = []
+    for degree, keys in runs_of(degrees):
+        if not heads or (accuracy + 1) * degree < accuracy * heads[-1][0]:
+            heads.append((degree, 0))
+        heads[-1] = heads[-1][0], heads[-1][1] + degree * keys
+    return heads
 
 
 def padded(lists: list[np.ndarray]) -> np.ndarray:
@@ -75,7 +84,8 @@ class Pair:
     @cached_property
     def frequent(self) -> list[int]:
         values, first, count = np.unique(self.filters, return_index=True, return_counts=True)
-        return values[np.lexsort((first, -count))[:32]].tolist()
+        found: list[int] = values[np.lexsort((first, -count))[:32]].tolist()
+        return found
 
     @cached_property
     def cuts(self) -> np.ndarray:
@@ -126,6 +136,14 @@ class Pair:
         return self.over(self.leaves // size == number)
 
 
+class Reference(NamedTuple):
+    """A column that refers to a key of another table."""
+
+    column: int
+    target: str
+    key: int
+
+
 class Statistics:
     """The lists of all tables at one accuracy; each pair of columns is looked at once."""
 
@@ -137,68 +155,66 @@ class Statistics:
         return compressed(falling(self.tables.columns[table][joined]), self.accuracy)
 
     @lru_cache(None)
-    def pair(self, table: str, filters: int, joined: int) -> Pair:
+    def pair(self, table: str, joined: int, filters: int) -> Pair:
         return Pair(self.tables.columns[table][filters], self.tables.columns[table][joined], self.accuracy)
 
     @lru_cache(None)
-    def referring(self, table: str, column: int, target: str, key: int) -> tuple[np.ndarray, np.ndarray]:
+    def referring(self, table: str, reference: Reference) -> tuple[np.ndarray, np.ndarray]:
         """The rows of a table that refer to a row of another, and which row that is."""
-        values, keys = self.tables.columns[table][column], self.tables.columns[target][key]
-        row_of = np.full(max(values.max(initial=0), keys.max(initial=0)) + 1, -1)
-        row_of[keys] = np.arange(len(keys))
-        rows = np.flatnonzero(row_of[values] >= 0)
-        return rows, row_of[values[rows]]
+        values = self.tables.columns[table][reference.column]
+        keys = self.tables.columns[reference.target][reference.key]
+        row_of_key = np.full(max(values.max(initial=0), keys.max(initial=0)) + 1, -1)
+        row_of_key[keys] = np.arange(len(keys))
+        rows = np.flatnonzero(row_of_key[values] >= 0)
+        return rows, row_of_key[values[rows]]
 
     @lru_cache(None)
-    def whole_referring(self, table: str, joined: int, *reference: Any) -> np.ndarray:
-        return compressed(
-            falling(self.tables.columns[table][joined][self.referring(table, *reference)[0]]), self.accuracy
-        )
+    def whole_referring(self, table: str, joined: int, reference: Reference) -> np.ndarray:
+        rows, _ = self.referring(table, reference)
+        return compressed(falling(self.tables.columns[table][joined][rows]), self.accuracy)
 
     @lru_cache(None)
-    def pair_referring(self, table: str, filters: int, joined: int, *reference: Any) -> Pair:
-        rows, targets = self.referring(table, *reference)
-        return Pair(
-            self.tables.columns[reference[1]][filters][targets], self.tables.columns[table][joined][rows], self.accuracy
-        )
+    def pair_referring(self, table: str, joined: int, reference: Reference, filters: int) -> Pair:
+        rows, targets = self.referring(table, reference)
+        filtered = self.tables.columns[reference.target][filters][targets]
+        return Pair(filtered, self.tables.columns[table][joined][rows], self.accuracy)
 
 
 class Filtered:
-    """The list of a joined column over what own conditions leave."""
+    """The list of a joined column over the rows that an entry's own conditions leave."""
 
-    def __init__(self, tables: Tables, whole: np.ndarray, pair_of: Callable[..., Pair]) -> None:
+    def __init__(self, tables: Tables, whole: np.ndarray, pair_of: Callable[[int], Pair]) -> None:
         self.tables, self.whole, self.pair_of = tables, whole, pair_of
 
-    def of(self, conjuncts: list[tuple]) -> np.ndarray:
+    def of(self, conjuncts: list[Condition]) -> np.ndarray:
         if not conjuncts:
             return self.whole
         return least_sums([self.of_cond(reading.pushed(("and", conjuncts))), self.whole])
 
-    def of_cond(self, cond: tuple) -> np.ndarray:
+    def of_cond(self, cond: Condition) -> np.ndarray:
         if cond[0] == "and":
-            ranged = [part for part in cond[1] if reading.is_range(part)]
-            by_column = [
-                [part for part in ranged if part[1][2] == column] for column in sorted({part[1][2] for part in ranged})
-            ]
-            return least_sums(
-                [self.of_range(parts) for parts in by_column]
-                + [self.of_cond(part) for part in cond[1] if not reading.is_range(part)]
-            )
+            return self.of_and(cond[1])
         if cond[0] == "or":
             return sum_by_rank([self.of_cond(part) for part in cond[1]])
         op, left, right = cond
         if left[0] != "column" or right[0] != "literal":
             return self.whole
+        pair, value = self.pair_of(left[2]), self.tables.literal(right[1])
         if op == "=":
-            return self.pair_of(left[2]).of_value(self.tables.literal(right[1]))
+            return pair.of_value(value)
         if op == "<>":
-            value = self.tables.literal(right[1])
-            return sum_by_rank(
-                [self.pair_of(left[2]).of_range(None, value), self.pair_of(left[2]).of_range(value, None)]
-            )
+            return sum_by_rank([pair.of_range(None, value), pair.of_range(value, None)])
         return self.of_range([cond])
 
-    def of_range(self, tests: list[tuple]) -> np.ndarray:
+    def of_and(self, parts: list[Condition]) -> np.ndarray:
+        """The tests of a range are taken together, column by column."""
+        ranged: dict[int, list[Condition]] = {}
+        for part in filter(reading.is_range, parts):
+            ranged.setdefault(part[1][2], []).append(part)
+        others = [self.of_cond(part) for part in parts if not reading.is_range(part)]
+        return least_sums([self.of_range(ranged[column]) for column in sorted(ranged)] + others)
+
+    def of_range(self, tests: list[Condition]) -> np.ndarray:
         values = {op: [self.tables.literal(test[2][1]) for test in tests if test[0][0] == op] for op in "<>"}
         return self.pair_of(tests[0][1][2]).of_range(max(values[">"], default=None), min(values["<"], default=None))
 
@@ -206,17 +222,14 @@ class Filtered:
 # ---- bounds of sets
 
 # A function of ranks or of rows is kept as steps: a value, and how far it holds. Behind its last step it is 0.
-Steps = list[tuple[int, int]]
+Steps = List[Tuple[int, int]]
 
 
 def product(functions: list[Steps]) -> Steps:
     """The product of step functions, as long as the shortest."""
-    found, places, at, length = (
-        [],
-        [0] * len(functions),
-        0,
-        min(function[-1][1] if function else 0 for function in functions),
-    )
+    found: Steps = []
+    places = [0] * len(functions)
+    at, length = 0, min(function[-1][1] if function else 0 for function in functions)
     while at < length:
         end = min(function[place][1] for function, place in zip(functions, places))
         found.append((prod(function[place][0] for function, place in zip(functions, places)), end))
@@ -237,15 +250,15 @@ def row_of(degrees: Runs, rank: int) -> int:
 def on_rows(degrees: Runs, by_rank: Steps) -> Steps:
     """For each row the value of its rank."""
     steps = [(value, row_of(degrees, end)) for value, end in by_rank]
+    found = [step for step, before in zip(steps, [0] + [end for _, end in steps]) if step[1] > before]
     rows = row_of(degrees, sum(keys for _, keys in degrees))
-    return [step for step, before in zip(steps, [0] + [end for _, end in steps]) if step[1] > before] + [(0, rows)] * (
-        not steps or steps[-1][1] < rows
-    )
+    return found if steps and steps[-1][1] >= rows else [*found, (0, rows)]
 
 
 def on_ranks(degrees: Runs, by_row: Steps) -> Steps:
     """For each rank the sum over its rows."""
-    found, row, rank, place = [], 0, 0, 0
+    found: Steps = []
+    row, rank, place = 0, 0, 0
     for degree, keys in degrees:
         last = rank + keys
         while rank < last:
@@ -271,26 +284,28 @@ def over(by_row: Steps, place: int, row: int, end: int) -> int:
 class Known:
     """The lists of a query's joined columns; an entry's row bound is the sum of any of its lists."""
 
-    def __init__(self, query: reading.Query, lists: dict[tuple[int, int], np.ndarray]) -> None:
+    def __init__(self, query: reading.Query, lists: dict[Column, np.ndarray]) -> None:
         self.query, self.lists = query, lists
+
+    @cached_property
+    def runs(self) -> dict[Column, Runs]:
+        return {column: runs_of(degrees) for column, degrees in self.lists.items()}
 
     def bound(self) -> int:
         """The bound of all entries together: the least of all turns."""
         if any(not len(degrees) for degrees in self.lists.values()):
             return 0
-        self.runs, equals = {side: runs_of(degrees) for side, degrees in self.lists.items()}, reading.equalities(
-            self.query
-        )
+        equals = reading.equalities(self.query)
         return min(self.of_turn(reading.kept(equals[turn:] + equals[:turn])) for turn in range(min(len(equals), 16)))
 
-    def of_turn(self, equals: list[tuple]) -> int:
-        classes: list[set] = []
+    def of_turn(self, equals: list[Equality]) -> int:
+        classes: list[set[Column]] = []
         for left, right in equals:
             classes = reading.merged(classes, left, right)
         weights = self.weights(0, None, classes)
         return over(weights, 0, 0, weights[-1][1])
 
-    def weights(self, entry: int, above: set | None, classes: list[set]) -> Steps:
+    def weights(self, entry: int, above: set[Column] | None, classes: list[set[Column]]) -> Steps:
         """The weight of each row of an entry, by the classes of its other columns."""
         rows = next(row_of(runs, 2**62) for (of, _), runs in self.runs.items() if of == entry)
         found = [[(1, rows)]]
@@ -302,12 +317,8 @@ class Known:
         return product(found)
 
 
-def joined_columns(query: reading.Query) -> set[tuple[int, int]]:
+def joined_columns(query: reading.Query) -> set[Column]:
     return {side for equal in reading.equalities(query) for side in equal}
-
-
-def own_conjuncts(query: reading.Query, entry: int) -> list[tuple]:
-    return [cond for cond in query.conjuncts if reading.named(cond) == {entry}]
 
 
 def known(statistics: Statistics, query: reading.Query) -> Known:
@@ -315,12 +326,9 @@ def known(statistics: Statistics, query: reading.Query) -> Known:
     lists = {}
     for entry, column in joined_columns(query):
         table = query.entries[entry][0]
-        filtered = Filtered(
-            statistics.tables,
-            statistics.whole(table, column),
-            lambda filters, t=table, c=column: statistics.pair(t, filters, c),
-        )
-        lists[entry, column] = filtered.of(own_conjuncts(query, entry))
+        pair_of = partial(statistics.pair, table, column)
+        filtered = Filtered(statistics.tables, statistics.whole(table, column), pair_of)
+        lists[entry, column] = filtered.of(asked.own_conjuncts(query, entry))
     return Known(query, lists)
 
 
@@ -328,31 +336,30 @@ def known_by_keys(statistics: Statistics, query: reading.Query) -> Known:
     """With the conditions of entries to which others refer: for the set of all entries of this query."""
     found = known(statistics, query)
     for one, other in reading.equalities(query):
-        for (entry, column), (carrier, key) in ((one, other), (other, one)):
-            own, (table, target) = own_conjuncts(query, carrier), (query.entries[e][0] for e in (entry, carrier))
-            names = [query.schema[t][0][c][0] for t, c in ((table, column), (target, key))]
-            if own and query.schema.refers_to_key(table, names[0], target, names[1]):
-                carry(statistics, found, entry, own, (column, target, key))
+        carry(statistics, found, one, other)
+        carry(statistics, found, other, one)
     return found
 
 
-def carry(statistics: Statistics, found: Known, entry: int, own: list[tuple], reference: tuple) -> None:
-    table = found.query.entries[entry][0]
-    for of, column in found.lists:
-        if of == entry:
-            whole = statistics.whole_referring(table, column, *reference)
-            filtered = Filtered(
-                statistics.tables,
-                whole,
-                lambda filters, c=column: statistics.pair_referring(table, filters, c, *reference),
-            )
-            found.lists[entry, column] = least_sums([found.lists[entry, column], filtered.of(own)])
+def carry(statistics: Statistics, found: Known, side: Column, carrier: Column) -> None:
+    """Where one side refers to the other by a key, its entry's lists are those of the rows that refer to a row which
+    the other's own conditions leave."""
+    query, (entry, column), (of, key) = found.query, side, carrier
+    own, table, target = asked.own_conjuncts(query, of), query.entries[entry][0], query.entries[of][0]
+    names = query.schema[table][0][column][0], query.schema[target][0][key][0]
+    if not own or not query.schema.refers_to_key(table, names[0], target, names[1]):
+        return
+    reference = Reference(column, target, key)
+    for joined in [joined for of_entry, joined in found.lists if of_entry == entry]:
+        whole = statistics.whole_referring(table, joined, reference)
+        filtered = Filtered(statistics.tables, whole, partial(statistics.pair_referring, table, joined, reference))
+        found.lists[entry, joined] = least_sums([found.lists[entry, joined], filtered.of(own)])
 
 
 def known_reduced(rows: Rows, accuracy: int) -> Known:
     """From reduced scans."""
-    lists = {
-        (e, c): compressed(falling(rows.columns[e][c][rows.reduced[e]]), accuracy)
-        for e, c in joined_columns(rows.query)
-    }
+    lists = {}
+    for entry, column in joined_columns(rows.query):
+        keys = rows.columns[entry][column][rows.reduced[entry]]
+        lists[entry, column] = compressed(falling(keys), accuracy)
     return Known(rows.query, lists)

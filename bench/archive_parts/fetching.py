@@ -15,8 +15,8 @@ SAID = "the package index (9 MB) and the list of contents (46 MB) of Debian's ar
 
 
 def options() -> list[str]:
-    """The machine's own sources of Debian and no others; the lists go into our folder, so that apt's own stay as they
-    are."""
+    """Words that have apt read the machine's own sources of Debian and no others, and keep its lists in our folder, so
+    that apt's own stay as they are."""
     source = next((path for path in SOURCES if os.path.exists(path)), None)
     if source is None:
         sys.exit("archive: apt has no sources of Debian here: neither of " + ", ".join(SOURCES))
@@ -33,7 +33,7 @@ def options() -> list[str]:
 
 
 def fetch() -> None:
-    """What is there already isn't fetched again unless the archive has changed."""
+    """Fetches what the archive has changed since the last time, at first all of it."""
     os.makedirs(os.path.join(places.LISTS, "partial"), exist_ok=True)
     os.makedirs(os.path.join(places.MADE, "cache"), exist_ok=True)
     print(f"apt-get update fetches {SAID} into {places.LISTS}", file=sys.stderr, flush=True)
@@ -58,7 +58,7 @@ def lines(kind: str) -> Iterator[str]:
     """The lines of all indexes of one kind, unpacked by apt's own helper."""
     for path in indexes(kind):
         with subprocess.Popen(["/usr/lib/apt/apt-helper", "cat-file", path], stdout=subprocess.PIPE) as unpacked:
-            for line in unpacked.stdout:
+            for line in unpacked.stdout or ():
                 yield line.decode("utf-8", "replace").rstrip("\n")
         if unpacked.returncode:
             sys.exit(f"archive: {path} isn't there, or can't be read")

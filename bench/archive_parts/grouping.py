@@ -1,13 +1,17 @@
-"""A query's number of rows by groups, as one SQL statement: columns that are equal are one variable, each entry is a
-table of its variables with counts, and one variable after another is summed away. It counts where a join has too many
-rows to be listed."""
+"""A query's number of rows by groups, as one SQL statement, for joins with too many rows to be listed.
+
+Columns that are equal are one variable. Each entry is a table of its variables with counts, and one variable after
+another is summed away.
+"""
 
 from __future__ import annotations
 
 from typing import NamedTuple
 
+import reading
+
 from . import asked
-from .asked import reading
+from .asked import Column, Condition
 
 Variable = int
 
@@ -23,23 +27,22 @@ class Grouping:
     """The statement while it is made."""
 
     def __init__(self, query: reading.Query) -> None:
-        self.query, self.parts = query, []
+        self.query = query
+        self.parts: list[str] = []
         self.number = self.variables()
-        self.pending = [
-            cond for cond in query.conjuncts if len(reading.named(cond)) > 1 and not is_between_equals(cond)
-        ]
+        between = [cond for cond in query.conjuncts if len(reading.named(cond)) > 1]
+        self.pending: list[Condition] = [cond for cond in between if not asked.is_equality(cond)]
         self.factors = [self.scan(entry) for entry in range(len(query.entries))]
 
-    def variables(self) -> dict[tuple[int, int], Variable]:
+    def variables(self) -> dict[Column, Variable]:
         """The variable of each column that some condition over two entries names."""
-        classes = []
+        classes: list[set[Column]] = []
         for left, right in reading.equalities(self.query):
             classes = reading.merged(classes, left, right)
         found = {side: number for number, one in enumerate(classes) for side in one}
-        for cond in self.query.conjuncts:
-            if len(reading.named(cond)) > 1:
-                for side in (side for part in reading.comparisons(cond) for side in part[1:] if side[0] == "column"):
-                    found.setdefault(side[1:], len(found) + len(classes))
+        between = [cond for cond in self.query.conjuncts if len(reading.named(cond)) > 1]
+        for column in (column for cond in between for column in columns_of(cond)):
+            found.setdefault(column, len(found) + len(classes))
         return found
 
     def add(self, select: str, variables: frozenset[Variable]) -> Factor:
@@ -52,34 +55,31 @@ class Grouping:
         own = {column: number for (of, column), number in self.number.items() if of == entry}
         names = {column: asked.side_sql(self.query, ("column", entry, column)) for column in own}
         first = {number: names[column] for column, number in sorted(own.items(), reverse=True)}
-        tests = [asked.cond_sql(self.query, cond) for cond in self.query.conjuncts if reading.named(cond) == {entry}]
+        tests = [asked.cond_sql(self.query, cond) for cond in asked.own_conjuncts(self.query, entry)]
         tests += [
             f"{names[column]} = {first[number]}" for column, number in own.items() if names[column] != first[number]
         ]
         columns = "".join(f"{text} AS V{number}, " for number, text in first.items())
         ends = f" GROUP BY {', '.join(first.values())}" if first else ""
         where = f" WHERE {' AND '.join(tests)}" if tests else ""
-        return self.add(
-            f"SELECT {columns}COUNT(*) AS C FROM {self.query.entries[entry][0]} E{entry}{where}{ends}", frozenset(first)
-        )
+        table = self.query.entries[entry][0]
+        return self.add(f"SELECT {columns}COUNT(*) AS C FROM {table} E{entry}{where}{ends}", frozenset(first))
 
-    def of_cond(self, cond: tuple) -> frozenset[Variable]:
-        return frozenset(
-            self.number[side[1:]] for part in reading.comparisons(cond) for side in part[1:] if side[0] == "column"
-        )
+    def of_cond(self, cond: Condition) -> frozenset[Variable]:
+        return frozenset(self.number[column] for column in columns_of(cond))
 
     def around(self, variable: Variable) -> tuple[list[Factor], frozenset[Variable]]:
-        """The factors that have to be joined before a variable goes, and all of their variables."""
-        wanted = frozenset({variable}).union(
-            *(self.of_cond(cond) for cond in self.pending if variable in self.of_cond(cond))
-        )
+        """The factors that must be joined before a variable is summed away, and all of their variables."""
+        named = [self.of_cond(cond) for cond in self.pending]
+        wanted = frozenset({variable}).union(*(some for some in named if variable in some))
         chosen = [factor for factor in self.factors if variable in factor.variables]
         for other in wanted - {variable}:
             if not any(other in factor.variables for factor in chosen):
                 chosen.append(next(factor for factor in self.factors if other in factor.variables))
-        return chosen, frozenset().union(*(factor.variables for factor in chosen))
+        return chosen, all_variables(chosen)
 
     def sum_away(self, variable: Variable) -> None:
+        """Joins the factors around a variable into one that has all of their variables but this one."""
         chosen, every = self.around(variable)
         at = {number: [factor for factor in chosen if number in factor.variables] for number in every}
         tests = [
@@ -96,26 +96,29 @@ class Grouping:
         where = f" WHERE {' AND '.join(tests)}" if tests else ""
         times = " * ".join(f"{factor.name}.C" for factor in chosen)
         self.factors = [factor for factor in self.factors if factor not in chosen]
-        self.factors.append(
-            self.add(
-                f"SELECT {columns}SUM({times}) AS C FROM {', '.join(f.name for f in chosen)}{where}{ends}",
-                frozenset(left),
-            )
-        )
+        names = ", ".join(factor.name for factor in chosen)
+        select = f"SELECT {columns}SUM({times}) AS C FROM {names}{where}{ends}"
+        self.factors.append(self.add(select, frozenset(left)))
 
-    def renamed(self, cond: tuple, at: dict) -> str:
+    def renamed(self, cond: Condition, at: dict[Variable, list[Factor]]) -> str:
         """A comparison of two columns, by the variables."""
         op, *sides = cond
         texts = [f"{at[self.number[side[1:]]][0].name}.V{self.number[side[1:]]}" for side in sides]
         return f"{texts[0]} {op} {texts[1]}"
 
     def sql(self) -> str:
-        """Whichever variable has the fewest around it goes next."""
-        while left := frozenset().union(*(factor.variables for factor in self.factors)):
+        """The statement. The variable with the fewest others around it is summed away first."""
+        while left := all_variables(self.factors):
             self.sum_away(min(left, key=lambda variable: (len(self.around(variable)[1]), variable)))
         total = " * ".join(f"COALESCE((SELECT C FROM {factor.name}), 0)" for factor in self.factors)
         return f"WITH {', '.join(self.parts)} SELECT {total}"
 
 
-def is_between_equals(cond: tuple) -> bool:
-    return cond[0] == "=" and all(side[0] == "column" for side in cond[1:])
+def columns_of(cond: Condition) -> list[Column]:
+    """The columns that a condition names, in order."""
+    sides = [side for part in reading.comparisons(cond) for side in part[1:]]
+    return [side[1:] for side in sides if side[0] == "column"]
+
+
+def all_variables(factors: list[Factor]) -> frozenset[Variable]:
+    return frozenset(variable for factor in factors for variable in factor.variables)

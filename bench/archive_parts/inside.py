@@ -11,16 +11,17 @@ from dataclasses import dataclass
 from typing import Iterable, Iterator
 
 import psycopg
+from timing import processor_time
 
-from . import asked, places
+from . import asked, places, server
 from .making import COLUMNS
 
 INSIDE = os.path.join(places.MADE, "inside.csv")
 INSIDE_COLUMNS = ("query", "half", "mode", "seconds", "cancelled", "planning")
 MODES = ("off", "mean", "bound")
 LONGEST = 30.0
+# Queries that took less are run again, and the least counts.
 AGAIN_BELOW = 0.3
-"""Queries that took less are run again, and the least counts."""
 
 
 class Backend:
@@ -32,8 +33,7 @@ class Backend:
         self.pid = self.connection.info.backend_pid
 
     def seconds(self) -> float:
-        with open(f"/proc/{self.pid}/schedstat", encoding="ascii") as f:
-            return int(f.read().split()[0]) / 1e9
+        return processor_time(self.pid)
 
     def cancel_at(self, end: float, done: threading.Event) -> None:
         while not done.wait(0.25):
@@ -41,7 +41,7 @@ class Backend:
                 self.connection.cancel()
 
     def run(self, text: str) -> tuple[float, bool]:
-        """Plans and runs a query without telling its rows; whether it was cancelled."""
+        """Plans and runs a query without telling its rows: its seconds, and whether it was cancelled."""
         begin, done = self.seconds(), threading.Event()
         watch = threading.Thread(target=self.cancel_at, args=(begin + LONGEST, done))
         watch.start()
@@ -68,11 +68,9 @@ def keep(url: str) -> None:
     backend = Backend(url)
     backend.connection.execute("CREATE EXTENSION IF NOT EXISTS safebound")
     begin = backend.seconds()
-    row = backend.connection.execute(
-        f"SELECT {' + '.join(f'safebound.keep({table!r})' for table in COLUMNS)}"
-    ).fetchone()
-    assert row is not None
-    print(f"{row[0]} lists in {backend.seconds() - begin:.1f} s of one processor", flush=True)
+    calls = " + ".join(f"safebound.keep({table!r})" for table in COLUMNS)
+    lists = server.value(backend.connection, f"SELECT {calls}")
+    print(f"{lists} lists in {backend.seconds() - begin:.1f} s of one processor", flush=True)
 
 
 def measured(backend: Backend, text: str) -> tuple[float, bool]:
@@ -96,15 +94,14 @@ def in_modes(backend: Backend, text: str, modes: Iterable[str]) -> Iterator[tupl
         yield mode, seconds + (planning - planned_then) / 1000, cancelled, planning
 
 
-def rows(url: str) -> Iterator[tuple]:
+def rows(url: str) -> Iterator[list[object]]:
     """Each question in each mode, in turn. Every second one was put aside while the extension was made."""
     backend = Backend(url)
     for number, question in enumerate(asked.questions()):
         modes = (MODES[(number + turn) % len(MODES)] for turn in range(len(MODES)))
         for mode, seconds, cancelled, planning in in_modes(backend, question.text, modes):
-            yield question.name, "aside" if number % 2 else "seen", mode, round(seconds, 5), cancelled, round(
-                planning, 3
-            )
+            half = "aside" if number % 2 else "seen"
+            yield [question.name, half, mode, round(seconds, 5), cancelled, round(planning, 3)]
 
 
 @dataclass
@@ -134,18 +131,21 @@ def table(lines: list[dict[str, str]]) -> Iterator[str]:
     )
     yield "|---|---|---|---|---|---|---|---|"
     for half in ("all", "seen", "aside"):
-        told = by_question(lines, half)
-        for mode in MODES:
-            ratios = sorted(one.seconds[mode] / one.seconds["off"] for one in told.values())
-            longer = sorted(one.planning[mode] - one.planning["off"] for one in told.values())
-            whole = sum(one.seconds[mode] for one in told.values())
-            ended = sum(one.seconds[mode] for one in told.values() if not any(one.cancelled.values()))
-            cancelled = sum(one.cancelled[mode] for one in told.values())
-            yield (
-                f"| {half} ({len(told)}) | {mode} | {whole:.1f} s | {ended:.1f} s | {statistics.median(ratios):.2f} |"
-                f" {ratios[-1]:.1f} | {cancelled} | {statistics.median(longer):.2f} ms,"
-                f" {longer[len(longer) * 9 // 10]:.2f} ms |"
-            )
+        told = list(by_question(lines, half).values())
+        yield from (f"| {half} ({len(told)}) | {mode} | {cells(told, mode)} |" for mode in MODES)
+
+
+def cells(told: list[Told], mode: str) -> str:
+    """What all questions took in one mode, beside PostgreSQL's own numbers of rows."""
+    ratios = sorted(one.seconds[mode] / one.seconds["off"] for one in told)
+    longer = sorted(one.planning[mode] - one.planning["off"] for one in told)
+    whole = sum(one.seconds[mode] for one in told)
+    ended = sum(one.seconds[mode] for one in told if not any(one.cancelled.values()))
+    cancelled = sum(one.cancelled[mode] for one in told)
+    return (
+        f"{whole:.1f} s | {ended:.1f} s | {statistics.median(ratios):.2f} | {ratios[-1]:.1f} | {cancelled} |"
+        f" {statistics.median(longer):.2f} ms, {longer[len(longer) * 9 // 10]:.2f} ms"
+    )
 
 
 def slower(lines: list[dict[str, str]]) -> Iterator[str]:

@@ -3,10 +3,11 @@
 from __future__ import annotations
 
 import csv
+import itertools
 import os
 import re
 import shutil
-from typing import Iterable, Iterator
+from typing import Iterable, Iterator, Sequence, Union
 
 from . import fetching, places
 
@@ -22,30 +23,30 @@ KINDS = ("Pre-Depends", "Depends", "Recommends", "Suggests", "Enhances", "Confli
 FIELDS = ("Package", "Source", "Maintainer", "Section", "Priority", "Size", "Installed-Size", "Tag", *KINDS)
 PACKAGE_NAME = re.compile(r"\s*([a-z0-9][a-z0-9+.-]+)")
 BRACES = re.compile(r"(.*)\{(.*)\}")
+Row = Sequence[Union[int, str]]
 # The 7,400,000 files of the whole archive are more than the program takes in one table: those below this folder, mostly
 # documents, icons and data, are left out there.
 LEFT_OUT = "usr/share/"
 
 
 def paragraphs(lines: Iterable[str]) -> Iterator[dict[str, str]]:
-    """The fields of each package that we want; a field goes on where a line begins with a blank."""
-    found, name = {}, None
-    for line in lines:
-        if not line:
-            if found:
-                yield found
-            found, name = {}, None
-        elif line[0] in " \t":
-            if name:
-                found[name] += line
-        else:
+    """The fields of each package that we want. An empty line ends a package."""
+    for is_full, paragraph in itertools.groupby(lines, bool):
+        if is_full and (found := fields_of(paragraph)):
+            yield found
+
+
+def fields_of(paragraph: Iterable[str]) -> dict[str, str]:
+    """A line that begins with a blank belongs to the field before it."""
+    found: dict[str, str] = {}
+    name = ""
+    for line in paragraph:
+        if line[0] not in " \t":
             name, _, value = line.partition(":")
-            if name in FIELDS:
-                found[name] = value.strip()
-            else:
-                name = None
-    if found:
-        yield found
+            found[name] = value.strip()
+        elif name:
+            found[name] += line
+    return {name: value for name, value in found.items() if name in FIELDS}
 
 
 def numbered(values: Iterable[str]) -> dict[str, int]:
@@ -58,7 +59,7 @@ def without_address(maintainer: str) -> str:
 
 def tags_of(field: str) -> list[str]:
     """The tags of a field: `a::{b, c}` is short for `a::b, a::c`."""
-    found = []
+    found: list[str] = []
     for part in re.findall(r"[^,{]+(?:\{[^}]*\})?", field):
         short = BRACES.match(part)
         found += [short[1] + end for end in short[2].split(",")] if short else [part]
@@ -71,10 +72,13 @@ def targets_of(field: str, ids: dict[str, int]) -> list[int]:
     return list(dict.fromkeys(ids[name[1]] for name in names if name and name[1] in ids))
 
 
-def package_tables(found: dict[str, dict[str, str]]) -> dict[str, list[tuple]]:
+def package_tables(found: dict[str, dict[str, str]]) -> dict[str, list[Row]]:
+    """All tables but those of files and folders, out of the fields of each package by its name."""
     ids = numbered(found)
     people = numbered(without_address(fields["Maintainer"]) for fields in found.values())
-    packages, dependencies, tags = [], [], []
+    packages: list[Row] = []
+    dependencies: list[Row] = []
+    tags: list[Row] = []
     for name, number in ids.items():
         fields = found[name]
         source = fields.get("Source", name).partition(" ")[0]
@@ -83,7 +87,7 @@ def package_tables(found: dict[str, dict[str, str]]) -> dict[str, list[tuple]]:
         packages.append((number, name, source, maintainer, fields["Section"], fields["Priority"], *sizes))
         dependencies += [(number, kind, target) for kind in KINDS for target in targets_of(fields.get(kind, ""), ids)]
         tags += [(number, tag.partition("::")[0], tag) for tag in tags_of(fields.get("Tag", ""))]
-    maintainers = [(number, name) for name, number in people.items()]
+    maintainers: list[Row] = [(number, name) for name, number in people.items()]
     return {"maintainer": maintainers, "package": packages, "dependency": dependencies, "tag": tags}
 
 
@@ -102,7 +106,8 @@ class Directories:
     """Folders by their paths, numbered as they come; 1 is the root, its own parent."""
 
     def __init__(self) -> None:
-        self.numbers, self.rows = {"": 1}, [(1, "/", 1)]
+        self.numbers = {"": 1}
+        self.rows: list[Row] = [(1, "/", 1)]
 
     def number(self, path: str) -> int:
         if path not in self.numbers:
@@ -112,7 +117,7 @@ class Directories:
         return self.numbers[path]
 
 
-def write(folder: str, table: str, rows: Iterable[tuple]) -> None:
+def write(folder: str, table: str, rows: Iterable[Row]) -> None:
     with open(os.path.join(folder, table + ".csv"), "w", encoding="utf-8", newline="") as f:
         out = csv.writer(f)
         out.writerow(COLUMNS[table])
@@ -135,7 +140,7 @@ def make() -> None:
     for folder in (places.TABLES, places.WHOLE):
         os.makedirs(folder, exist_ok=True)
         shutil.copy(os.path.join(places.QUERIES, "schema.sql"), folder)
-    found = {}
+    found: dict[str, dict[str, str]] = {}
     for fields in paragraphs(fetching.lines("Packages")):
         found.setdefault(fields["Package"], fields)
     for table, rows in package_tables(found).items():

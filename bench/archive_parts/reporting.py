@@ -3,7 +3,7 @@
 from __future__ import annotations
 
 import csv
-from typing import Iterable
+from typing import Dict, Iterable, List
 
 import numpy as np
 
@@ -13,9 +13,11 @@ from .running import BUDGET
 
 SMALL_BUDGET = 1_000_000
 SHARES = (50, 75, 90, 100)
+# The lines of a CSV file, each by the names of its columns.
+Lines = List[Dict[str, str]]
 
 
-def read(path: str) -> list[dict[str, str]]:
+def read(path: str) -> Lines:
     with open(path, encoding="utf-8", newline="") as f:
         return list(csv.DictReader(f))
 
@@ -31,8 +33,8 @@ def shown(value: float) -> str:
 
 def spread(values: Iterable[float]) -> list[str]:
     """Median, 75th and 90th percentile, and the greatest."""
-    values = list(values)
-    return [shown(np.percentile(values, share)) for share in SHARES] if values else ["-"] * len(SHARES)
+    found = list(values)
+    return [shown(np.percentile(found, share)) for share in SHARES] if found else ["-"] * len(SHARES)
 
 
 def three(values: Iterable[float]) -> str:
@@ -47,48 +49,45 @@ def table(header: list[str], rows: Iterable[list[str]]) -> None:
     print()
 
 
-def tried(found: list[dict[str, str]]) -> list[Flags]:
+def tried(found: Lines) -> list[Flags]:
     """The sets of flags that were run."""
     return [flags for flags in TRIED if any(one["flags"] == flags.name for one in found)]
 
 
-def counted(runs: list[dict[str, str]], names: set[str]) -> list[float]:
+def counted(runs: Lines, names: set[str]) -> list[float]:
     """What `--count` prints of whole queries that it admits, over PostgreSQL's rows."""
-    own = [
-        one
-        for one in runs
-        if one["flags"] == COUNT.name and one["question"] in names and one["last"] and one["postgres_rows"]
-    ]
-    return [int(one["last"]) / max(int(one["postgres_rows"]), 1) for one in own]
+    counts = [one for one in runs if one["flags"] == COUNT.name and one["question"] in names]
+    both = [(one["last"], one["postgres_rows"]) for one in counts if one["last"] and one["postgres_rows"]]
+    return [int(last) / max(int(rows), 1) for last, rows in both]
 
 
 def factor(one: dict[str, str], name: str) -> float:
     return int(one[name]) / max(int(one["rows"]), 1)
 
 
-def bounded(sets: list[dict[str, str]], name: str) -> list[float]:
+def bounded(sets: Lines, name: str) -> list[float]:
     return [factor(one, name) for one in sets if one["rows"] and one[name]]
 
 
-def check(sets: list[dict[str, str]], runs: list[dict[str, str]]) -> None:
-    """No bound is under, no run has other rows than PostgreSQL, and the program prints the bounds that the definitions
-    give."""
-    under = [one for one in sets for flags in ALL if one["rows"] and int(one[flags.name]) < int(one["rows"])]
-    bound = {
-        (one["question"], flags.name): int(one[flags.name]) for one in sets if one["whole"] == "1" for flags in ALL
-    }
+def is_below(one: dict[str, str], bound: str, rows: str) -> bool:
+    """Whether a bound is less than the rows, where these were counted."""
+    return bool(one[rows]) and int(one[bound]) < int(one[rows])
+
+
+def check(sets: Lines, runs: Lines) -> None:
+    """No bound is below its rows, no run has other rows than PostgreSQL, and the program prints the bounds that the
+    definitions give."""
+    whole = [one for one in sets if one["whole"] == "1"]
+    bound = {(one["question"], flags.name): int(one[flags.name]) for one in whole for flags in ALL}
     ran = [one for one in runs if one["status"] == "0"]
-    others = [
-        one for one in ran if one["flags"] != COUNT.name and int(one["last"]) != bound[one["question"], one["flags"]]
-    ]
-    low = [
-        one for one in runs if one["flags"] != COUNT.name and int(one["cost"]) < bound[one["question"], one["flags"]]
-    ]
-    under += [one for one in ran if one["postgres_rows"] and int(one["last"]) < int(one["postgres_rows"])]
-    reduced = {
-        question: bound[question, flags.name] for question, _ in bound for flags in ALL if flags.source == "reduce"
-    }
-    above = [one for one in ran if one["flags"] == COUNT.name and int(one["last"]) > reduced[one["question"]]]
+    under = [one for one in sets for flags in ALL if is_below(one, flags.name, "rows")]
+    under += [one for one in ran if is_below(one, "last", "postgres_rows")]
+    defined = [one for one in runs if one["flags"] != COUNT.name]
+    others = [one for one in defined if one in ran and int(one["last"]) != bound[one["question"], one["flags"]]]
+    low = [one for one in defined if int(one["cost"]) < bound[one["question"], one["flags"]]]
+    reduced = [flags.name for flags in ALL if flags.source == "reduce"][-1]
+    counts = [one for one in ran if one["flags"] == COUNT.name]
+    above = [one for one in counts if int(one["last"]) > bound[one["question"], reduced]]
     wrong = [one for one in ran if one["same"] == "0"]
     print(
         f"{len(sets)} sets, of which {sum(not one['rows'] for one in sets)} weren't counted; bounds that were under:"
@@ -99,31 +98,29 @@ def check(sets: list[dict[str, str]], runs: list[dict[str, str]]) -> None:
         raise SystemExit(f"archive: {under + wrong + others + low + above}")
 
 
-def whole_queries(sets: list[dict[str, str]], runs: list[dict[str, str]]) -> None:
+REFUSED = ("refused at 20,000,000", "at 1,000,000")
+WHOLE = ["bound over rows of the whole query", "median", "75th", "90th percentile", "worst", *REFUSED]
+
+
+def whole_queries(sets: Lines, runs: Lines) -> None:
     """The bound of each whole query over its rows, and what budgets refuse."""
-    for title, chosen in (("all", None), ("without cycles", "0"), ("with cycles", "1")):
-        asked = [one for one in sets if one["whole"] == "1" and chosen in (None, one["cyclic"])]
-        names = {one["question"] for one in asked}
-        rows = []
-        for flags in tried(runs):
-            cost = {one["question"]: int(one["cost"]) for one in runs if one["flags"] == flags.name and one["cost"]}
-            refused = [sum(cost.get(name, budget + 1) > budget for name in names) for budget in (BUDGET, SMALL_BUDGET)]
-            factors = counted(runs, names) if flags == COUNT else bounded(asked, flags.name)
-            rows.append([flags.name, *spread(factors), *map(str, refused)])
-        header = [
-            "bound over rows of the whole query",
-            "median",
-            "75th",
-            "90th percentile",
-            "worst",
-            "refused at 20,000,000",
-            "at 1,000,000",
-        ]
-        print(f"{len(names)} questions, {title}:\n")
-        table(header, rows)
+    whole = [one for one in sets if one["whole"] == "1"]
+    for title, chosen in (("all", ("0", "1")), ("without cycles", ("0",)), ("with cycles", ("1",))):
+        asked = [one for one in whole if one["cyclic"] in chosen]
+        print(f"{len({one['question'] for one in asked})} questions, {title}:\n")
+        table(WHOLE, [whole_by(flags, asked, runs) for flags in tried(runs)])
 
 
-def by_size(sets: list[dict[str, str]]) -> None:
+def whole_by(flags: Flags, asked: Lines, runs: Lines) -> list[str]:
+    """The line of one set of flags."""
+    names = {one["question"] for one in asked}
+    cost = {one["question"]: int(one["cost"]) for one in runs if one["flags"] == flags.name and one["cost"]}
+    refused = [sum(cost.get(name, budget + 1) > budget for name in names) for budget in (BUDGET, SMALL_BUDGET)]
+    factors = counted(runs, names) if flags == COUNT else bounded(asked, flags.name)
+    return [flags.name, *spread(factors), *map(str, refused)]
+
+
+def by_size(sets: Lines) -> None:
     sizes = sorted({int(one["size"]) for one in sets})
     print("Median, and 90th percentile, of bound over rows by the number of entries:\n")
     rows = []
@@ -134,144 +131,115 @@ def by_size(sets: list[dict[str, str]]) -> None:
     table(["entries", *map(str, sizes)], [["sets", *counts], *rows])
 
 
-def estimates(sets: list[dict[str, str]]) -> None:
-    rows = []
-    for title, chosen in (
-        ("whole queries", [one for one in sets if one["whole"] == "1"]),
-        ("all connected sets", sets),
-    ):
-        counted = [one for one in chosen if one["rows"]]
-        low = [
-            int(one["rows"]) / max(int(one["expected"]), 1)
-            for one in counted
-            if int(one["expected"]) < int(one["rows"])
-        ]
-        rows.append(
-            [
-                title,
-                f"{len(counted)} of {len(chosen)}",
-                str(len(low)),
-                str(sum(by > 10 for by in low)),
-                f"{max(low):,.0f} times",
-            ]
-        )
+def estimates(sets: Lines) -> None:
+    """How often PostgreSQL expects too few rows."""
+    whole = [one for one in sets if one["whole"] == "1"]
+    rows = [expected("whole queries", whole), expected("all connected sets", sets)]
     table(["", "counted", "too low", "too low by more than ten times", "at worst"], rows)
 
 
-def times(runs: list[dict[str, str]]) -> None:
-    rows = []
-    for flags in tried(runs):
-        own = [one for one in runs if one["flags"] == flags.name]
-        ran = [one for one in own if one["status"] == "0"]
-        seconds, beside = sum(float(one["seconds"]) for one in ran), sum(float(one["postgres_seconds"]) for one in ran)
-        late, refusals = sum(not one["postgres_rows"] for one in ran), [
-            float(one["seconds"]) for one in own if one["status"] != "0"
-        ]
-        peaks = [float(one["peak"]) for one in ran]
-        rows.append(
-            [
-                flags.name,
-                str(len(ran)),
-                f"{seconds:.1f} s",
-                f"{beside:.1f} s",
-                str(late),
-                f"{np.median(peaks):.0f} MiB, {max(peaks):.0f} MiB",
-                f"{max(refusals, default=0):.1f} s",
-            ]
-        )
-    table(
-        [
-            "",
-            "admitted",
-            "`run` of all of these",
-            "PostgreSQL of the same",
-            "of these not ended after 60 s",
-            "peak, median and greatest",
-            "longest refusal",
-        ],
-        rows,
-    )
+def expected(title: str, sets: Lines) -> list[str]:
+    both = [(int(one["expected"]), int(one["rows"])) for one in sets if one["rows"]]
+    low = [rows / max(expected, 1) for expected, rows in both if expected < rows]
+    counted, far = f"{len(both)} of {len(sets)}", sum(factor > 10 for factor in low)
+    return [title, counted, str(len(low)), str(far), f"{max(low):,.0f} times"]
 
 
-def sums(runs: list[dict[str, str]]) -> None:
+TIMES = [
+    "",
+    "admitted",
+    "`run` of all of these",
+    "PostgreSQL of the same",
+    "of these not ended after 60 s",
+    "peak, median and greatest",
+    "longest refusal",
+]
+
+
+def times(runs: Lines) -> None:
+    table(TIMES, [times_by(flags, runs) for flags in tried(runs)])
+
+
+def times_by(flags: Flags, runs: Lines) -> list[str]:
+    own = [one for one in runs if one["flags"] == flags.name]
+    ran = [one for one in own if one["status"] == "0"]
+    refusals = [float(one["seconds"]) for one in own if one["status"] != "0"]
+    peaks = [float(one["peak"]) for one in ran]
+    return [
+        flags.name,
+        str(len(ran)),
+        f"{sum(float(one['seconds']) for one in ran):.1f} s",
+        f"{sum(float(one['postgres_seconds']) for one in ran):.1f} s",
+        str(sum(not one["postgres_rows"] for one in ran)),
+        f"{np.median(peaks):.0f} MiB, {max(peaks):.0f} MiB",
+        f"{max(refusals, default=0):.1f} s",
+    ]
+
+
+def sums(runs: Lines) -> None:
     """What `--reduce` took beside PostgreSQL, and what each set of flags took for what all of them admit."""
     ran = [one for one in runs if one["status"] == "0"]
-    both = [
-        (float(one["seconds"]), float(one["postgres_seconds"]))
-        for one in ran
-        if one["flags"] == "`--reduce`" and one["postgres_rows"]
-    ]
+    reduced = [one for one in ran if one["flags"] == "`--reduce`" and one["postgres_rows"]]
+    both = [(float(one["seconds"]), float(one["postgres_seconds"])) for one in reduced]
     sides = [f"{sum(side):.1f} s, {np.median(side):.2f} s in the median" for side in zip(*both)]
     print(
         f"{len(both)} questions that `--reduce` admits and PostgreSQL ended: `run` took {sides[0]}, PostgreSQL"
         f" {sides[1]}; `run` was faster for {sum(mine < other for mine, other in both)}.\n"
     )
-    admitted = set.intersection(
-        *({one["question"] for one in ran if one["flags"] == flags.name} for flags in tried(ran))
-    )
     took = {
-        flags.name: sum(
-            float(one["seconds"]) for one in ran if one["flags"] == flags.name and one["question"] in admitted
-        )
+        flags.name: {one["question"]: float(one["seconds"]) for one in ran if one["flags"] == flags.name}
         for flags in tried(ran)
     }
-    print(
-        f"{len(admitted)} questions are admitted whatever the flags: "
-        + ", ".join(f"{seconds:.1f} s with {name}" for name, seconds in took.items())
-        + ".\n"
-    )
+    admitted = set.intersection(*(set(own) for own in took.values()))
+    by_flags = [f"{sum(own[name] for name in admitted):.1f} s with {flags}" for flags, own in took.items()]
+    print(f"{len(admitted)} questions are admitted whatever the flags: {', '.join(by_flags)}.\n")
 
 
-def plans(found: list[dict[str, str]]) -> None:
+FIGURES = {"seconds": "seconds", "processor": "seconds of processor", "peak": "peak in MiB"}
+
+
+def plans(found: Lines) -> None:
     """`plan` beside the `run` right after it, for what the budget admits: each cell has median, 90th percentile and
     worst."""
-    figures = (("seconds", "seconds"), ("processor", "seconds of processor"), ("peak", "peak in MiB"))
-    rows = []
-    for flags in tried(found):
-        ran = [one for one in found if one["flags"] == flags.name and one["run_status"] == "0"]
-        rows.append(
-            [
-                flags.name,
-                str(len(ran)),
-                *(three(float(one[f"{command}_{name}"]) for one in ran) for name, _ in figures for command in COMMANDS),
-            ]
-        )
     loads, refused = [float(one["load"]) for one in found], [one for one in found if one["run_status"] != "0"]
-    longest = {command: max(float(one[f"{command}_seconds"]) for one in refused) for command in COMMANDS}
+    longest = {command: max((float(one[f"{command}_seconds"]) for one in refused), default=0.0) for command in COMMANDS}
     print(
         f"{len(found)} plans, each with its run right after it, at load {min(loads):.0f} to {max(loads):.0f};"
         f" {len(refused)} times both refused, in at most {longest['plan']:.1f} s and {longest['run']:.1f} s. Median,"
         " 90th percentile, worst of the others:\n"
     )
-    table(["", "admitted", *(f"`{command}`, {title}" for _, title in figures for command in COMMANDS)], rows)
+    header = ["", "admitted", *(f"`{command}`, {title}" for title in FIGURES.values() for command in COMMANDS)]
+    table(header, [plans_by(flags, found) for flags in tried(found)])
     if any(one["plan_status"] != one["run_status"] for one in found):
-        raise SystemExit("archive: a plan and its run ended otherwise")
+        raise SystemExit("archive: a plan and its run end with different statuses")
 
 
-def beside_reduce(found: list[dict[str, str]]) -> None:
+def plans_by(flags: Flags, found: Lines) -> list[str]:
+    ran = [one for one in found if one["flags"] == flags.name and one["run_status"] == "0"]
+    columns = [f"{command}_{name}" for name in FIGURES for command in COMMANDS]
+    return [flags.name, str(len(ran)), *(three(float(one[column]) for one in ran) for column in columns)]
+
+
+def beside_reduce(found: Lines) -> None:
     """How much longer `plan --count` takes than `plan --reduce` of the same question."""
     took = {(one["question"], one["flags"]): float(one["plan_seconds"]) for one in found}
-    ratios = [
-        seconds / took[question, "`--reduce`"] for (question, flags), seconds in took.items() if flags == COUNT.name
-    ]
+    counts = {question: seconds for (question, flags), seconds in took.items() if flags == COUNT.name}
+    ratios = [seconds / took[question, "`--reduce`"] for question, seconds in counts.items()]
     if ratios:
         print(
             f"`plan --count` took {three(ratios)} times as long as `plan --reduce` (median, 90th percentile, worst).\n"
         )
 
 
-def worst(sets: list[dict[str, str]], number: int = 10) -> None:
+def worst(sets: Lines, number: int = 10) -> None:
     """The whole queries with the loosest bounds, for each set of flags."""
+    whole = [one for one in sets if one["whole"] == "1" and one["rows"]]
     for flags in ALL:
-        asked = sorted(
-            (one for one in sets if one["whole"] == "1" and one["rows"] and one[flags.name]),
-            key=lambda one: -factor(one, flags.name),
-        )
+        found = [(factor(one, flags.name), one) for one in whole if one[flags.name]]
+        loosest = sorted(found, key=lambda pair: -pair[0])[:number]
         print(f"{flags.name}:\n")
-        table(
-            ["question", "rows", "bound", "times"],
-            [[one["question"], one["rows"], one[flags.name], shown(factor(one, flags.name))] for one in asked[:number]],
-        )
+        header = ["question", "rows", "bound", "times"]
+        table(header, [[one["question"], one["rows"], one[flags.name], shown(times)] for times, one in loosest])
 
 
 def report() -> None:

@@ -7,7 +7,7 @@ import os
 import re
 import subprocess
 import tempfile
-from typing import Any, NamedTuple
+from typing import NamedTuple
 
 from . import places
 
@@ -48,17 +48,18 @@ class Rows(NamedTuple):
     sum: int
 
 
-def ended(command: list[str], out: str, folder: str | None = None, **more: Any) -> Ended:
+def ended(command: list[str], out: str, folder: str | None = None, env: dict[str, str] | None = None) -> Ended:
+    """Runs a command in a folder, its output into a file."""
     timed = os.path.join(os.path.dirname(os.path.abspath(__file__)), "timed.py")
     with open(out, "wb") as rows, tempfile.TemporaryFile() as notes, tempfile.NamedTemporaryFile("r") as told:
         subprocess.run(
             ["/usr/bin/python3", "-S", "-E", timed, told.name, *command],
             cwd=folder,
+            env=env,
             stdin=subprocess.DEVNULL,
             stdout=rows,
             stderr=notes,
             check=True,
-            **more,
         )
         status, seconds, processor, peak = told.read().split()
         notes.seek(0)
@@ -77,7 +78,7 @@ def by_postgres(url: str, text: str, out: str, seconds: int) -> Ended:
 
 
 def rows_of(path: str, with_header: bool) -> Rows:
-    """Lines stand for rows, since no text of the archive has a line end."""
+    """Each line is a row, since no text of the archive has a line end."""
     number = total = 0
     with open(path, "rb") as f:
         if with_header:

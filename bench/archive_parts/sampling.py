@@ -22,16 +22,14 @@ def read(table: str) -> list[list[str]]:
 
 
 def reached(dependencies: list[list[str]], first: str, most: int) -> set[str]:
-    """The packages that are reached from one, nearest first, whatever the kind."""
+    """So many packages that dependencies of any kind reach from one, nearest first."""
     targets: dict[str, list[str]] = {}
     for package, _, target in dependencies:
         targets.setdefault(package, []).append(target)
-    found, at = {first: None}, 0
-    while at < len(found) and len(found) < most:
-        for target in targets.get(list(found)[at], ()):
-            if len(found) < most:
-                found[target] = None
-        at += 1
+    found, at = [first], 0
+    while at < len(found) < most:
+        new = dict.fromkeys([*found, *targets.get(found[at], ())])
+        found, at = list(new)[:most], at + 1
     return set(found)
 
 
@@ -40,7 +38,7 @@ def is_kept(path: str) -> bool:
 
 
 def sample(folder: str, most: int = PACKAGES) -> None:
-    """Writes the rows of so many packages. A maintainer who is no team has a number in place of a name."""
+    """Writes the rows of so many packages. A maintainer who is a person and not a team has a number for a name."""
     packages, dependencies = read("package"), read("dependency")
     kept = reached(dependencies, next(row[0] for row in packages if row[1] == FIRST), most)
     directories = {row[0]: row for row in read("directory")}
@@ -64,7 +62,8 @@ def sample(folder: str, most: int = PACKAGES) -> None:
 
 
 def with_parents(numbers: set[str], directories: dict[str, list[str]]) -> set[str]:
-    found = set()
+    """The numbers of directories with those of all that they lie in."""
+    found: set[str] = set()
     for number in numbers:
         while number not in found:
             found.add(number)

@@ -3,6 +3,7 @@
 from __future__ import annotations
 
 import os
+from typing import Any, Iterable
 
 import psycopg
 
@@ -18,22 +19,28 @@ INDEXES = {
 }
 
 
-def load(connection: psycopg.Connection, folder: str) -> None:
+def copy(connection: psycopg.Connection[Any], table: str, columns: Iterable[str], path: str) -> None:
+    """Fills a table with the rows of a CSV file."""
+    statement = f"COPY {table} ({', '.join(columns)}) FROM STDIN (FORMAT csv, HEADER true)"
+    with connection.cursor().copy(statement) as into, open(path, "rb") as f:
+        while data := f.read(1 << 20):
+            into.write(data)
+
+
+def load(connection: psycopg.Connection[Any], folder: str) -> None:
     """All tables of a folder with their keys, an index for each column that queries join by, and statistics."""
     with open(os.path.join(places.QUERIES, "schema.sql"), encoding="utf-8") as f:
         connection.execute(f.read())
     for table, columns in COLUMNS.items():
-        with connection.cursor().copy(
-            f"COPY {table} ({', '.join(columns)}) FROM STDIN (FORMAT csv, HEADER true)"
-        ) as copy:
-            with open(os.path.join(folder, table + ".csv"), "rb") as f:
-                while data := f.read(1 << 20):
-                    copy.write(data)
-    for table, columns in INDEXES.items():
-        for column in columns:
-            connection.execute(f"CREATE INDEX ON {table} ({column})")
+        copy(connection, table, columns, os.path.join(folder, table + ".csv"))
+    for table, column in ((table, column) for table, columns in INDEXES.items() for column in columns):
+        connection.execute(f"CREATE INDEX ON {table} ({column})")
     connection.execute("ANALYZE")
 
 
-def connected(url: str) -> psycopg.Connection:
-    return psycopg.connect(url, autocommit=True)
+def value(connection: psycopg.Connection[Any], sql: str) -> Any:
+    """The first value of a statement's first row."""
+    row = connection.execute(sql).fetchone()
+    if row is None:
+        raise LookupError(f"no row: {sql}")
+    return row[0]

@@ -1,15 +1,25 @@
-"""Runs a command, and writes its status, seconds, seconds of processor and peak of memory in KiB into a file. A small
-process of its own, since the peak of a child is never told as less than what its starter has.
+"""Runs a command, and writes its status, seconds, seconds of processor and peak of memory in KiB into a file.
+
+It is a small process of its own, since the peak that is told of a child is never less than what its starter has.
 
     timed.py FILE COMMAND WORD..
 """
+
+from __future__ import annotations
+
 import os
 import sys
 import time
 
-began = time.perf_counter()
-child = os.posix_spawnp(sys.argv[2], sys.argv[2:], os.environ)
-_, status, used = os.wait4(child, 0)
-with open(sys.argv[1], "w") as told:
+
+def main(told: str, command: list[str]) -> None:
+    began = time.perf_counter()
+    child = os.posix_spawnp(command[0], command, os.environ)
+    _, status, used = os.wait4(child, 0)
     seconds, worked = time.perf_counter() - began, used.ru_utime + used.ru_stime
-    told.write(f"{os.waitstatus_to_exitcode(status)} {seconds} {worked} {used.ru_maxrss}")
+    with open(told, "w", encoding="ascii") as f:
+        f.write(f"{os.waitstatus_to_exitcode(status)} {seconds} {worked} {used.ru_maxrss}")
+
+
+if __name__ == "__main__":
+    main(sys.argv[1], sys.argv[2:])

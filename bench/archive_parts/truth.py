@@ -1,49 +1,53 @@
-"""For each connected set of entries how many rows there are, and how many PostgreSQL expects."""
+"""For each connected set of entries how many rows its join has, and how many PostgreSQL expects."""
 
 from __future__ import annotations
 
 import csv
 import os
-from typing import NamedTuple
+from typing import Any, NamedTuple
 
 import psycopg
+import reading
 
-from . import asked, grouping, places
+from . import asked, grouping, places, server
 from .columns import Rows, Tables
 
-# Below this many rows by groups PostgreSQL counts too, and both have to say the same.
+# Below this many rows by groups PostgreSQL counts too, and both must say the same.
 COUNTED_TWICE = 3_000_000
 SETTINGS = ("work_mem = '256MB'", "jit = off", "statement_timeout = '{seconds}s'")
 KEPT = os.path.join(places.MADE, "truth.csv")
 
 
 class Truth(NamedTuple):
-    """Rows, None where nobody could count them; who counted; and what PostgreSQL expects."""
+    """The rows, or None where nobody could count them; who counted; and what PostgreSQL expects."""
 
     rows: int | None
     by: str
     expected: int
 
 
-def number(connection: psycopg.Connection, sql: str) -> int | None:
+def number(connection: psycopg.Connection[Any], sql: str) -> int | None:
     """The one number that a statement gives, or None where it takes too long."""
     try:
-        return int(connection.execute(sql).fetchone()[0])
+        return int(server.value(connection, sql))
     except psycopg.errors.QueryCanceled:
         return None
 
 
-class Counter:
-    """Counts each set once, whichever questions have it, and keeps what it counted until the tables change."""
+def kept() -> dict[str, Truth]:
+    """What was counted since the tables last changed, by statement."""
+    if not os.path.exists(KEPT) or os.path.getmtime(KEPT) <= os.path.getmtime(os.path.join(places.TABLES, "file.csv")):
+        return {}
+    with open(KEPT, encoding="utf-8", newline="") as f:
+        lines = list(csv.reader(f))
+    return {sql: Truth(int(rows) if rows else None, by, int(expected)) for sql, rows, by, expected in lines}
 
-    def __init__(self, connection: psycopg.Connection, tables: Tables, seconds: int) -> None:
-        self.connection, self.tables, self.known = connection, tables, {}
-        if os.path.exists(KEPT) and os.path.getmtime(KEPT) > os.path.getmtime(os.path.join(places.TABLES, "file.csv")):
-            with open(KEPT, encoding="utf-8", newline="") as f:
-                self.known = {
-                    sql: Truth(int(rows) if rows else None, by, int(expected))
-                    for sql, rows, by, expected in csv.reader(f)
-                }
+
+class Counter:
+    """Counts each set once, even if several questions have it, and keeps what it counted until the tables change."""
+
+    def __init__(self, connection: psycopg.Connection[Any], tables: Tables, seconds: int) -> None:
+        self.connection, self.tables, self.known = connection, tables, kept()
         self.keep()
         for setting in SETTINGS:
             connection.execute("SET " + setting.format(seconds=seconds))
@@ -52,20 +56,20 @@ class Counter:
         with open(KEPT, "w", encoding="utf-8", newline="") as f:
             csv.writer(f).writerows([sql, *found] for sql, found in self.known.items())
 
-    def of(self, query: asked.reading.Query) -> Truth:
+    def of(self, query: reading.Query) -> Truth:
         sql = asked.sql(query)
         if sql not in self.known:
             self.known[sql] = self.counted(query, sql)
             self.keep()
         return self.known[sql]
 
-    def counted(self, query: asked.reading.Query, sql: str) -> Truth:
-        expected = self.connection.execute(f"EXPLAIN (FORMAT JSON) {sql}").fetchone()[0][0]["Plan"]["Plan Rows"]
+    def counted(self, query: reading.Query, sql: str) -> Truth:
+        expected = server.value(self.connection, f"EXPLAIN (FORMAT JSON) {sql}")[0]["Plan"]["Plan Rows"]
         groups = Rows(self.tables, query).counted()
         if groups is not None and groups > COUNTED_TWICE:
             return Truth(groups, "groups", expected)
         rows = number(self.connection, f"SELECT COUNT(*) FROM ({sql}) AS JOINED")
-        if None not in (rows, groups) and rows != groups:
+        if rows is not None and groups is not None and rows != groups:
             raise AssertionError(f"{rows} rows by PostgreSQL, {groups} by groups: {sql}")
         if rows is None and groups is None:
             groups = number(self.connection, grouping.Grouping(query).sql())

@@ -9,6 +9,8 @@ A planner has its own way to the values of a column. Here they are read from the
     python3 examples/embed/films.py examples/films
 """
 
+from __future__ import annotations
+
 import csv
 import os
 import sys
@@ -16,12 +18,12 @@ import sys
 from safebound import BudgetExceeded, Query, compress, degree_sequence
 
 
-def read(folder, name):
+def read(folder: str, name: str) -> list[dict[str, str]]:
     with open(os.path.join(folder, name), newline="", encoding="utf-8") as f:
         return list(csv.DictReader(f))
 
 
-def query_over(folder):
+def query_over(folder: str) -> Query:
     tables = {
         "P": read(folder, "person.csv"),
         "CI": [row for row in read(folder, "cast_info.csv") if row["PART"] == "director"],
@@ -36,15 +38,16 @@ def query_over(folder):
         (("MC", "COMPANY"), ("C", "ID")),
     ]
     joined = {column for equality in equalities for column in equality}
+    lists = {(e, name): compress(degree_sequence(row[name] for row in tables[e]), accuracy=1) for e, name in joined}
     return Query(
         entries=list(tables),
         equalities=equalities,
         row_bounds={entry: len(rows) for entry, rows in tables.items()},
-        lists={(entry, name): compress(degree_sequence(row[name] for row in tables[entry]), accuracy=1) for entry, name in joined},
+        lists=lists,
     )
 
 
-def print_order(query, budget):
+def print_order(query: Query, budget: int) -> None:
     try:
         order = query.best_order(budget)
     except BudgetExceeded as refused:
@@ -55,7 +58,7 @@ def print_order(query, budget):
         print(f"  {entry} {level}")
 
 
-def print_tree(query, budget):
+def print_tree(query: Query, budget: int) -> None:
     tree = query.best_tree(budget)
     names = list(tree.entries) + [f"join {i}" for i in range(len(tree.joins))]
     print("best tree")

@@ -18,7 +18,8 @@ QUERY = """
 """
 
 # A program's own data, which becomes a table file.
-TRIPS = [("Lyon", 1, 80), ("Lyon", 2, 95), ("Turin", 1, 60), ("Paris, capital", 1, 120), ("Paris, capital", 3, 90), ("Turin", 3, 70)]
+PARIS = "Paris, capital"
+TRIPS = [("Lyon", 1, 80), ("Lyon", 2, 95), ("Turin", 1, 60), (PARIS, 1, 120), (PARIS, 3, 90), ("Turin", 3, 70)]
 
 files = {
     "schema.sql": SCHEMA,

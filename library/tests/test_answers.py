@@ -145,7 +145,7 @@ class Lists(unittest.TestCase):
             self.assertEqual(answer, (Status.OK, len(expected), expected), call)
 
 
-class GivenLists(reading.ListBounds):  # type: ignore[misc]
+class GivenLists(reading.ListBounds):
     """The bounds of the reading over lists that are given."""
 
     def __init__(self, equalities: list[Equality], rows: list[int], lists: DegreeLists) -> None:
@@ -223,8 +223,7 @@ class RandomQuery:
     def read(self, entries: list[int]) -> int:
         """The bound of a set by the definitions."""
         rows, lists = with_values(self.rows, self.lists, self.within(entries))
-        bound: int = GivenLists(self.equalities, rows, lists).of_set(entries)
-        return bound
+        return GivenLists(self.equalities, rows, lists).of_set(set(entries))
 
     def within(self, entries: Iterable[int]) -> list[Equality]:
         """The equalities between these entries."""
