@@ -18,7 +18,7 @@ use berge_tree::{Classes, Members, Tree};
 use piece_math::{Child, Pieces, compose, root_total};
 use std::alloc::Global;
 
-// Adds the classes below an entry, each with the entry's list in it and the list of the class.
+// For each class below an entry, adds the entry's list for that class, and the list of the class.
 #[cycle(folding)]
 fn add_children(
     children: &mut Vec<Child>,
@@ -89,7 +89,7 @@ fn own_list(list: &Pieces) -> Result<Pieces, NoMemory>
     requires { sum list.now < 2 ^ 64 }
     ensures { IfOk result (λ own. own ≡ map saturated (composed list.now [])) }
 {
-    // What is looked at here is that the list falls, and that its numbers are positive.
+    // This call tells the proof that the list falls, and that its numbers are positive.
     let _ = list.pieces();
     list.copy()
 }
