@@ -30,7 +30,7 @@ pub record MayAppend (schema : Schema) (file : StatsFile) (table : ℕ) (texts :
   pub differ : HaveDifferentCharacters texts
   pub room : All (HasRoom table cells.rows) file.tables
 
--- when a pair may grow: the cells have its two columns and fewer than 2^32 rows, it has at most 32 cuts, and the sum of each of its lists is
+-- when a pair may grow: the cells have its two columns and fewer than 2^32 rows. It has at most 32 cuts, and the sum of each of its lists is
 -- below 2^32. If its table had rows, it has 63 nodes
 pub record MayGrow (cells : Cells) (before : ℕ) (pair : Pair) : Type 0 where
   pub filter : pair.filter < length cells.kinds
@@ -51,7 +51,7 @@ pub record SectionMayGrow (cells : Cells) (section : TableStats) : Type 0 where
 abbrev pub MayGrowWhere : ℕ → Cells → TableStats → Type 0
 MayGrowWhere table cells section = section.table ≡ table → SectionMayGrow cells section
 
--- what a query's tables are after one table got new rows: each entry of that table has them after its old rows, and every other entry has
+-- what a query's tables are after one table got new rows. Each entry of that table has them after its old rows, and every other entry has
 -- the rows that it had
 abbrev pub HasNewRows : Query → ℕ → List Row → Tables → Tables → Type 0
 HasNewRows query table rows tables after =

@@ -64,8 +64,8 @@ fn lists_for(alloc: Global, sizes: Sizes) -> Result<Vec<RowBuf<u32>>, NoMemory>
     row_buffers(alloc, &[sizes.left as u64, sizes.right as u64])
 }
 
-// Buffers with room for the join. The right table has each key at most `times` times, so each row of the left one is joined with at most so
-// many rows.
+// Buffers with room for the join. The right table has each key at most `times` times, so each row of the left one is joined with at most
+// `times` rows.
 fn reserved_for(alloc: Global, sizes: Sizes) -> Result<Reserved, NoMemory>
     requires left { sizes.left ≤ 4000000 }
     requires right { sizes.right ≤ 4000000 }

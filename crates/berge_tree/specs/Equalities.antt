@@ -61,8 +61,8 @@ AreInOneClass es p q =
 abbrev pub side_seen : (ℕ → Bool) → Place → Place → Bool
 side_seen side p q = if same_place q p then not (side q.entry) else side q.entry
 
--- the only way from p's entry to p's class is the link between them: the entries can be put on two sides so that the columns of each class
--- are on one side, where the column p alone counts for the side that its entry is not on
+-- the only way from p's entry to p's class is the link between them: entries can be put on two sides so that each class is on one side.
+-- A column is on the side of its entry, but p itself counts for the other side
 pub record IsBridge (class : Place → Place) (p : Place) : Type 0 where
   pub side : ℕ → Bool
   pub together : (q r : Place) → class q ≡ class r → side_seen side p q ≡ side_seen side p r

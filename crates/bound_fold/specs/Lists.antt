@@ -1,4 +1,4 @@
--- What an `EntryLists` holds, the same as `EntryBounds`, and what a tree needs of it.
+-- What an `EntryLists` holds, how it is read as `EntryBounds`, and what a tree needs of it.
 use Rattle.std.specs.Prelude.{ℕ, List, [], Option, unwrap_or, IsSome}
 use Rattle.std.specs.List.{AllByRecursion}
 use Rattle.berge_tree.specs.Trees.{BergeTree, entries}

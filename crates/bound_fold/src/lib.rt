@@ -7,8 +7,8 @@
 //! the lists of the classes below it. The root sums the weights of its rows; this sum is the bound of the tree. In each turn a set of entries
 //! keeps some equalities, and multiplies the bounds of their trees. The least product of all turns is the bound of the set.
 //!
-//! Callers cite `rows_of` and `list_of` for what an `EntryLists` holds, `bounds_of` for the same as `EntryBounds`, `IsListed` for what a tree
-//! needs of it, and `SetIsListed` for what a set needs.
+//! Callers cite `rows_of` and `list_of` for what an `EntryLists` holds, and `bounds_of` for the same as `EntryBounds`. They cite `IsListed` for
+//! what a tree needs of it, and `SetIsListed` for what a set needs.
 #![tactic(auto)]
 
 mod listed;

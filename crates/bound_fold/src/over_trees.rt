@@ -96,7 +96,7 @@ fn own_list(list: &Pieces) -> Result<Pieces, NoMemory>
 
 /// The bound of a tree, or `u128::MAX` where it is larger.
 ///
-/// From the leaves up, an entry's list is composed with those of the classes below it, and a class multiplies the lists
+/// From the leaves up, an entry's list is composed with the lists of the classes below it. A class multiplies the lists
 /// of the entries below it (Degree Sequence Bound, ICDT 2023; SafeBound, SIGMOD 2023). Where the lists dominate tables,
 /// no join of the tables along the tree has more rows.
 pub fn fold(alloc: Global, tree: &Tree, lists: &EntryLists) -> Result<u128, NoMemory>

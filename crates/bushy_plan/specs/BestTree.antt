@@ -27,7 +27,7 @@ total bounds (leaf entry) = slice_index bounds (2 ^ entry)
 total bounds (node left right) = inner_sum bounds (node left right)
 
 -- Of two trees over one set the first comes before the other if its left set at the root has the lower number. If these sets are the same,
--- the left trees decide. If these trees are the same, the right trees decide
+-- the left trees decide; if the left trees are the same too, the right trees decide
 abbrev pub IsTreeBefore : PlanTree → PlanTree → Type 0
 IsTreeBefore (leaf a) other = ⊥
 IsTreeBefore (node left right) (leaf b) = ⊥
