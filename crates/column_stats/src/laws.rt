@@ -1,4 +1,4 @@
-//! What the list of a node is good for: no law computes anything, and the contract is the law.
+//! A law: what the list of a node dominates. The function does nothing; its contract is the law.
 ghost use Rattle.std.specs.Prelude.{ℕ, Bool, List};
 ghost use Rattle.degree_sequences.specs.Domination.{DominatesKeys};
 ghost use Rattle.cond_stats.specs.Leaves.{in_node, leaf_of};
