@@ -1,4 +1,4 @@
-//! Plans over join trees: from a query and its database to the best join tree of its entries, with the bounds of its scans and nodes.
+//! Plans a query by the best join tree of its entries, with bounds of the tree's scans and nodes.
 //!
 //! This is the stage before joins over a tree, as planning is the stage before joins along an order. In: a query and the tables of its entries.
 //! The crate takes the bounds of all scans and of all sets of entries from planning, and chooses the tree that costs least by these bounds.

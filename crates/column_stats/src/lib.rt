@@ -1,4 +1,4 @@
-//! Statistics of a filter column for a joined column: they are made once, and a question to them takes no memory (SafeBound, SIGMOD 2023,
+//! Statistics of a filter column for a joined column; they are made once, and then answer without more memory (SafeBound, SIGMOD 2023,
 //! conditional degree sequences).
 //!
 //! A plan from tables makes only the lists that its conditions ask for (`cond_stats`). This crate makes all of them, for a caller that keeps

@@ -33,7 +33,7 @@ pub struct ColumnStats {
     pub rest: Pieces,
     /// The cells at which the leaves begin.
     pub cuts: Seq<u64>,
-    /// The lists of the nodes: of 1, 2, 4, 8, 16 and 32 leaves, those of one size by their first leaves.
+    /// The lists of the nodes of 1, 2, 4, 8, 16 and 32 leaves, in this order. Nodes of one size stand in the order of their leaves.
     pub nodes: Seq<Pieces>,
 }
 
@@ -71,7 +71,7 @@ impl ColumnStats {
         self.nodes.get(usize::from(place))
     }
 
-    /// The leaf of a number: the last whose cut is at most the number, or 0 where no cut is. In a column of texts no cut is.
+    /// The leaf of a number: the last whose cut is at most the number, or 0 where no cut is, as in a column of texts.
     pub fn leaf_int(&self, value: i64) -> u8
         requires { IsValid self.now }
         ensures leaf { (texts : List (List ℕ)) → result ≡ leaf_by_cuts texts self.now (Int value) }

@@ -35,7 +35,7 @@ leaf_above at_most column passes = last_place passes (cuts at_most column)
 abbrev pub leaf_of : (ℕ → ℕ → Bool) → List ℕ → ℕ → ℕ
 leaf_of at_most column value = leaf_above at_most column (λ cut. at_most cut value)
 
--- how many leaves the least node has that holds both. A node has 1, 2, 4, 8, 16 or 32 leaves, and begins at a multiple of their number
+-- the size of the least node that holds both leaves. A node has a size of 1, 2, 4, 8, 16 or 32 leaves, and begins at a multiple of its size
 abbrev pub node_size : ℕ → ℕ → ℕ
 node_size low high = unwrap_or (find (λ size. low / size == high / size) (1 ∷ 2 ∷ 4 ∷ 8 ∷ 16 ∷ [])) 32
 

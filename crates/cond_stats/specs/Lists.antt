@@ -36,8 +36,8 @@ abbrev pub greatest : List ℕ → ℕ
 greatest [] = 0
 greatest (n ∷ ns) = max n (greatest ns)
 
--- the rest list: take the rank-wise maximum of the degree lists of all values that aren't frequent, cut it to as many rows as the most
--- frequent of these values has, and compress it. The rest list is empty where each value is frequent
+-- the rest list: the rank-wise maximum of the degree lists of all values that aren't frequent. It is cut to as many rows as the most
+-- frequent of these values has, and then compressed. It is empty where each value is frequent
 unfoldable pub rest : ℕ → List (ℕ × ℕ) → List ℕ
 rest accuracy rows =
     let values = remaining (filter_values rows) in

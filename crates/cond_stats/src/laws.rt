@@ -27,7 +27,7 @@ pub fn lists_dominate()
         → DominatesKeys (list_between texts kind accuracy rows low high) (keys_where (is_between texts kind low high) rows) }
 {}
 
-/// Each list sums to a number of rows. It is the same for every joined column.
+/// Each list sums to a number of rows. This number is the same for every joined column.
 pub fn lists_sum()
     ensures whole { (accuracy : ℕ) (rows : List (ℕ × ℕ)) → sum (whole accuracy rows) ≡ length rows }
     ensures frequent { (accuracy : ℕ) (rows : List (ℕ × ℕ)) (value : ℕ)

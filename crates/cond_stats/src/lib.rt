@@ -1,5 +1,5 @@
-//! Conditional statistics of a filter column for a joined column: lists that dominate the joined keys of the rows that a condition on the
-//! filter column leaves (SafeBound, SIGMOD 2023, conditional degree sequences). Both columns are of one table.
+//! Conditional statistics: lists that dominate the joined keys of the rows that a condition on a filter column leaves (SafeBound, SIGMOD 2023,
+//! conditional degree sequences). The filter column and the joined column are of one table.
 //!
 //! This is the stage after a table is read. In: columns of cells. Out: compressed degree lists of all rows, of the rows with one filter value,
 //! and of the rows whose filter value lies in a range. A `FilterColumn` sorts the filter column once, and makes a list when a caller asks

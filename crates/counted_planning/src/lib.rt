@@ -4,7 +4,8 @@
 //!
 //! The laws say why plans can be chosen by these bounds (`counted_bounds_of_sets`). They hold for any lists of rows, under whatever conjuncts
 //! sets are counted (`Counted` of counted_bounds). No level over the lists has more rows than the bound. The bound is at most the one from
-//! degree sequences of the same lists, at any accuracy. If a set is counted under all conjuncts, its bound is the number of rows.
+//! degree sequences of the same lists, at any accuracy. If the parts of a set are counted under all of their conjuncts, and conjuncts without
+//! entries hold, the bound is the number of rows.
 //!
 //! Callers cite `set_bounds_by_counts`.
 #![tactic(auto)]
