@@ -5,7 +5,7 @@ use Rattle.degree_sequences.specs.Falling.{IsFalling}
 use Rattle.degree_sequences.specs.Domination.{DominatesKeys, DominatesWeights}
 use Rattle.degree_sequences.specs.Composition.{ChildLists}
 
--- a child as the rows have it: the key of each row, and the class weight of each key
+-- a child of the rows: the key that each row has for it, and the class weight of each key
 pub record ChildKeys : Type 0 where
   pub keys : List ℕ
   pub weight : ℕ → ℕ
