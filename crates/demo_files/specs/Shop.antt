@@ -28,16 +28,16 @@ item_columns = codes "ORDER_ID" ∷ codes "PRODUCT" ∷ []
 abbrev pub product_of_item : ℕ → ℕ
 product_of_item i = if i % 2 == 0 then (i / 2) % 10 else (i / 2) % products
 
--- the order of an item is three on from that of the item before, beginning at the shop's number; behind the last
--- order comes the first
+-- an item's order is three after the order of the item before; the first item's
+-- order is the shop's number, and after the last order comes the first again
 abbrev pub item : ℕ → ℕ → List ℕ
 item number i = (3 * i + number) % orders ∷ product_of_item i ∷ []
 
 abbrev pub order_columns : List (List ℕ)
 order_columns = codes "ID" ∷ codes "CUSTOMER" ∷ codes "DAYNO" ∷ []
 
--- the customer of an order is seven on from that of the order before, beginning at the shop's number; days are
--- numbered from 0 to 99, in turn
+-- an order's customer is seven after that of the order before; the first order's customer is the shop's
+-- number, and after the last customer comes the first again. Days are numbered from 0 to 99, in turn
 abbrev pub order : ℕ → ℕ → List ℕ
 order number i = i ∷ (7 * i + number) % customers ∷ i % 100 ∷ []
 

@@ -1,4 +1,4 @@
-//! Laws of the shop's files. None of them does anything when it runs.
+//! Laws of the shop's files. Each function does nothing, and its contract is the law.
 ghost use Rattle.std.specs.Prelude.{◌≡◌, ◌-◌, ◌^◌, ◌∷◌, [], ℕ, Some, codes};
 ghost use Rattle.base_io.specs.Files.{told, Present};
 ghost use Rattle.csv.specs.Reading.{default_config, records, strip_bom};
@@ -34,7 +34,7 @@ pub fn files_by_name()
         → told (Some (demo_files number)) (codes "customer.csv") ≡ Present (file_text (customer_records number)) }
 {}
 
-/// Each table's file is read, as CSV, as its records.
+/// Reading each table's file as CSV gives the table's records.
 pub fn files_are_read_back()
     ensures products { records default_config (strip_bom (file_text product_records)) ≡ product_records }
     ensures items { (number : ℕ) → records default_config (strip_bom (file_text (item_records number))) ≡ item_records number }
