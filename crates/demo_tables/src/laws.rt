@@ -1,4 +1,4 @@
-//! The laws. Each call does nothing.
+//! Laws of the shop's files. Each function does nothing, and its contract is the law.
 ghost use Rattle.std.specs.Prelude.{◌≡◌, ℕ, Ok, codes};
 ghost use Rattle.limits.specs.Profile.{most_text};
 ghost use Rattle.schema_types.specs.declared.types.Schema.{Schema};
