@@ -5,7 +5,7 @@ ghost use Rattle.entry_sets.specs.Sets.{IsWithin, entries_of_set, has_entry};
 use crate::iter::Entries;
 use std::marker::Model;
 
-/// A set of FROM entries, which contracts see as the number whose bits are the set: entry x is in it where bit x is set.
+/// A set of at most sixteen FROM entries. Contracts see it as a number: entry x is in the set if bit x is set.
 #[derive(Clone, Copy, Debug, PartialEq, Eq)]
 pub struct EntrySet {
     bits: u16,
@@ -56,7 +56,7 @@ impl EntrySet {
         entry < 16 && (self.bits >> entry) & 1 == 1
     }
 
-    /// The set and the entry.
+    /// The set with the entry added.
     pub fn with(self, entry: u8) -> EntrySet
         requires { entry < 16 }
         ensures entries { (other : ℕ) → has_entry result other ≡ (has_entry self other || (other == entry)) }
@@ -67,7 +67,7 @@ impl EntrySet {
         }
     }
 
-    /// The set but for the entry.
+    /// The set without the entry.
     pub fn without(self, entry: u8) -> EntrySet
         requires { entry < 16 }
         ensures entries { (other : ℕ) → has_entry result other ≡ (has_entry self other && not (other == entry)) }
@@ -78,7 +78,7 @@ impl EntrySet {
         }
     }
 
-    /// Whether each entry of the set is in the other one.
+    /// Whether each entry of the set is in the other set.
     pub fn is_within(self, other: EntrySet) -> bool
         ensures { IsTrue result ↔ IsWithin self other }
     {
