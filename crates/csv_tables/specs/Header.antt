@@ -23,7 +23,7 @@ only (x ∷ y ∷ rest) = None
 abbrev pub column_place : List ℕ → Record → Option ℕ
 column_place name header = only (places_from 0 name header)
 
--- the places of the columns, which are numbered from `number`; the first column that no field names, or several do, is refused
+-- the places of the columns, which are numbered from `number`; the first column that no field or several fields name is refused
 abbrev pub column_places : ℕ → List Column → Record → Result (List ℕ) TableError
 column_places number [] header = Ok []
 column_places number (column ∷ columns) header =

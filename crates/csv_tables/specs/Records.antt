@@ -23,7 +23,7 @@ records_of bytes = records default_config bytes
 abbrev pub Source : Type 0
 Source = Reader (Bor (List ℕ))
 
--- the bytes that it has yet to read, where it has not failed
+-- the bytes that a reader has yet to read, if it has not failed
 abbrev pub unread : Source → Option (List ℕ)
 unread reader = source_of (λ bytes. Some bytes.now) reader
 
@@ -31,7 +31,7 @@ abbrev pub records_in : State → Option (List ℕ) → List Record
 records_in state None = []
 records_in state (Some bytes) = records_from default_config (length bytes + 1) state bytes
 
--- the records that it has yet to give
+-- the records that a reader has yet to give
 abbrev pub left : Source → List Record
 left reader = records_in (reader_state reader) (unread reader)
 

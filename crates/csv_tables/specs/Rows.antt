@@ -21,7 +21,7 @@ values_of_record number at (column ∷ columns) (place ∷ places) fields =
     then_all (or_refuse (error.Field number at) (value_of_field column.kind (slice_index_or fields place [])))
     (values_of_record number (at + 1) columns places fields)
 
--- the row of the record `number`; refused are a number past the most rows, and a record that has not `width` fields like the header
+-- the row of record `number`, which is refused past 4,000,000 records, or if it hasn't the header's number of fields, `width`
 abbrev pub row_of_record : List Column → List ℕ → ℕ → ℕ → Record → Result Row TableError
 row_of_record columns places width number fields =
     refuse_if (nat_lt most_rows number) (error.Limit (most_rows + 1))

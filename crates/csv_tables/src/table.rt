@@ -82,8 +82,8 @@ fn read_columns(
     read_rows(alloc, &mut reader, &mut row, columns, &places, width, pool)
 }
 
-/// Reads the cells of a table from its file of at most 64 MiB. The crate `csv` says what the file's records are; it
-/// differs little from RFC 4180. The texts of the file are put into the pool.
+/// Reads the cells of a table from its file of at most 64 MiB. The crate `csv` says which records the file has,
+/// close to RFC 4180. The texts of the file are put into the pool.
 ///
 /// Whatever it answers, the pool still begins with its old texts, in their places.
 pub fn read_table(
@@ -96,7 +96,7 @@ pub fn read_table(
     requires few { length bytes.now ≤ most_file }
     requires room { length pool.old ≤ 4000000000 }
 
-    // The rows of the cells are the rows of the file; a refusal is the file's, or says that memory was too little.
+    // The rows of the cells are the rows of the file. An error is the file's refusal, or says that memory was too little.
     ensures rows { IfOk result (λ cells. rows_of_file table.now bytes.now ≡ Ok (rows_of_cells pool.new cells)) }
     ensures cells { IfOk result (AreCellsOf table.now pool.new) }
     ensures refused { IfErr result (Refuses (rows_of_file table.now bytes.now)) }

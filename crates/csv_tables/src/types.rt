@@ -33,7 +33,7 @@ pub enum TableError {
     Utf8 { at: u32 },
     /// No header field names this column, or more than one does.
     Header { column: u32 },
-    /// Record `row` has `found` fields, and the header has another number.
+    /// Record `row` has `found` fields, and the header has another number of fields.
     Width { row: u32, found: u32 },
     /// The field of this column in record `row` is outside the column's type.
     Field { row: u32, column: u32 },

@@ -34,8 +34,8 @@ pub fn ranks()
     ensures least { (s : List ℕ) (t r : ℕ) → 0 < t → r < rank s t → running_sum s r < t }
 {}
 
-/// What `lesser` and `cut_at` give by their running sums, and the other operations rank by rank.
-/// Each result falls if its lists fall.
+/// The running sums of `lesser` and `cut_at`, and the elements of the rank-wise operations. Each
+/// result falls if its lists fall.
 pub fn operations()
     ensures lesser { (s t : List ℕ) (r : ℕ) → running_sum (lesser s t) r ≡ min (running_sum s r) (running_sum t r) }
     ensures cut { (s : List ℕ) (n r : ℕ) → running_sum (cut_at s n) r ≡ min (running_sum s r) n }
@@ -57,7 +57,7 @@ pub fn compressions()
     ensures element { (accuracy : ℕ) (f : List ℕ) (r : ℕ) → r < length (compressed accuracy f)
         → slice_index (compressed accuracy f) r
         ≡ min (slope accuracy f (running_sum (compressed accuracy f) r)) (sum f - running_sum (compressed accuracy f) r) }
-    // elements follow until their sum is that of f, and no further
+    // elements are added until their sum is f's sum, and none after that
     ensures goes_on { (accuracy : ℕ) (f : List ℕ) (r : ℕ) → r < length (compressed accuracy f)
         → running_sum (compressed accuracy f) r < sum f }
     ensures sum { (accuracy : ℕ) (f : List ℕ) → IsFalling f → sum (compressed accuracy f) ≡ sum f }

@@ -7,7 +7,7 @@ ghost use Rattle.demo_files.specs.Files.{demo_files, file_text};
 ghost use Rattle.demo_files.specs.Shop.{customer, customer_columns, item, item_columns, order, order_columns, product, product_columns};
 ghost use Rattle.demo_files.specs.Texts.{query_text, schema_text};
 
-/// Theorems by computation: how the files begin, and their last records.
+/// How the files begin, and their last records, proved by computation.
 pub fn examples()
     ensures first_products { file_text (table_records product_columns product 2) ≡ codes "ID,KIND\r\n0,0\r\n1,1\r\n" }
     ensures first_items { file_text (table_records item_columns (item 7) 3) ≡ codes "ORDER_ID,PRODUCT\r\n7,0\r\n10,0\r\n13,1\r\n" }

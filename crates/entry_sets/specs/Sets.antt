@@ -7,7 +7,7 @@ use Rattle.std.specs.Int.{bit_at}
 abbrev pub has_entry : ℕ → ℕ → Bool
 has_entry set entry = nat_lt entry 16 && (bit_at set entry == 1)
 
--- each entry of the one set is in the other
+-- each entry of `set` is in `other`
 abbrev pub IsWithin : ℕ → ℕ → Type 0
 IsWithin set other = (entry : ℕ) → has_entry set entry ≡ true → has_entry other entry ≡ true
 

@@ -34,14 +34,14 @@ impl EntrySet {
         EntrySet { bits: 0 }
     }
 
-    /// The set of these bits.
+    /// The set with these bits.
     pub const fn from_bits(bits: u16) -> EntrySet
         ensures { result ≡ bits }
     {
         EntrySet { bits }
     }
 
-    /// Its bits.
+    /// The set's bits.
     pub const fn bits(self) -> u16
         ensures { result ≡ self }
     {
@@ -85,7 +85,7 @@ impl EntrySet {
         self.bits & other.bits == self.bits
     }
 
-    /// Its entries in FROM order.
+    /// The set's entries in FROM order.
     pub fn entries(self) -> Entries
         ensures { result ≡ entries_of_set self }
     {

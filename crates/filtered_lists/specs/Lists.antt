@@ -8,7 +8,7 @@ use Rattle.filtered_lists.specs.Filters.{ComparisonAnswers, filtered}
 use Rattle.filtered_lists.specs.Ranges.{Range}
 
 -- what statistics know of a joined column of an entry: a list for all rows, for the rows that have a value in a filter
--- column, and for those in a range of a filter column
+-- column, and for the rows in a range of a filter column
 pub record ColumnLists : Type 0 where
   pub whole : List ℕ
   pub equal : ℕ → Value → List ℕ

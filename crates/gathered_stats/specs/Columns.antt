@@ -23,7 +23,7 @@ abbrev pub keys_in : Cells → ℕ → List ℕ
 keys_in cells column = slice_index_or cells.columns column (replicate cells.rows 0)
 
 -- keys, one for each row of a table, have these lists: for all rows, for the rows that have a value in a column of the table,
--- and for those in a range of such a column
+-- and for the rows in a range of such a column
 pub record HaveLists (texts : List (List ℕ)) (cells : Cells) (accuracy : ℕ) (keys : List ℕ) (lists : ColumnLists) : Type 0 where
   pub whole : compressed_degrees accuracy keys ≡ lists.whole
   pub equal : (column : ℕ) (value : Value) (cell : Option ℕ) → column < length cells.kinds
