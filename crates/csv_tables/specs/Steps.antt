@@ -12,7 +12,7 @@ abbrev pub or_refuse : {A : Type 0} → TableError → Option A → Result A Tab
 or_refuse e None = Err e
 or_refuse e (Some x) = Ok x
 
--- this refusal where the test holds, and else the next step
+-- this refusal if the test holds, else the next step
 abbrev pub refuse_if : {A : Type 0} → Bool → TableError → Result A TableError → Result A TableError
 refuse_if true e next = Err e
 refuse_if false e next = next

@@ -69,7 +69,7 @@ fn at_least_zero(digits: &[u8]) -> Option<i64>
     Some(size as i64)
 }
 
-// The number that digits spell behind a minus sign, in the signed range of 64 bits.
+// The number that digits spell after a minus sign, in the signed range of 64 bits.
 fn at_most_zero(digits: &[u8]) -> Option<i64>
     ensures { result ≡ option_map (signed true) (spelled_size (greatest_magnitude true) digits.now) }
 {

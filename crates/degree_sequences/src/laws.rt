@@ -57,7 +57,7 @@ pub fn compressions()
     ensures element { (accuracy : ℕ) (f : List ℕ) (r : ℕ) → r < length (compressed accuracy f)
         → slice_index (compressed accuracy f) r
         ≡ min (slope accuracy f (running_sum (compressed accuracy f) r)) (sum f - running_sum (compressed accuracy f) r) }
-    // elements are added until their sum is f's sum, and none after that
+    // elements are added only until their sum is f's sum
     ensures goes_on { (accuracy : ℕ) (f : List ℕ) (r : ℕ) → r < length (compressed accuracy f)
         → running_sum (compressed accuracy f) r < sum f }
     ensures sum { (accuracy : ℕ) (f : List ℕ) → IsFalling f → sum (compressed accuracy f) ≡ sum f }

@@ -36,8 +36,8 @@ item number i = (3 * i + number) % orders ∷ product_of_item i ∷ []
 abbrev pub order_columns : List (List ℕ)
 order_columns = codes "ID" ∷ codes "CUSTOMER" ∷ codes "DAYNO" ∷ []
 
--- each order's customer is seven after that of the order before, and after the last customer comes the first again: order i
--- has the customer 7 * i + the shop's number, modulo the number of customers. Days are numbered from 0 to 99, in turn
+-- each order's customer is seven after the customer of the order before, and after the last customer comes the first again: order
+-- i has the customer 7 * i + the shop's number, modulo the number of customers. Days are numbered from 0 to 99, in turn
 abbrev pub order : ℕ → ℕ → List ℕ
 order number i = i ∷ (7 * i + number) % customers ∷ i % 100 ∷ []
 

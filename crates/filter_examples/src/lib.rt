@@ -12,7 +12,7 @@ ghost use Rattle.filter_examples.specs.Columns.{lists_of};
 
 /// Columns that join and filter.
 pub fn small_columns()
-    // X = 99 over 1 to 40: a value that is in no row has the rest list, that of the eight values that aren't frequent
+    // X = 99 over 1 to 40: a value that is in no row has the rest list; eight values aren't frequent
     ensures absent_among_forty { list_where (lists_of (range_with_len 1 40)) (x_is op.Eq 99) ≡ 1 ∷ [] }
     // over 1, 2, 3 all values are frequent, so the rest list is empty
     ensures absent_among_three { list_where (lists_of (1 ∷ 2 ∷ 3 ∷ [])) (x_is op.Eq 99) ≡ [] }

@@ -18,7 +18,7 @@ kind_in cells column = slice_index_or cells.kinds column kind.Int
 abbrev pub cells_in : Cells → ℕ → List ℕ
 cells_in cells column = slice_index_or cells.columns column []
 
--- the keys of a joined column: its cells, or one key for all rows where the table has no such column
+-- the keys of a joined column: its cells, or one key for all rows if the table has no such column
 abbrev pub keys_in : Cells → ℕ → List ℕ
 keys_in cells column = slice_index_or cells.columns column (replicate cells.rows 0)
 
