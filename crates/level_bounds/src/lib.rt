@@ -9,8 +9,8 @@
 //! - Without conjuncts on one entry alone, the bound of a set is near that of the whole tables' degree lists (SafeBound,
 //!   SIGMOD 2023).
 //!
-//! Callers cite `query_scan`, `query_level` and `BoundsEachScan`, `IsOrderOfSet` for a set in an order, and `AreCompressed`
-//! and `uncompressed` for what a bound is near.
+//! Callers cite `query_scan`, `query_level` and `BoundsEachScan`. They also cite `IsOrderOfSet` for a set in an order, and
+//! `AreCompressed` and `uncompressed` for the bounds of whole tables.
 #![tactic(auto)]
 
 pub mod examples;
