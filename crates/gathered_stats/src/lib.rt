@@ -1,7 +1,7 @@
 //! Gathers from a query's tables the statistics that its bounds ask for.
 //!
-//! This is the stage between the tables and the bounds. In: a query, its database and an accuracy. Out: for each FROM entry and each column that
-//! the entry joins, the steps of the entry's own conjuncts, each with its list (SafeBound, SIGMOD 2023).
+//! This is the stage between the tables and the bounds. In: a query, its database and an accuracy. Out: for each FROM entry and each of its
+//! joined columns, the steps of the entry's own conjuncts, each with its list (SafeBound, SIGMOD 2023).
 //!
 //! A list is made only if a step asks for it. A filter column is sorted once for each entry; an entry without conditions sorts no column. The
 //! rest list of a filter column is made once for each joined column, if a value needs it, and copied for each further value.

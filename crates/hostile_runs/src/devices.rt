@@ -187,7 +187,8 @@ fn is_unsaid(ran: &Ran, slowly: bool, k: u64) -> bool {
     }
 }
 
-// Calls of `out` fail one after another, until a run is done. Tells whether each run before that is cut, and there is one.
+// Calls of `out` fail one after another, until a run is done. Tells whether each run before that is cut, and whether there
+// is at least one.
 fn rows_are_cut(alloc: Global, slowly: bool) -> Result<bool, NoMemory> {
     for k in 1u64..1000 {
         let ran = run(alloc, slowly, Failing { out: k, ..SOUND })?;

@@ -17,7 +17,7 @@ use Rattle.query_types.specs.declared.types.Query.{Query}
 
 -- ---- what stands in which part
 
--- the condition names this entry and no other one
+-- the condition names this entry and no other entry
 abbrev pub names_just : ℕ → Cond → Bool
 names_just entry cond = are_just (entries_named cond) entry
 
@@ -79,7 +79,7 @@ abbrev pub numbers_where : {A : Type 0} → (A → Bool) → ℕ → List A → 
 numbers_where test first [] = []
 numbers_where test first (x ∷ xs) = if test x then first ∷ numbers_where test (first + 1) xs else numbers_where test (first + 1) xs
 
--- for each FROM entry, the numbers of the conjuncts that name it and no other one
+-- for each FROM entry, the numbers of the conjuncts that name it and no other entry
 abbrev pub local_of : Query → List (List ℕ)
 local_of query = map (λ entry. numbers_where (names_just entry) 0 query.conjuncts) (range_with_len 0 (length query.from))
 

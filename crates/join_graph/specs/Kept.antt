@@ -36,7 +36,7 @@ order_of_turn subset turn es = gone_round turn (equalities_within subset es)
 abbrev pub AreConnected : List Edge → ℕ → ℕ → Type 0
 AreConnected es a b = (side : ℕ → Bool) → AllByRecursion (λ e. side e.left.entry ≡ side e.right.entry) es → side a ≡ side b
 
--- `kept` has, in order, each equality of `es` whose two entries those kept so far don't connect. `earlier` are those kept before `es`
+-- from `es`, in order, `kept` takes each equality whose two entries aren't connected by the kept equalities before it, `earlier` included
 pub data KeepsAfter : List Edge → List Edge → List Edge → Type 0 where
   at_end : (earlier : List Edge) → KeepsAfter earlier [] []
   keeps : (earlier : List Edge) (e : Edge) (es kept : List Edge) → AreApart earlier e.left.entry e.right.entry

@@ -42,7 +42,8 @@ pub fn turns(parts: &Parts, subset: EntrySet) -> u32
     count.min(MOST_TURNS).max(1) as u32
 }
 
-// The place, among all equalities, of equality number `turn` of the set, counted from 0. If the set has no such equality, it is their number.
+// The place, among all equalities, of the set's equality number `turn`, counted from 0. If the set has no equality of this number, the answer is
+// the number of all equalities.
 fn first_of_turn(edges: &[Edge], subset: EntrySet, turn: u32) -> usize
     ensures place { result ≤ length edges.now }
     ensures before { equalities_within subset (take result edges.now) ≡ take turn (equalities_within subset edges.now) }

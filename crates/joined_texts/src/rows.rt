@@ -79,9 +79,9 @@ fn write_listed<N: Sink>(
     buffer.flush(sink)
 }
 
-/// Writes the rows text (RFC 4180) of a query that was executed in this order: a header of the outputs' names, and a
-/// record of the outputs for each row of the last level, in the level's order. If the sink fails, this returns `Failed`,
-/// and the sink has a prefix of the text.
+/// Writes the rows text (RFC 4180) of a query that was executed in this order. It has a header of the outputs' names, and
+/// a record of the outputs for each row of the last level, in the level's order. If the sink fails, this returns
+/// `Failed`, and the sink has a prefix of the text.
 pub fn write_rows<N: Sink>(
     executed: &RowForest,
     order: &[u8],
@@ -100,7 +100,7 @@ pub fn write_rows<N: Sink>(
     write_listed(query, db, &Listed::Last { executed, order }, sink)
 }
 
-/// Writes the rows text of a query whose entries were joined by a tree. It is that of `write_rows`, with a record for each
+/// Writes the rows text of a query whose entries were joined by a tree: the header of `write_rows`, and a record for each
 /// row of the tree's root.
 pub fn write_tree_rows<N: Sink>(
     done: &BushyDone,

@@ -16,7 +16,7 @@ use Rattle.planning.specs.ReducedExamples.{columns_equal, numbers, region_tables
 abbrev pub is_number : ℕ → ℕ → ℕ → Cond
 is_number entry column n = Compare op.Eq (column_operand entry column) (operand.Int (pos n))
 
--- the tables of a region, where O(N, CID) also has the row (6, 9), which refers to nothing
+-- `region_tables`, where O(N, CID) has one more row, (6, 9), which refers to nothing
 abbrev pub with_a_stray : Tables
 with_a_stray entry = region_tables entry ++ (if entry == 0 then numbers (6 ∷ 9 ∷ []) ∷ [] else [])
 

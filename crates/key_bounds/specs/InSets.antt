@@ -63,8 +63,8 @@ CarriesTo place c = c.edge.left.entry ≡ place.entry → IsSome (list_of c.list
 abbrev pub CarriesLists : List Edge → Carried → Type 0
 CarriesLists es c = AllByRecursion (λ place. CarriesTo place c) (places_of es)
 
--- the set has only entries below `keys.count`. Each of them has its own row bound, and each column that these equalities name has its own
--- list. What is carried to an entry has a list of each of its columns that they name
+-- the set has only entries below `keys.count`, which are at most `most_entries`. Each entry below it has a row bound, and each column that
+-- these equalities name has a list. What is carried to an entry has a list of each of its columns that they name
 pub record HaveKeyLists (keys : KeyLists) (es : List Edge) (subset : ℕ) : Type 0 where
   pub few : keys.count ≤ most_entries
   pub fits : subset < 2 ^ keys.count
@@ -75,7 +75,7 @@ pub record HaveKeyLists (keys : KeyLists) (es : List Edge) (subset : ℕ) : Type
 
 -- ---- bounds while they are put together
 
--- exactly the first `count` entries have row bounds in `lists`, and these are those of `bounds`. So is each list that is there
+-- exactly the first `count` entries have row bounds in `lists`. These row bounds, and all lists that are there, are those of `bounds`
 pub record IsPartOf (bounds : EntryBounds) (count : ℕ) (lists : EntryLists) : Type 0 where
   pub rows : (entry : ℕ) → entry < count → rows_of lists entry ≡ Some (bounds.rows entry)
   pub past : (entry : ℕ) → count ≤ entry → rows_of lists entry ≡ None

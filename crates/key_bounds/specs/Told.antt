@@ -10,7 +10,7 @@ use Rattle.key_carriers.specs.Carriers.{carriers}
 use Rattle.key_stats.specs.declared.carried.Carried.{Carried}
 use Rattle.key_stats.specs.Carrying.{TellAlong}
 
--- `stats` are statistics of these tables, and `carried` is what is carried in them along the references of the schema
+-- `stats` are statistics of these tables, and `carried` has what is carried along the schema's references in these tables
 pub record TellByKeys (schema : Schema) (query : Query) (tables : Tables) (accuracy : ℕ) (stats : QueryStats) (carried : List Carried) : Type 0 where
   pub own : Tells query stats (statistics_of tables accuracy)
   pub along : TellAlong query tables accuracy (carriers schema query) carried

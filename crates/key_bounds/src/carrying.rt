@@ -22,7 +22,7 @@ use predicate_bounds::QueryStats;
 use query_types::Query;
 use std::alloc::Global;
 
-// The row bound and the lists of the first entry of these statistics, as those of `entry`.
+// Takes the row bound and the lists of the first entry of these statistics as those of `entry`.
 fn first_lists(alloc: Global, stats: &QueryStats, entry: u8) -> Result<EntryLists, NoMemory>
     requires { AddUp stats.now }
     ensures rows { IfOk result (λ made. rows_of made entry ≡ Some (row_bound_in_stats stats.now 0)) }

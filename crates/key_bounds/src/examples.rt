@@ -27,8 +27,8 @@ pub fn widened_tables()
     ensures without_the_stray { referring with_a_stray (edge_of 0 1 1 0) ≡ 0 ∷ 1 ∷ 2 ∷ 3 ∷ 4 ∷ [] }
 {}
 
-/// O and C, where one customer has C.REG = 3, with one order. The bound of both entries is 4 without carried conjuncts and 1 with them, whether
-/// or not an order refers to nothing. If the schema doesn't declare the reference, it stays 4.
+/// O and C, where C.REG = 3 for one customer, who has one order. The bound of both entries is 4 without carried conjuncts and 1 with them,
+/// whether or not another order refers to nothing. If the schema doesn't declare the reference, the bound stays 4.
 pub fn orders_of_a_region()
     ensures plain { set_bounds_of by_region region_tables 1 ≡ 1 ∷ 5 ∷ 1 ∷ 4 ∷ [] }
     ensures keyed { set_bounds_by_keys shop_schema by_region region_tables 1 ≡ 1 ∷ 5 ∷ 1 ∷ 1 ∷ [] }

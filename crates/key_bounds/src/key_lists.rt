@@ -3,8 +3,8 @@ use base_io::Seq;
 use bound_fold::EntryLists;
 use key_stats::Carried;
 
-/// `own` has a row bound for each of the first `count` entries, and a list for each of their joined columns. `carried` has what is carried
-/// along equalities. That holds only in sets that have both entries of its equality.
+/// `own` has a row bound for each of the first `count` entries, and a list for each of their joined columns. `carried` has the bounds that are
+/// carried along equalities. Each of them counts only in sets that have both entries of its equality.
 #[derive(Drop)]
 pub struct KeyLists {
     pub count: u8,

@@ -25,8 +25,8 @@ pub fn keys_only_lower()
 {}
 
 /// If the declared keys hold, no bound is too low. The bounds of entries in each set hold for the rows that may be in a choice for the set. No
-/// level over the scans of a set's entries has more rows than the bound of the set. A plan by these bounds is one over the scans, and its
-/// planning never answers NoMemory. A row that refers to nothing is no exception, since it is in no choice.
+/// level over the scans of a set's entries has more rows than the bound of the set. A plan by these bounds is one over the scans, and
+/// `planned_by_keys` is never NoMemory. A row that refers to nothing is no exception, since it is in no choice with the other entry.
 pub fn keys_are_never_under()
     ensures stand { (schema : Schema) (query : Query) (tables : Tables) (accuracy : ℕ) → DeclaredKeysHold schema query tables
         → (key : Keys) × StandForLists query tables (scans_of query tables) key (bounds_by_keys schema query tables accuracy) }

@@ -51,7 +51,7 @@ refers_to_key schema query e =
     refers schema (table_of query e.left.entry) e.left.column (table_of query e.right.entry) e.right.column
     && is_declared_key schema (table_of query e.right.entry) e.right.column
 
--- some conjunct names this entry and no other one
+-- some conjunct names this entry and no other entry
 abbrev pub has_own : Query → ℕ → Bool
 has_own query entry = list_any (names_just entry) query.conjuncts
 

@@ -1,4 +1,4 @@
--- Tables in which the declared keys hold. They do in tables that were read from files.
+-- Tables in which the declared keys hold. They hold in all tables that were read from files.
 use Rattle.std.specs.Prelude.{◌≡◌, ℕ, ◌<◌, true}
 use Rattle.std.specs.List.{AllByRecursion}
 use Rattle.std.specs.Ordering.{is_eq}

@@ -61,8 +61,8 @@ fn place_from(first: u64, rows: u64, cell: u64) -> Option<u32>
 }
 
 impl KeyRows {
-    /// Makes ready to find rows by these cells. In most files keys go up by one from row to row, and then there is no hash table. One pass
-    /// over the cells, without memory, tells whether they do.
+    /// Prepares to find rows by these cells. In most files keys go up by one from row to row, and then no hash table is made. One pass over
+    /// the cells, without memory, tells whether they do.
     pub(crate) fn new(alloc: Global, cells: &[u64]) -> Result<KeyRows, NoMemory>
         requires few { length cells.now ≤ most_rows }
         ensures { IfOk result (λ key. cells_found key ≡ cells.now) }

@@ -103,7 +103,7 @@ fn refers_to_key(schema: &Schema, query: &Query, edge: Edge) -> bool
     is_key(schema, other, edge.right.column)
 }
 
-// Whether some conjunct names this entry and no other one.
+// Whether some conjunct names this entry and no other entry.
 fn has_own(query: &Query, parts: &Parts, entry: u8) -> bool
     requires local { parts.now.local ≡ local_of query.now }
     requires entry { entry < length query.now.from }
