@@ -63,7 +63,7 @@ fn write_sizes<O: Sink>(joined: &Joined, sources: &[Source], out: &mut O) -> Res
     }
 }
 
-// Does what is left to do. If that is a join, it hands out the buffers with the rows.
+// Joins, if that is left to do, writes the rows text or the audit text, and hands out the buffers with the rows.
 fn write_rest<O: Sink>(
     rest: PendingOutput,
     query: &Query,
@@ -148,7 +148,7 @@ fn write_plan_text<N: Sink>(
     write_memory(memory, bytes, notes)
 }
 
-// Writes the plan text to `notes`. Then it does what is left to do, writes its text to `out`, and hands out the buffers of the joins.
+// Writes the plan text to `notes`. Then it joins, if that is left to do, writes the text for `out`, and hands out the buffers of the joins.
 fn write_texts<O: Sink, N: Sink>(
     prepared: PreparedQuery,
     out: &mut O,
