@@ -20,8 +20,8 @@ use Rattle.prepared_runs.specs.StatsFiles.{stats_stage}
 use Rattle.prepared_runs.specs.RunOutcome.{Appended, PlanFromStatsFile, RunOutcome, PlannedFromStats}
 use Rattle.prepared_runs.specs.Verdict.{schema_stage, verdict}
 
--- the schema, the statistics file, its section of the table and the new rows are those in the command's files; with the new rows the table has at
--- most as many rows as a table may have; and the outcome is that statistics file after these rows
+-- the command's files hold the schema, the statistics file with its section of the table, and the new rows. With these rows the table has at most as
+-- many rows as a table may have. The outcome is that statistics file after these rows
 pub record GrowsByFile (files : Files) (schema_file stats_file name rows_file : List ℕ) (outcome : RunOutcome) : Type 0 where
   pub schema : Schema
   pub schema_is : schema_stage schema_file files ≡ Ok schema

@@ -15,8 +15,8 @@ pub fn appended_files_are_read()
         → GrowsByFile files schema stats name rows outcome }
 {}
 
-/// If the file that `append` read stands for the tables of a query, then the file that it writes stands for these tables with the new rows at the end
-/// of their table.
+/// Suppose that the file that `append` read stands for the tables of a query. Then the file that it writes stands for these tables with the new rows
+/// at the end of their table.
 pub fn appended_files_stand()
     ensures { (files : Files) (schema stats name rows : List ℕ) (outcome : RunOutcome) (grows : GrowsByFile files schema stats name rows outcome)
         → StandsAfter grows.before grows.section.table grows.rows grows.after }
