@@ -1,4 +1,4 @@
--- Lists as runs: a run is a degree, and the number of keys that stand in so many rows each.
+-- Lists as runs: a run has a degree, and the number of keys that stand in that many rows each.
 use Rattle.std.specs.Prelude.{ℕ, ◌+◌, ◌<◌, ◌≤◌, List, [], ◌∷◌, ◌++◌, map, length, take, slice_index_or}
 use Rattle.std.specs.List.{AllByRecursion, sum}
 use Rattle.limits.specs.Profile.{greatest_rows, most_accuracy}

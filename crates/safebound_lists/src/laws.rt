@@ -18,9 +18,9 @@ pub fn lists_dominate()
         → DominatesKeys list keys → DominatesKeys later more → DominatesKeys (rank_sum list later) (keys ++ more) }
 {}
 
-/// Rows are given by their numbers, each has a key, and each of two conditions has a list. The lesser list dominates the rows that satisfy both
-/// conditions, and the sum those that satisfy at least one. The greater list dominates the rows of either of two values. A list that is cut at a
-/// number of rows dominates what it dominated, if this has at most so many rows.
+/// Rows are given by their numbers, and each has a key. If two lists dominate the rows of two conditions, the lesser list dominates the rows that
+/// satisfy both, and the sum those that satisfy at least one. The greater list dominates the rows of either of two values. A list that is cut at a
+/// number of rows still dominates its keys, if there are at most so many.
 pub fn conditions_dominate()
     ensures both { (rows : List ℕ) (key : ℕ → ℕ) (first second : ℕ → Bool) (list other : List ℕ)
         → DominatesKeys list (map key (filter first rows)) → DominatesKeys other (map key (filter second rows))

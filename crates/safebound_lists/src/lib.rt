@@ -3,11 +3,11 @@
 //!
 //! Lists are given as runs. One call makes the degree sequence of a column from its keys, and one makes a list with fewer runs. Other calls do what
 //! conditions do to lists: they add two lists rank by rank, take the lesser of each two running sums or the greater of each two elements, or cut a
-//! list at a number of rows. Each call answers how many elements it wrote. If it answers a `Refusal`, the room is as it was. No call has a
-//! precondition: it tests what it needs.
+//! list. Each call answers how many elements it wrote. If it answers a `Refusal`, the room is as it was. No call has a precondition: it tests what it
+//! needs.
 //!
-//! Callers cite `AreRight` for lists, `MayBeCompressed`, `MayBeAdded`, `AreBothRight` and `MayBeRaised` for what calls take, `IsWritten` for
-//! what is in the room afterwards, and for each call the causes of its refusals.
+//! Callers cite `AreRight` for lists, and `MayBeCompressed`, `MayBeAdded`, `AreBothRight` and `MayBeRaised` for what calls take. They cite
+//! `IsWritten` for what is in the room afterwards, and for each call the causes of its refusals.
 #![tactic(auto)]
 
 mod adding;
