@@ -1,4 +1,4 @@
--- How many bytes a plan takes that is given by its levels or its joins, and why a call for this number refuses.
+-- How many bytes a plan takes, given its levels or its joins, and why a call for this number refuses.
 use Rattle.std.specs.Prelude.{◌≡◌, ℕ, ◌+◌, ◌^◌, ◌<◌, ◌≤◌, List, [], ◌∷◌, length, map, slice_index_or}
 use Rattle.limits.specs.Profile.{most_entries}
 use Rattle.reserve_plan.specs.Memory.{plan_bytes}
@@ -27,7 +27,7 @@ abbrev pub IsJoinRightAt : ℕ → List JoinNode → ℕ → Type 0
 IsJoinRightAt entries joins place =
     let join = slice_index_or joins place no_node in (join.left < entries + place) × (join.right < entries + place)
 
--- the rows are those of 1 to 12 entries
+-- there is a number of rows for each of 1 to 12 entries
 abbrev pub AreOfEntries : List ℕ → Type 0
 AreOfEntries rows = (1 ≤ length rows) × (length rows ≤ most_entries)
 
