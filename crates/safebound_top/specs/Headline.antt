@@ -1,7 +1,7 @@
 -- What a call of the program answers, and why: nine sentences about the words, the files and the two streams.
 --
--- A sentence about the verdict is about a store that tells its files, and says nothing of any other. A sentence about what a stream took is about a
--- stream that tells this.
+-- If the store doesn't tell its files, a sentence about the verdict says nothing. If a stream doesn't tell its bytes, a sentence about what it took
+-- says nothing.
 use Rattle.std.specs.Prelude.{ℕ, ◌≡◌, ◌≢◌, ◌↔◌, ◌⊎◌, List, codes, Option, None, Some, Result, Ok, Err, IfOk, IsOkAnd}
 use Rattle.base_io.specs.Causes.{Rose}
 use Rattle.base_io.specs.Files.{Files}
@@ -63,9 +63,9 @@ abbrev pub DoneIsExact : Call → Type 0
 DoneIsExact call = call.status ≡ status.Done
     → OverFiles call (λ files v. IsOkAnd v (λ outcome. GrewWhole call.notes (notes_text outcome) × GrewWhole call.out (out_text outcome)))
 
--- 2. If the verdict is accepted, the scan of each FROM entry and each level of the plan's order have at most as many rows as the plan text of 1
---    prints for it. That holds for `plan` too, which lists no rows. With `--bushy` the plan is a join tree, and its inner nodes take the place of
---    levels. Scans, levels and nodes are those of the query over whole tables. With `--reduce` or `--count` scans are the reduced ones, the text
+-- 2. If the verdict is accepted, the scan of each FROM entry and each level of the plan's order have at most as many rows as the plan text of 1 says.
+--    That holds for `plan` too, which lists no rows. With `--bushy` the plan is a join tree, and its inner nodes take the place of levels. Without
+--    `--reduce` and `--count`, scans, levels and nodes are those of the query over whole tables. With either, scans are the reduced ones, the text
 --    prints exactly their numbers of rows, and levels and nodes are over them. `--keys` makes bounds of levels lower, and not their rows. The audit
 --    text of 1 prints the number of rows of each level or inner node beside its bound. With `--stats` bounds hold over all tables for which the
 --    statistics file stands, whoever wrote it. The file that `stats` writes stands for the tables that were read. If a file stands for some tables,

@@ -178,8 +178,8 @@ pub record RanWhole (files : Files) (schema_file query_file : List ℕ) (work : 
   pub answer : PrintsAnswer query tables rows_text
   pub answer_written : Grew out rows_text
 
--- each call of `run` that ends with Done over told files ran whole in this sense, at any budget and accuracy, with or without `--keys`. The words of
--- `run` ask for a plan of the query in a file, and for its rows in out
+-- each call of `run` that ends with Done over told files printed a plan and the answer (RanWhole), at any budget and accuracy, with or without
+-- `--keys`. The words of `run` ask for a plan of the query in a file, and for its rows in out
 abbrev pub Promise : Call → Type 0
 Promise call = (schema_file query_file : List ℕ) (work : PlanWork) (files : Files)
     → AskFor call.words (over_query None schema_file query_file (works.Plan work)) → work.out ≡ out_text.Rows

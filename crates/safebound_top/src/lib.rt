@@ -6,7 +6,7 @@
 //!
 //! `safebound` has four clauses:
 //!
-//! - `promise` says what `run` has printed when it ends with Done, and it says so by words, files and SQL alone (`Promise` in `specs/Promise.antt`).
+//! - `promise` says what `run` has printed when it ends with Done. It speaks of words, files and SQL alone (`Promise` in `specs/Promise.antt`).
 //! - `headline` says what comes out of any call, and why (`Headline` in `specs/Headline.antt`).
 //! - `untouched` says that `demo` leaves the caller's store as it was.
 //! - `buffers` says that the joins wrote into the buffers of the plan, and that these have exactly the plan's bytes

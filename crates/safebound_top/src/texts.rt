@@ -63,7 +63,7 @@ fn write_sizes<O: Sink>(joined: &Joined, sources: &[Source], out: &mut O) -> Res
     }
 }
 
-// Joins, if that is left to do, writes the rows text or the audit text, and hands out the buffers with the rows.
+// If joins are left to do, it does them, writes the rows text or the audit text, and hands out the buffers with the rows.
 fn write_rest<O: Sink>(
     rest: PendingOutput,
     query: &Query,
@@ -116,7 +116,7 @@ fn write_shaped<N: Sink>(plan: &AnyPlan, sources: &[Source], notes: &mut N) -> R
     }
 }
 
-// Writes the plan text of what is left to do.
+// Writes the plan text of the plan in `rest`, without the line of its bytes.
 fn write_bounds<N: Sink>(
     rest: &PendingOutput,
     sources: &[Source],
@@ -132,7 +132,7 @@ fn write_bounds<N: Sink>(
     }
 }
 
-// Writes the plan text of what is left to do. If memory is limited, it adds the line with the bytes of the plan.
+// Writes the plan text of the plan in `rest`. If memory is limited, it adds the line with the bytes of the plan.
 fn write_plan_text<N: Sink>(
     rest: &PendingOutput,
     memory: Option<u64>,
