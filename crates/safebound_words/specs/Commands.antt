@@ -14,11 +14,11 @@ use Rattle.safebound_words.specs.declared.command.Shape.TheVariants as shapes
 use Rattle.safebound_words.specs.declared.command.Work.{Work}
 use Rattle.safebound_words.specs.declared.command.Work.TheVariants as works
 
--- work on the query in a file, over the schema in a file. If a number is given, these files are those of the shop with this number
+-- the command to do this work on the query in a file, over the schema in a file. With a number these are files of the shop of this number
 abbrev pub over_query : Option ℕ → Word → Word → Work → Command
 over_query shop schema query work = record { schema_file = schema; aim = aims.Query query work; shop = shop }
 
--- appends new rows of a table to a statistics file
+-- the command to append new rows of a table to a statistics file
 abbrev pub with_rows : Word → NewRows → Command
 with_rows schema rows = record { schema_file = schema; aim = aims.Append rows; shop = None }
 
