@@ -29,7 +29,7 @@ pub record Declares (text : List ℕ) (answer : Result Schema SchemaError) : Typ
   pub spells : Spells text tables
   pub answers : schema_or_refusal text tables ≡ answer
 
--- an answer to a schema text: its schema, or the first refusal, in the order Syntax, Name, Nullable, Limit. Or memory ran
+-- an answer to a schema text: its schema, or the first refusal in the order Syntax, Name, Nullable, Limit, or that memory ran
 -- out
 abbrev pub IsSchemaOf : List ℕ → Result Schema SchemaError → Type 0
 IsSchemaOf text (Ok schema) = Declares text (Ok schema)
