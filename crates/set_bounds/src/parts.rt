@@ -90,7 +90,7 @@ fn some_cross(edges: &[Edge], subset: EntrySet, part: EntrySet) -> bool
     false
 }
 
-/// Whether a set falls into a part and the rest, and both have smaller numbers.
+/// True only if the set falls into the part and the rest, and both have smaller numbers.
 pub(crate) fn falls_into(edges: &[Edge], subset: EntrySet, part: EntrySet, rest: EntrySet) -> bool
     requires others { (entry : ℕ) → has_entry rest entry ≡ (has_entry subset entry && not (has_entry part entry)) }
     ensures falls { result ≡ true → FallsInto edges.now subset part rest }
