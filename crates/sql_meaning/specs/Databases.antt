@@ -42,8 +42,8 @@ pub record AreTables (db : Database) : Type 0 where
   pub cells : All (AreCells db.pool) db.cells
   pub slots : All (λ slot. slot < length db.cells) db.slots
 
--- the database fits the query: it has a table for each FROM entry, entries of the same table share one, and no table has too many rows. All columns
--- that the query names exist, with the kinds that its comparisons need
+-- the query is within its limits, and the database fits it: each FROM entry has a table, entries of the same table share one, and no table has too
+-- many rows. All columns that the query names exist, with the kinds that its comparisons need
 pub record IsDatabaseOf (query : Query) (db : Database) : Type 0 where
   pub some : 0 < length query.from
   pub few : length query.from ≤ 12
