@@ -1,7 +1,7 @@
 //! What follows from the top call's definitions: no law computes anything, and its contract is the law. It is for readers of the proofs: no
 //! command of the program calls it.
 //!
-//! - `laws` has what the headline rests on. No verdict has a bound that is too low, the rows that it prints are the answer, and it never refuses for
+//! - `laws` has what the headline rests on. A verdict has no bound that is too low, the rows that it prints are the answer, and it never refuses for
 //!   want of memory.
 //! - `corollaries` has what follows from the headline and the verdict.
 //! - `from_files` compares plans from statistics files with plans from tables.
