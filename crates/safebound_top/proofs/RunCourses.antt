@@ -26,7 +26,7 @@ use Rattle.safebound_words.specs.declared.command.Command.{Command}
 use Rattle.safebound_words.specs.declared.command.Aim.TheVariants as aims
 use Rattle.prepared_runs.specs.Verdict.{IsAimFile, IsReached, aim_run, command_run, command_stage, schema_read, schema_stage, verdict}
 
--- the line of want of memory names nothing
+-- the line for want of memory names no file
 memory_line : (ask : Option Command) (schema : Option Schema) → status_line status.NoMemory ask schema ≡ codes "error memory\n"
 unfolding error_line
 memory_line None schema = refl
