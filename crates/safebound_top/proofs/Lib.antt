@@ -12,8 +12,8 @@
 -- - Another store with the same course: `run` is proved for every store. One lemma on `Reads` (ShopCourses) makes its course over `Shop` the course
 --   over `shop_store`, since the files are equal and no count rises. The headline and all of Courses stayed as they were, because `Call.store` is the
 --   store that was read.
--- - One more text for out took one line in each of `text_for`, `text_from`, `text_left`, `HasRoom`, `rest_is` (an `ap` over the tables),
---   and one answer (that of `write_sizes`, by `counts_of_levels` of joined_texts).
+-- - One more text for out took one line in each of `text_for`, `text_from`, `text_left`, `HasRoom`, `rest_is` (an `ap` over the tables). It took one
+--   answer too: that of `write_sizes`, by `counts_of_levels` of joined_texts.
 -- - The rows text needs no second form: the last level over the lists is the one over whole tables (`last` of `LoseNoRow`), and `write_rows` requires
 --   something only of the last level.
 -- - Put an edit that comes after a call into a function where no answer names an exit (`run_command`): the exits that stay right then close

@@ -69,7 +69,7 @@ module _ (ask : Command) (words : List (List ℕ)) (command : command_stage word
   pub no_usage : command_stage words ≡ Err refusal.Usage → ⊥
   no_usage is = let no : ◌≡◌ {A = Result Command Refusal} (Ok ask) (Err refusal.Usage) = sym command ∙ is in cc
 
-  -- ---- the verdict comes to these files
+  -- ---- the verdict reads these files
 
   reached_schema : (files : Files) (id : FileId) → id ≡ file.Schema → IsReached words files id
   reached_schema files id at' = rw command (inl at')

@@ -63,8 +63,8 @@ abbrev pub DoneIsExact : Call → Type 0
 DoneIsExact call = call.status ≡ status.Done
     → OverFiles call (λ files v. IsOkAnd v (λ outcome. GrewWhole call.notes (notes_text outcome) × GrewWhole call.out (out_text outcome)))
 
--- 2. If the verdict is accepted, the scan of each FROM entry and each level of the plan's order have at most as many rows as the plan text of 1 says.
---    That holds for `plan` too, which lists no rows. With `--bushy` the plan is a join tree, and its inner nodes take the place of levels. Without
+-- 2. If the verdict is accepted, the scan of each FROM entry and each level of the order have at most as many rows as the plan text of 1 says. That
+--    holds for `plan` too, which lists no rows. With `--bushy` the plan is a join tree, and its inner nodes take the place of levels. Without
 --    `--reduce` and `--count`, scans, levels and nodes are those of the query over whole tables. With either, scans are the reduced ones, the text
 --    prints exactly their numbers of rows, and levels and nodes are over them. `--keys` makes bounds of levels lower, and not their rows. The audit
 --    text of 1 prints the number of rows of each level or inner node beside its bound. With `--stats` bounds hold over all tables for which the
