@@ -309,8 +309,9 @@ def is_known(plan: Plan, known: set[str]) -> bool:
 
 
 def is_read_again(join: Plan, below: Plan) -> bool:
-    """Whether rows are counted as often as a join reads them: a merge join goes back in a scan to where it has been."""
-    again = {"Nested Loop": True, "Merge Join": below["Node Type"] in (*SCANS, *APPENDS)}
+    """Whether rows are counted as often as a join reads them: a merge join goes back in a scan to where it has been,
+    also through a Result, which looks once at a condition without columns."""
+    again = {"Nested Loop": True, "Merge Join": below["Node Type"] in (*SCANS, *APPENDS, "Result")}
     return below["Parent Relationship"] == "Inner" and again.get(join["Node Type"], False)
 
 
