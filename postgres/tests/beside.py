@@ -19,7 +19,7 @@ from collections.abc import Iterator
 
 import psycopg
 from never_under import ASKING, JOINS, KINDS, NOT_RUN, PARTITIONED, PRELUDE
-from never_under import Connection, Plan, Table, nodes, query, value
+from never_under import Connection, Plan, Table, limited, nodes, query, value
 
 WRITERS = 3
 # States of a query that is refused.
@@ -129,7 +129,9 @@ class Asking:
             self.node(node, budget, "budget joins", text)
 
     def explained(self, text: str) -> list[Plan]:
-        row = self.connection.execute(f"EXPLAIN (ANALYZE, TIMING OFF, FORMAT JSON) {text}").fetchone()
+        cursor = self.connection.execute(limited(f"EXPLAIN (ANALYZE, TIMING OFF, FORMAT JSON) {text}"))
+        cursor.nextset()
+        row = cursor.fetchone()
         assert row is not None
         told: list[Plan] = row[0]
         return told
@@ -185,7 +187,7 @@ def make_tables(connection: Connection, r: random.Random, watched: bool) -> list
 
 def one_set(url: str, asking: Asking, r: random.Random, watched: bool, queries: int) -> Counter[str]:
     """A set of tables, with writers beside."""
-    asking.connection.execute("SET safebound.estimates = off; SET statement_timeout = 0")
+    asking.connection.execute("SET safebound.estimates = off")
     tables = make_tables(asking.connection, r, watched)
     known = {table.name for table in tables if table.kind in ("plain", *PARTITIONED)}
     asking.connection.execute(f"SET plan_cache_mode = {r.choice(['force_generic_plan', 'auto'])}")

@@ -45,8 +45,7 @@ PASSES = ("Hash", "Sort", "Incremental Sort", "Materialize", "Memoize", "Bitmap 
 MOST_SPECIAL_JOINS = 6
 # How many queries go out in one text, and after how many sets it is told how far it is.
 TOGETHER, TOLD_AFTER = 20, 250
-# Some queries would take minutes; what makes their tables isn't cut short.
-ASKING = "SET safebound.estimates = bound; SET statement_timeout = '1s'"
+ASKING = "SET safebound.estimates = bound"
 KINDS = ("plain", "plain", "plain", "hash", "list", "children")
 # These have no rows but those of their parts, and statistics as a whole.
 PARTITIONED = ("hash", "list")
@@ -56,6 +55,12 @@ CREATE COLLATION IF NOT EXISTS caseless (provider = icu, locale = 'und-u-ks-leve
 DO $$ BEGIN CREATE DOMAIN caseless AS text COLLATE caseless; EXCEPTION WHEN duplicate_object THEN NULL; END $$;
 DO $$ BEGIN CREATE DOMAIN small AS integer CHECK (VALUE < 100000); EXCEPTION WHEN duplicate_object THEN NULL; END $$;
 """
+
+
+def limited(queries: str) -> str:
+    """Some queries would take minutes; what makes their tables isn't cut short. Where a query ends just as the limit is
+    reached, PostgreSQL cancels the statement after it, so the last one stands in the same text."""
+    return f"SET LOCAL statement_timeout = '1s'; {queries}; SET LOCAL statement_timeout = 0"
 
 
 def value(r: random.Random, of: str, distinct: int, null: float) -> str:
@@ -304,8 +309,9 @@ def is_known(plan: Plan, known: set[str]) -> bool:
 
 
 def is_read_again(join: Plan, below: Plan) -> bool:
-    """Whether rows are counted as often as a join reads them: a merge join goes back in a scan to where it has been."""
-    again = {"Nested Loop": True, "Merge Join": below["Node Type"] in (*SCANS, *APPENDS)}
+    """Whether rows are counted as often as a join reads them: a merge join goes back in a scan to where it has been,
+    also through a Result, which looks once at a condition without columns."""
+    again = {"Nested Loop": True, "Merge Join": below["Node Type"] in (*SCANS, *APPENDS, "Result")}
     return below["Parent Relationship"] == "Inner" and again.get(join["Node Type"], False)
 
 
@@ -361,16 +367,16 @@ class Counting:
         """Queries in one text. Where one of them isn't run, each goes out by itself."""
         explain = "EXPLAIN (ANALYZE, TIMING OFF, FORMAT JSON)"
         try:
-            cursor = self.connection.execute("; ".join(f"{explain} {text}" for text, _ in asked))
+            cursor = self.connection.execute(limited("; ".join(f"{explain} {text}" for text, _ in asked)))
         except NOT_RUN as error:
             if len(asked) == 1:
                 return self.not_run(asked[0][0], error)
             return self.each_alone(asked)
         for text, known in asked:
+            cursor.nextset()
             row = cursor.fetchone()
             assert row is not None
             self.plan(row[0][0]["Plan"], text, known)
-            cursor.nextset()
 
     def each_alone(self, asked: list[Asked]) -> None:
         for one in asked:
@@ -378,7 +384,7 @@ class Counting:
 
     def one_set(self, queries: int) -> None:
         """New tables, and queries over them."""
-        self.connection.execute("SET safebound.estimates = off; SET statement_timeout = 0")
+        self.connection.execute("SET safebound.estimates = off")
         tables = [Table(self.r, f"nu{i}") for i in range(3)]
         for i, table in enumerate(tables):
             table.make(self.connection, tables[:i])
