@@ -14,17 +14,17 @@ use Rattle.appended_stats.specs.Grown.{grown_pair}
 abbrev pub alone : List Row → Tables
 alone rows entry = rows
 
--- their values in a column
+-- the values of these rows in a column
 abbrev pub values_in : List Row → ℕ → List Value
 values_in rows column = column_values (alone rows) 0 column
 
--- a pair of a table that had so many rows: without rows it is made from the new ones alone
+-- a pair after the append, if its table had `before` rows. If that is 0, it is made from the new rows alone
 abbrev pub pair_after : ℕ → ℕ → List Row → Pair → Pair
 pair_after accuracy before rows pair =
     if before == 0 then pair_in_table (alone rows) accuracy 0 pair.filter pair.joined
     else grown_pair (value_of_row (values_in rows pair.filter)) accuracy (paired (values_in rows pair.filter) (values_in rows pair.joined)) pair
 
--- a section of the table
+-- a section of the table that gets the rows, after the append
 abbrev pub section_after : ℕ → List Row → TableStats → TableStats
 section_after accuracy rows section = record {
   table = section.table;
@@ -32,7 +32,7 @@ section_after accuracy rows section = record {
   pairs = map (pair_after accuracy section.rows rows) section.pairs;
 }
 
--- the file: the section of the table with the rows after it, and all others as they were
+-- the file after the append: the section of this table has the new rows too, and all other sections stay as they were
 abbrev pub file_after : StatsFile → ℕ → List Row → StatsFile
 file_after file table rows = record {
   accuracy = file.accuracy;

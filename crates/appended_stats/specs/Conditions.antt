@@ -17,12 +17,12 @@ use Rattle.stats_file.specs.Rules.{KeepsRules}
 use Rattle.stats_file_of_query.specs.Needs.{table_of}
 use Rattle.stats_file_of_query.specs.Files.{table_at}
 
--- a section of the table would have no more rows than a table may have
+-- if the section is one of this table, it has with the new rows at most as many rows as a table may have
 abbrev pub HasRoom : ℕ → ℕ → TableStats → Type 0
 HasRoom table more section = section.table ≡ table → section.rows + more ≤ most_rows
 
--- the file keeps the rules, the cells are those of the table, with their texts in UTF-8 and no two of the same characters, and there is room for
--- the new rows
+-- when the new rows may be appended: the file keeps the rules, and the cells are cells of this table. The texts are UTF-8, no two of them have
+-- the same characters, and no section gets too many rows
 pub record MayAppend (schema : Schema) (file : StatsFile) (table : ℕ) (texts : List (List ℕ)) (cells : Cells) : Type 0 where
   pub rules : KeepsRules schema file
   pub cells_are : AreCellsOf (table_at schema table) texts cells
@@ -30,8 +30,8 @@ pub record MayAppend (schema : Schema) (file : StatsFile) (table : ℕ) (texts :
   pub differ : HaveDifferentCharacters texts
   pub room : All (HasRoom table cells.rows) file.tables
 
--- a pair of a table that had so many rows: its columns are those of cells that have few rows, it has 32 cuts at most, 63 nodes where there were
--- rows, and each of its lists has as few rows
+-- when a pair may grow: the cells have its two columns and fewer than 2^32 rows. It has at most 32 cuts, and the sum of each of its lists is
+-- below 2^32. If its table had rows, it has 63 nodes
 pub record MayGrow (cells : Cells) (before : ℕ) (pair : Pair) : Type 0 where
   pub filter : pair.filter < length cells.kinds
   pub joined : pair.joined < length cells.kinds
@@ -43,7 +43,7 @@ pub record MayGrow (cells : Cells) (before : ℕ) (pair : Pair) : Type 0 where
   pub nodes : All (λ (list : List ℕ). sum list < 2 ^ 32) pair.nodes
   pub nodes_many : 0 < before → length pair.nodes ≡ 63
 
--- the same of a section, where it is one of the table
+-- when a section may grow: with the new rows it has fewer than 2^32 rows, and each of its pairs may grow
 pub record SectionMayGrow (cells : Cells) (section : TableStats) : Type 0 where
   pub room : section.rows + cells.rows < 2 ^ 32
   pub pairs : All (MayGrow cells section.rows) section.pairs
@@ -51,8 +51,8 @@ pub record SectionMayGrow (cells : Cells) (section : TableStats) : Type 0 where
 abbrev pub MayGrowWhere : ℕ → Cells → TableStats → Type 0
 MayGrowWhere table cells section = section.table ≡ table → SectionMayGrow cells section
 
--- the tables of a query before and after new rows of one of them: its entries have these rows behind the others, and all other entries have
--- the rows that they had
+-- what a query's tables are after one table got new rows. Each entry of that table has them after its old rows, and every other entry has
+-- the rows that it had
 abbrev pub HasNewRows : Query → ℕ → List Row → Tables → Tables → Type 0
 HasNewRows query table rows tables after =
     (entry : ℕ) → entry < length query.from → after entry ≡ (if table_of query entry == table then tables entry ++ rows else tables entry)

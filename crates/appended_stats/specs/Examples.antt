@@ -10,7 +10,7 @@ use Rattle.appended_stats.specs.Appended.{pair_after}
 abbrev pub new_rows : List ℕ → List Row
 new_rows column = rows_of column 0
 
--- a column with itself, and after so many new rows
+-- the pair that has this column as its filter column and as its joined column
 abbrev pub of_itself : List ℕ → Pair
 of_itself column = pair_in_table (rows_of column) 1 0 0 0
 

@@ -1,5 +1,5 @@
--- A pair of statistics, grown by new rows of its table. Each row has a filter value and a joined key, and the filter values are numbers that
--- stand for these values.
+-- A pair of statistics after new rows of its table. A row is a filter value and a joined key. Both are numbers; `value_of` gives the value that
+-- the number of a filter value means.
 use Rattle.std.specs.Prelude.{ℕ, ◌*◌, ◌/◌, not, Bool, List, map}
 use Rattle.std.specs.List.{filter, flat_map, list_any, range_with_len, zip}
 use Rattle.csv_tables.specs.Values.{Value}
@@ -17,7 +17,7 @@ use Rattle.stats_file_of_query.specs.Standing.{is_value, leaf_of_value}
 
 -- ---- the lists of the new rows
 
--- of those that have a value
+-- the list of the new rows that have a value
 abbrev pub list_with : (ℕ → Value) → ℕ → List (ℕ × ℕ) → Datum → List ℕ
 list_with value_of accuracy rows value = list_where accuracy (λ n. is_value (value_of n) value) rows
 
@@ -25,17 +25,17 @@ list_with value_of accuracy rows value = list_where accuracy (λ n. is_value (va
 abbrev pub is_frequent : List (Datum × List ℕ) → Value → Bool
 is_frequent frequent value = list_any (λ (found : Datum × List ℕ). is_value value found.0) frequent
 
--- the different values of the rows that aren't among these frequent ones
+-- the different filter values of the rows, without the frequent ones
 abbrev pub other_values : (ℕ → Value) → List (ℕ × ℕ) → List (Datum × List ℕ) → List ℕ
 other_values value_of rows frequent = different (filter (λ n. not (is_frequent frequent (value_of n))) (filter_values rows))
 
--- one list for any of these values: the rank-wise maximum of their degree lists, cut at the number of rows of the most frequent of them, and
--- compressed. Of the values of a column that remain it is the rest list of cond_stats
+-- one list that serves for each of these values: the rank-wise maximum of their degree lists, cut at the number of rows of the most frequent of
+-- them, and compressed. For all values of a column that aren't frequent it is the rest list of cond_stats
 abbrev pub list_of_any : ℕ → List (ℕ × ℕ) → List ℕ → List ℕ
 list_of_any accuracy rows values =
     compressed accuracy (cut_at (maxima (map (λ value. degree_list (keys_with value rows)) values)) (greatest (map (degree (filter_values rows)) values)))
 
--- of those whose leaf lies in each node of a size, and of all sizes, in the order in which a pair has its nodes
+-- for each node of a size, the list of the new rows whose leaf lies in it; then these lists for all sizes, in the order of a pair's nodes
 abbrev pub lists_of_size : (ℕ → ℕ) → ℕ → List (ℕ × ℕ) → ℕ → List (List ℕ)
 lists_of_size leaf_of accuracy rows size =
     map (λ i. list_where accuracy (λ n. in_node size (size * i) (leaf_of n)) rows) (range_with_len 0 (32 / size))
@@ -51,7 +51,7 @@ with_new_rows value_of accuracy rows found = (found.0, rank_sum found.1 (list_wi
 abbrev pub rank_sums : List (List ℕ) → List (List ℕ) → List (List ℕ)
 rank_sums lists others = map (λ (both : List ℕ × List ℕ). rank_sum both.0 both.1) (zip lists others)
 
--- the cuts and the frequent values stay. A value that isn't frequent goes to the rest list, and the leaf of a value is that by the old cuts
+-- the cuts and the frequent values stay. Values that aren't frequent count in the rest list, and the old cuts say in which leaf a value lies
 abbrev pub grown_pair : (ℕ → Value) → ℕ → List (ℕ × ℕ) → Pair → Pair
 grown_pair value_of accuracy rows pair = record {
   filter = pair.filter;

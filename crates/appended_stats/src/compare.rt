@@ -1,4 +1,4 @@
-//! Values of a file beside the cells of new rows.
+//! Compares values of a file of statistics with the cells of new rows.
 ghost use Rattle.std.specs.Prelude.{◌≡◌, ◌<◌, ◌≤◌, All, length};
 ghost use Rattle.csv_tables.specs.Cells.{IsCell, value_of_cell};
 ghost use Rattle.csv_tables.specs.Values.{value_cmp};
@@ -13,7 +13,7 @@ use schema_types::Kind;
 use stats_file::{Datum, Pair};
 use std::cmp::Ordering;
 
-// The order of a value and a cell's: numbers by size, texts by code points, a number below each text.
+// How a value compares with the value of a cell: numbers by size, texts by code points, and a number is less than every text.
 fn compare(value: &Datum, pool: &Pool, kind: Kind, cell: u64) -> Ordering
     requires { IsCell pool.now kind cell }
     ensures { result ≡ value_cmp (value_of value.now) (value_of_cell pool.now kind cell) }
@@ -29,7 +29,7 @@ fn compare(value: &Datum, pool: &Pool, kind: Kind, cell: u64) -> Ordering
     }
 }
 
-/// Whether a value is that of a cell.
+/// Whether a cell has this value.
 pub(crate) fn is_value(value: &Datum, pool: &Pool, kind: Kind, cell: u64) -> bool
     requires { IsCell pool.now kind cell }
     ensures { result ≡ is_value (value_of_cell pool.now kind cell) value.now }
@@ -45,7 +45,7 @@ fn is_at_most(cut: &Datum, pool: &Pool, kind: Kind, cell: u64) -> bool
     compare(cut, pool, kind, cell).is_le()
 }
 
-/// Whether the value of a cell is one of these frequent ones.
+/// Whether the value of a cell is one of the frequent values.
 pub(crate) fn is_frequent(frequent: &[(Datum, Pieces)], pool: &Pool, kind: Kind, cell: u64) -> bool
     requires { IsCell pool.now kind cell }
     ensures { result ≡ is_frequent frequent.now (value_of_cell pool.now kind cell) }

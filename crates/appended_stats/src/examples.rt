@@ -6,8 +6,8 @@ ghost use Rattle.stats_file_of_query.specs.Standing.{list_of_node, list_of_value
 ghost use Rattle.appended_stats.specs.Appended.{pair_after};
 ghost use Rattle.appended_stats.specs.Examples.{new_rows, of_eight, of_four, of_itself, of_six};
 
-/// The column 1, 1, 1, 2, 2, 3 with itself, to which 1 and 4 are appended: 4 goes to the rest list, and to the last leaf, where 3 lies. The
-/// column 1, 2, 3, to which 99 is appended. Rows that come to none make the pair, and none that come to rows leave it.
+/// Appends 1 and 4 to the column 1, 1, 1, 2, 2, 3, paired with itself: 4 counts in the rest list and in the last leaf, where 3 lies. Appends
+/// 99 to the column 1, 2, 3. Rows appended to an empty column give the pair of these rows, and an append without rows changes nothing.
 pub fn small_appends()
     ensures whole { of_eight.whole ≡ 4 ∷ 4 ∷ [] }
     ensures frequent { of_eight.frequent ≡ (datum.Int (pos 1), 4 ∷ []) ∷ (datum.Int (pos 2), 2 ∷ []) ∷ (datum.Int (pos 3), 1 ∷ []) ∷ [] }

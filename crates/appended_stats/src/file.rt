@@ -29,7 +29,7 @@ fn no_pair(alloc: Global) -> Pair {
     }
 }
 
-// The pairs of a table that had so many rows.
+// The pairs of a section after the append. Its table had `before` rows.
 fn pairs_after(
     alloc: Global,
     pairs: Seq<Pair>,
@@ -51,7 +51,7 @@ fn pairs_after(
     Ok(after)
 }
 
-// A section of the table.
+// The section of the table after the append.
 fn section_after(
     alloc: Global,
     section: TableStats,
@@ -72,7 +72,7 @@ fn section_after(
     })
 }
 
-// The sections; that of the table is grown.
+// All sections after the append: the section of the table has grown, and the others are as they were.
 fn sections_after(
     alloc: Global,
     sections: Seq<TableStats>,
@@ -101,9 +101,9 @@ fn sections_after(
     Ok(after)
 }
 
-/// The file of statistics after rows were appended to a table of its schema: in that table's section the number of rows grows, and each list
-/// becomes its rank-wise sum with the compressed list of the new rows that it stands for. Cuts and frequent values stay; a table that had no
-/// rows has the statistics of the new ones. All other sections stay. Where memory is wanting nothing is kept.
+/// The file of statistics after rows were appended to a table of its schema. In that table's section the number of rows grows. Each list
+/// becomes its rank-wise sum with the compressed list of the new rows that it stands for. Cuts and frequent values stay. A table that had no
+/// rows gets the statistics of the new rows. All other sections stay. If memory is wanting, the old file is dropped too.
 pub fn append_rows(
     alloc: Global,
     _schema: &Schema,
@@ -114,7 +114,7 @@ pub fn append_rows(
 ) -> Result<StatsFile, NoMemory>
     requires { MayAppend _schema.now file table pool.now cells.now }
     ensures file { IfOk result (λ after. after ≡ file_after file table (rows_of_cells pool.now cells.now)) }
-    // it may be written
+    // the new file keeps the rules, so it may be written
     ensures rules { IfOk result (KeepsRules _schema.now) }
 {
     let StatsFile { accuracy, tables } = file;

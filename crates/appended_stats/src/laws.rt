@@ -1,4 +1,4 @@
-//! What a file after an append is good for: no law computes anything, and the contract is the law.
+//! What a file after an append stands for: no law computes anything, and the contract is the law.
 ghost use Rattle.std.specs.Prelude.{◌≡◌, ◌≢◌, ◌++◌, ◌<◌, ◌≤◌, ℕ, List, [], Some};
 ghost use Rattle.csv_tables.specs.Rows.{Row};
 ghost use Rattle.query_types.specs.declared.types.Query.{Query};
@@ -15,21 +15,21 @@ ghost use Rattle.appended_stats.specs.Appended.{file_after, section_after};
 ghost use Rattle.appended_stats.specs.Conditions.{HasNewRows};
 ghost use Rattle.appended_stats.specs.Grown.{list_of_any};
 
-/// Where a section stood for the rows of a table, it stands for these and the new rows after them.
+/// If a section stands for the rows of a table, the section after the append stands for these rows with the new ones after them.
 pub fn sections_still_stand()
     ensures { (schema : Schema) (section : TableStats) (accuracy : ℕ) (tables after : Tables) (entry : ℕ) (rows : List Row)
         → IsSection schema section → SectionStandsFor section tables entry → after entry ≡ tables entry ++ rows
         → SectionStandsFor (section_after accuracy rows section) after entry }
 {}
 
-/// Where a file stood for the tables of a query, it stands for them with the new rows after those of the one table.
+/// If a file stands for the tables of a query, the file after the append stands for them with the new rows after those of the one table.
 pub fn files_still_stand()
     ensures { (schema : Schema) (query : Query) (file : StatsFile) (tables after : Tables) (table : ℕ) (rows : List Row)
         → KeepsRules schema file → StandsFor query file tables → HasNewRows query table rows tables after
         → StandsFor query (file_after file table rows) after }
 {}
 
-/// The list that new rows give to a value that isn't frequent is made as the rest list of a column is.
+/// The rest list of a column is `list_of_any` for its values that aren't frequent. New rows add to it a list that is made in the same way.
 pub fn the_rest_list_is_one_of_them()
     ensures { (accuracy : ℕ) (rows : List (ℕ × ℕ)) → rest accuracy rows ≡ list_of_any accuracy rows (remaining (filter_values rows)) }
 {}

@@ -1,4 +1,4 @@
-//! The lists of the nodes: those of the new rows, by the old cuts, and both together.
+//! Makes the lists of the nodes for the new rows, by the old cuts, and adds them to the old lists.
 ghost use Rattle.std.specs.Prelude.{◌≡◌, ◌++◌, ◌<◌, ◌≤◌, ◌^◌, All, IfOk, OnOk, ℕ, length, map};
 ghost use Rattle.std.specs.List.{sum, zip};
 ghost use Rattle.csv_tables.specs.Cells.{IsCell, value_of_cell};
@@ -39,7 +39,7 @@ pub(crate) fn leaves(
     Ok(leaves)
 }
 
-// The joined keys of the rows whose leaf lies in the node of a size that holds a leaf.
+// The joined keys of the rows whose leaf lies in one node: that of `size` leaves that holds `leaf`.
 fn keys_in_node(
     alloc: Global,
     leaves: &[u8],
@@ -100,7 +100,7 @@ pub(crate) fn lists_of_nodes(
     Ok(nodes)
 }
 
-/// Lists side by side, added rank by rank.
+/// Adds to each list, rank by rank, the list at the same place of the others.
 pub(crate) fn all_added(
     alloc: Global,
     lists: &[Pieces],

@@ -17,7 +17,7 @@ use stats_file::Pair;
 use stats_file_of_query::pair_of_columns;
 use std::alloc::Global;
 
-// A pair of a table that had rows.
+// The pair after the append, if its table had rows before.
 fn grown_pair(
     alloc: Global,
     pair: Pair,
@@ -65,7 +65,7 @@ fn grown_pair(
     })
 }
 
-/// A pair of a table that had so many rows: without rows it is made from the new ones alone.
+/// The pair after the append, if its table had `before` rows. If that is 0, it is made from the new rows alone.
 pub(crate) fn pair_after(
     alloc: Global,
     pair: Pair,

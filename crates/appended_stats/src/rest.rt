@@ -41,7 +41,7 @@ fn other_cells(
     Ok(others)
 }
 
-// So many groups without keys.
+// `count` groups without keys.
 fn empty_groups(alloc: Global, count: usize) -> Result<Seq<Seq<u64>>, NoMemory>
     ensures many { IfOk result (λ groups. length groups ≡ count) }
     ensures empty { IfOk result (λ groups. All (λ keys. keys ≡ []) groups) }
@@ -70,7 +70,7 @@ fn add_key(
     Ok(())
 }
 
-// The joined keys of the rows of each of these cells.
+// For each cell of `others`, the joined keys of the rows that have it.
 fn grouped(
     alloc: Global,
     cells: &[u64],

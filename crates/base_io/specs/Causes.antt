@@ -1,4 +1,4 @@
--- When a count of faults rose, and what one more miss makes of a count.
+-- When a count of faults rose, and how a counter counts one more.
 use Rattle.std.specs.Prelude.{ℕ, ◌+◌, ◌-◌, ◌^◌, ◌<◌, ◌≡◌, ◌⊎◌, min, max}
 
 -- the count is greater than before, or is the greatest number of 64 bits, which a counter can't exceed

@@ -59,7 +59,8 @@ impl Buffer {
         Ok(())
     }
 
-    /// Adds bytes. If there is no room for them, it first hands what waits to the sink.
+    /// Adds bytes. If there is no room for them, it first hands what waits to the sink. More bytes than the buffer
+    /// holds go straight to the sink.
     pub fn put<N: Sink>(&mut self, sink: &mut N, bytes: &[u8]) -> Result<(), Failed>
         ensures { Put (growth N.taken N.faults sink.old sink.new) self.old self.new bytes.now result }
     {

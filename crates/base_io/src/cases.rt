@@ -1,4 +1,4 @@
-//! Small cases of this crate's words.
+//! Small examples of this crate's definitions.
 ghost use Rattle.std.specs.Prelude.{◌≡◌, ◌∷◌, ◌^◌, ◌-◌, [], Some, None};
 ghost use Rattle.base_io.specs.Causes.{Rose, one_more};
 ghost use Rattle.base_io.specs.Files.{Absent, Nothing, Present, told};

@@ -64,7 +64,7 @@ impl Sink for MemSink {
 
     ghost faults = { λ s. s.faults };
 
-    /// The contract of every sink; and it takes as many bytes as it has room for.
+    /// Writes as every sink does, and takes as many of the bytes as it has room for.
     fn write(&mut self, bytes: &[u8]) -> Result<usize, Failed>
         ensures bound { IfOk result (λ n. n ≤ length bytes.now) }
         ensures progress { 0 < length bytes.now → IfOk result (λ n. 0 < n) }

@@ -72,7 +72,7 @@ impl Store for MemStore {
 
     ghost misses = { λ s. s.misses };
 
-    /// The contract of every store; and exactly the listed calls fail.
+    /// Reads as every store does, and exactly the listed calls fail.
     fn read_at(&mut self, name: &str, at: u64, into: &mut [u8]) -> Result<usize, StoreError>
         requires place { at ≤ most_file }
         requires room { 0 < length into.old }

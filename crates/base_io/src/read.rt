@@ -12,8 +12,8 @@ const BLOCK: usize = 65_536;
 
 /// Reads a whole file of at most `limit` bytes.
 ///
-/// It reads each block straight into the list that it answers, and the list grows by doubling. So the bytes
-/// are in memory once. It answers `Fault` only if the store's count of faults rose.
+/// It reads each block straight into the list that it answers, without a buffer between them. The list grows by
+/// doubling. It answers `Fault` only if the store's count of faults rose.
 pub fn read_file<S: Store>(
     alloc: Global,
     store: &mut S,

@@ -19,8 +19,8 @@ pub trait Store {
     /// How often a file was missing.
     ghost misses: { Self → ℕ };
 
-    /// Reads bytes of a file, from `place` on, into the front of a buffer, and answers how many it read.
-    /// It answers 0 exactly where `place` is the end of the file or lies past it.
+    /// Reads bytes of a file, from the place `at` on, into the front of a buffer, and answers how many it read.
+    /// It answers 0 exactly where `at` is the end of the file or lies past it.
     fn read_at(&mut self, name: &str, at: u64, into: &mut [u8]) -> Result<usize, StoreError>
         requires place { at ≤ most_file }
         requires room { 0 < length into.old }

@@ -1,4 +1,4 @@
-//! Stores and sinks in memory, whole and slow.
+//! Tests of stores and sinks in memory, and of slow ones, which move few bytes in each call.
 use base_io::{
     Failed, MemSink, MemStore, Name, NullSink, ReadError, Seq, Sink, Store, StoreError, read_file,
     write_all, write_parts,
@@ -7,7 +7,7 @@ use slow_devices::{SlowSink, SlowStore};
 use std::alloc::Global;
 use std::test::Fail;
 
-// A store of one file, of which one call fails, or none where it is 0.
+// A store of one file. Its call with the number `failing` fails; with 0 no call fails.
 fn store_of(alloc: Global, failing: u64) -> Result<MemStore, Fail> {
     let bytes = Vec::from_slice(alloc, b"X\r\n")?;
     let mut files = Seq::new(alloc);
@@ -32,7 +32,7 @@ fn a_missing_file_is_counted(rt: HostRuntime) -> Result<(), Fail> {
     Ok(())
 }
 
-// The file, read whole with at most so many bytes a call: its length, and how many calls that took.
+// Reads the whole file, at most `most` bytes in each call, and gives its length and the number of calls.
 fn read_slowly(alloc: Global, most: u32) -> Result<(usize, u64), Fail> {
     let inner = store_of(alloc, 0)?;
     let mut store = SlowStore { inner, most };
@@ -40,7 +40,7 @@ fn read_slowly(alloc: Global, most: u32) -> Result<(usize, u64), Fail> {
     Ok((read.len(), store.inner.calls))
 }
 
-// At most no byte is taken as one.
+// A limit of 0 bytes counts as a limit of 1.
 #[test]
 fn files_are_read_byte_by_byte(rt: HostRuntime) -> Result<(), Fail> {
     for most in [1, 0] {
@@ -49,7 +49,8 @@ fn files_are_read_byte_by_byte(rt: HostRuntime) -> Result<(), Fail> {
     Ok(())
 }
 
-// What a sink of so much room took of ten bytes, of which its second call fails or none, handed on whole or one by one.
+// Writes ten bytes to a sink with this room, at most `most` bytes in each call, and the call with the number `failing` fails. Gives whether
+// all bytes were written, and how many the sink took.
 fn taken(alloc: Global, room: u64, failing: u64, most: u32) -> Result<(bool, usize), Fail> {
     let inner = MemSink::new(alloc, room, Seq::one(alloc, failing)?)?;
     let mut sink = SlowSink { inner, most };

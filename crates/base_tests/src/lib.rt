@@ -1,6 +1,6 @@
-//! Tests of the low crates: each call that takes memory, once, with ample memory, and what devices in memory tell.
+//! Tests of the low crates: each call that takes memory, once and with ample memory, and devices in memory.
 //!
-//! What the calls answer is proved. They stand apart from what they test, so that no crate below is proved a second time for them.
+//! What the calls answer is proved. The tests have a crate of their own, so that no crate that they test is proved a second time.
 #![tactic(auto)]
 
 #[cfg(test)]

@@ -1,5 +1,5 @@
-//! One call with ample memory: how many lines each file has, how many bytes, and how it begins and ends. The numbers
-//! follow from the tables of the shop: a header, and 20,000 products, 400,000 items, 200,000 orders, 50,000 customers.
+//! Tests one call of `demo_store`: how many lines and bytes each file has, and how it begins and ends. The numbers follow from the tables of
+//! the shop: a header in each, and 20,000 products, 400,000 items, 200,000 orders and 50,000 customers.
 use base_io::NoMemory;
 use demo_files::demo_store;
 use std::alloc::Global;
@@ -33,7 +33,7 @@ fn lines_of(bytes: &[u8]) -> usize {
     lines
 }
 
-// Of each file its lines, its bytes, and whether it begins and ends as it should.
+// For each file: how many lines and bytes it has, and whether it begins and ends as it should.
 fn looks(alloc: Global, number: u32) -> Result<Vec<(usize, usize, bool)>, NoMemory> {
     let store = demo_store(alloc, number)?;
     let mut looks = Vec::new(alloc);

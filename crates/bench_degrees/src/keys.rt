@@ -1,4 +1,4 @@
-//! Keys that are all different, all equal, and about as unequal as words of a text: those of bench/degree_lists.rs.
+//! Keys that are all different, all equal, or about as unequal as words of a text. bench/degree_lists.rs makes the same keys.
 use std::alloc::{AllocError, Global};
 
 /// How unequal keys are.
@@ -23,13 +23,13 @@ impl Kind {
         match self {
             Kind::Different => bits,
             Kind::Equal => 7,
-            // each range of twice the size is about as likely
+            // a random length of 0 to 21 bits: small keys are frequent, and large ones are rare
             Kind::Unequal => (bits & 0xffff_ffff) >> (32 - (bits >> 58u32) % 22),
         }
     }
 }
 
-/// So many keys of a kind.
+/// `count` keys of a kind, the same in every run.
 pub fn keys_of(alloc: Global, kind: Kind, count: u32) -> Result<Vec<u64>, AllocError> {
     let mut keys = Vec::new(alloc);
     let mut bits: u64 = 88172645463325252;

@@ -1,7 +1,7 @@
-//! The proved side of the measure of degree_lists; bench/degree_lists.rs is the plain side.
+//! Measures the proved code of degree_lists; bench/degree_lists.rs measures plain Rust for the same work.
 //!
-//! Without a word it makes each call over little and writes nothing. With one, as `time`, it writes a line for each kind of keys: the kind, how
-//! many keys there are, the length of the answer, and the nanoseconds of one call, the least of several.
+//! Without an argument it makes each call over 100 keys and writes nothing. With one, say `time`, it writes a line for each kind of keys: the
+//! kind, the number of keys, the length of the answer, and the nanoseconds of the fastest call.
 #![tactic(auto)]
 
 mod keys;
@@ -18,7 +18,7 @@ const KEYS: u32 = 4_000_000;
 
 const ROUNDS: u32 = 3;
 
-// The length of what a call gave, and the least time of one.
+// The length of what a call gave, and the time of the fastest call.
 #[derive(Clone, Copy)]
 struct Measure {
     len: usize,

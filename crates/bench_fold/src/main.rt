@@ -1,9 +1,9 @@
-//! The proved side of the measures of bound_fold; bench/fold.rs is the plain one.
+//! Measures the proved code of bound_fold and set_bounds; bench/fold.rs measures plain Rust for the same work.
 //!
-//! Without a word it writes the bounds of two small queries. With one, as `time`, it writes a line for each measure: the
-//! shape, the entries, the pieces of each list, the trees that are folded, the bound, and the nanoseconds of one bound,
-//! the least of several. With two, as `time sets`, it does the same for the bounds of all sets of twelve entries:
-//! the shape, the sum of the bounds, and the nanoseconds; bench/fold.rs is the plain side of that.
+//! Without an argument it writes the bounds of two small queries. With one, say `time`, it writes a line for each measure.
+//! A line has the shape, the number of entries, of pieces of each list and of trees that are folded, the bound, and the
+//! least nanoseconds of one bound. With two, say `time sets`, it measures the bounds of all sets of twelve entries. Then a
+//! line has the shape, the sum of the bounds, and the nanoseconds.
 #![tactic(auto)]
 
 mod queries;
@@ -21,7 +21,7 @@ const ROUNDS: u32 = 20;
 
 const PLANS: u32 = 3;
 
-// Adds a list to what is known of a query.
+// Adds the list of these numbers, as the list of a column of an entry.
 fn add_numbers(
     alloc: Global,
     query: &mut Query,
@@ -44,7 +44,7 @@ fn path(alloc: Global) -> Result<Query, NoMemory> {
     Ok(query)
 }
 
-// Three entries of two columns, and each column is equal to one of another entry.
+// Three entries of two columns. Each column is equal to a column of another entry.
 fn triangle(alloc: Global) -> Result<Query, NoMemory> {
     let edges = [edge(0, 0, 1, 0), edge(1, 1, 2, 0), edge(2, 1, 0, 1)];
     let mut query = query_of(alloc, &edges, &[3, 3, 3])?;
@@ -67,7 +67,7 @@ fn show_small(rt: &HostRuntime) -> io::Result<()> {
     show(rt, "triangle", &triangle)
 }
 
-// The set of the first entries.
+// The set of the first `entries` entries.
 fn first(entries: u8) -> EntrySet {
     let bits = u16::MAX
         .checked_shr(16 - u32::from(entries.min(16)))

@@ -1,4 +1,4 @@
-//! What is joined: equalities of columns in some shapes, and for each entry a row bound and lists.
+//! The queries that are measured: equalities of columns in several shapes, and for each entry a row bound and lists.
 ghost use Rattle.std.specs.Prelude.{◌≡◌, ℕ, None, IfOk};
 ghost use Rattle.bound_fold.specs.Lists.{list_of};
 
@@ -19,17 +19,17 @@ pub struct Query {
 /// How the entries of a query are joined.
 #[derive(Clone, Copy)]
 pub enum Shape {
-    /// Each entry by a column of its own with the next one.
+    /// Column 1 of each entry is equal to column 0 of the next one.
     Chain,
-    /// Entry 1 by a column of its own with each of the others, so it stands below entry 0.
+    /// Entry 1 is joined with each of the others, with each by a different column of its own. In the tree it stands below entry 0.
     Star,
-    /// A star, and entry 0 is joined by its column with each entry from 3 on too.
+    /// A star in which entry 0 is also joined, by its one column, with each entry from 3 on.
     JoinedStar,
     /// The first columns of all entries are equal.
     OneClass,
     /// A chain whose last entry is joined with the first one.
     Ring,
-    /// The first columns of all entries are equal, and each pair is written.
+    /// The first columns of all entries are equal, and there is an equality for each pair of entries.
     Pairs,
     /// Each pair of entries is joined by columns of its own.
     PairsApart,
@@ -48,7 +48,7 @@ impl Shape {
         }
     }
 
-    // The equality of two entries of which the first comes before the other, if there is one.
+    // The equality that the shape has for two entries, if it has one. `left` comes before `right`.
     fn equality(self, left: u8, right: u8, entries: u8) -> Option<Edge> {
         let is_next = u16::from(left) + 1 == u16::from(right);
         let is_last = left == 0 && u16::from(right) + 1 == u16::from(entries);
@@ -67,7 +67,7 @@ impl Shape {
         }
     }
 
-    // The equalities of so many entries, by the later entry and then by the earlier one.
+    // The equalities for this number of entries, sorted by the later entry and then by the earlier one.
     fn equalities(self, alloc: Global, entries: u8) -> Result<Vec<Edge>, NoMemory> {
         let mut edges = Vec::new(alloc);
         for right in 0..entries {
@@ -85,7 +85,7 @@ fn place(entry: u8, column: u32) -> Place {
     Place { entry, column }
 }
 
-/// The equality of two columns, each of which has its entry before it.
+/// The equality of two columns. The number of its entry stands before each column.
 pub fn edge(left: u8, left_column: u32, right: u8, right_column: u32) -> Edge {
     Edge {
         left: place(left, left_column),
@@ -101,7 +101,7 @@ fn parts_of(alloc: Global, edges: &[Edge]) -> Result<Parts, NoMemory> {
     })
 }
 
-// The list of these runs. One that doesn't fall is left out.
+// The list of these runs. A run is left out if its value is 0 or above the value before, or if its count is 0 or too great.
 fn list_of_runs(alloc: Global, runs: &[Piece]) -> Result<Pieces, NoMemory> {
     let mut list = Pieces::empty(alloc);
     let mut last = u128::MAX;
@@ -116,7 +116,7 @@ fn list_of_runs(alloc: Global, runs: &[Piece]) -> Result<Pieces, NoMemory> {
     Ok(list)
 }
 
-/// The list of these numbers.
+/// The list of these numbers, without those that are 0 or above the number before.
 pub fn list_of_numbers(alloc: Global, numbers: &[u128]) -> Result<Pieces, NoMemory> {
     let mut runs = Vec::new(alloc);
     for value in numbers {
@@ -128,7 +128,8 @@ pub fn list_of_numbers(alloc: Global, numbers: &[u128]) -> Result<Pieces, NoMemo
     list_of_runs(alloc, runs.as_slice())
 }
 
-// So many pieces, each for about as many of the rows. The values fall to 1, in wider steps where the column's number is larger.
+// A list of at most `pieces` pieces, each for about the same number of rows. The last value is 1, and the others are the multiples of
+// `column` + 1, so they fall in wider steps where the column's number is larger.
 fn list_of_column(alloc: Global, rows: u64, pieces: u32, column: u32) -> Result<Pieces, NoMemory> {
     let mut runs = Vec::new(alloc);
     let mut left = rows;
@@ -148,7 +149,7 @@ fn list_of_column(alloc: Global, rows: u64, pieces: u32, column: u32) -> Result<
     list_of_runs(alloc, runs.as_slice())
 }
 
-// The row bounds alone, and no list.
+// The row bounds of the entries, without any list.
 fn with_rows(alloc: Global, rows: &[u64]) -> Result<EntryLists, NoMemory>
     ensures { IfOk result (λ lists. (entry column : ℕ) → list_of lists entry column ≡ None) }
 {
@@ -161,7 +162,7 @@ fn with_rows(alloc: Global, rows: &[u64]) -> Result<EntryLists, NoMemory>
     Ok(lists)
 }
 
-/// Equalities, and the entries' row bounds.
+/// The query of these equalities and row bounds, without lists.
 pub fn query_of(alloc: Global, edges: &[Edge], rows: &[u64]) -> Result<Query, NoMemory> {
     Ok(Query {
         parts: parts_of(alloc, edges)?,
@@ -169,7 +170,7 @@ pub fn query_of(alloc: Global, edges: &[Edge], rows: &[u64]) -> Result<Query, No
     })
 }
 
-/// Adds the list of a column. One whose sum isn't the row bound is left out, and so is a second one.
+/// Adds the list of a column. It is left out if the entry has no row bound, if its sum isn't that bound, or if the column has a list already.
 pub fn add_list(
     lists: &mut EntryLists,
     entry: u8,
@@ -201,7 +202,7 @@ fn add_lists(
     Ok(())
 }
 
-/// So many entries in a shape, whose joined columns have lists of so many pieces.
+/// A query of this shape and this number of entries. The lists of its joined columns have at most `pieces` pieces.
 pub fn query_of_shape(
     alloc: Global,
     shape: Shape,

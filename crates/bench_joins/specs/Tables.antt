@@ -15,12 +15,12 @@ abbrev pub compared : Op → ℕ → Cond
 compared op number = Compare op (operand.Column (record { from = 0; column = number }))
     (operand.Column (record { from = 1; column = number }))
 
--- what is asked of the values, if anything
+-- the comparison of the values, if there is one
 abbrev pub values_compared : Option Op → List Cond
 values_compared None = []
 values_compared (Some operator) = compared operator 1 ∷ []
 
--- FROM L, R WHERE L.K = R.K, and with a comparison AND L.V compared with R.V
+-- the query FROM L, R WHERE L.K = R.K; with an operator it goes on with AND and the comparison of L.V with R.V
 abbrev pub join_of : Option Op → Query
 join_of values = record {
   from = record { table = 0; alias = [] } ∷ record { table = 1; alias = [] } ∷ [];
@@ -32,14 +32,14 @@ join_of values = record {
 abbrev pub table_of : ℕ → List ℕ → List ℕ → Cells
 table_of rows keys values = record { kinds = kind.Int ∷ kind.Int ∷ []; columns = keys ∷ values ∷ []; rows = rows }
 
--- each number from 0 on, so many times
+-- `rows` numbers: 0 `times` times, then 1 `times` times, and so on
 abbrev pub repeated : ℕ → ℕ → List ℕ
 repeated rows times = map (λ row. row / times) (range_with_len 0 rows)
 
 abbrev pub tables_of_two : Cells → Cells → Database
 tables_of_two left right = record { pool = []; cells = left ∷ right ∷ []; slots = 0 ∷ 1 ∷ [] }
 
--- so many numbers of 64 bits
+-- `rows` numbers of 64 bits
 pub record AreNumbers (rows : ℕ) (cells : List ℕ) : Type 0 where
   pub long : length cells ≡ rows
   pub small : All (λ cell. cell < 2 ^ 64) cells
@@ -52,13 +52,13 @@ pub record IsTable (rows : ℕ) (cells : Cells) : Type 0 where
   pub are_keys : AreNumbers rows keys
   pub are_values : AreNumbers rows values
 
--- its keys are each number from 0 on, so many times
+-- a table whose keys are `repeated rows times`
 pub record HasRepeated (rows times : ℕ) (cells : Cells) : Type 0 where
   pub values : List ℕ
   pub is : cells ≡ table_of rows (repeated rows times) values
   pub are_values : AreNumbers rows values
 
--- two tables of these sizes
+-- two tables of these sizes; the right one has each key at most `times` times
 pub record AreTwo (left right times : ℕ) (db : Database) : Type 0 where
   pub first : Cells
   pub second : Cells
@@ -66,6 +66,6 @@ pub record AreTwo (left right times : ℕ) (db : Database) : Type 0 where
   pub is_first : IsTable left first
   pub is_second : HasRepeated right times second
 
--- the rooms for both scans, and for at most so many rows of the join for each row of the left table
+-- the rooms for both scans, and for a join that has at most `times` rows for each row of the left table
 abbrev pub rooms_for : ℕ → ℕ → ℕ → Rooms
 rooms_for left right times = rooms (0 ∷ 1 ∷ []) (left ∷ right ∷ []) (left ∷ times * left ∷ [])

@@ -1,8 +1,8 @@
-//! The proved side of the benchmark of hash_join; bench/joins.rs is the plain one.
+//! Measures the proved code of hash_join; bench/joins.rs measures plain Rust for the same work.
 //!
-//! It joins pairs of tables, and writes for each pair how many rows the join has and the sum of their row numbers. Without a word the
-//! tables are small; with one, as `time`, they have up to 1,000,000 rows, and it writes to standard error the nanoseconds of an execution,
-//! the least of three.
+//! It joins pairs of tables, and writes for each pair how many rows the join has and a checksum of their row numbers. Without an argument
+//! the tables are small. With one, say `time`, they have up to 1,000,000 rows, and it writes to standard error the nanoseconds of the
+//! fastest of three executions.
 #![tactic(auto)]
 
 ghost use Rattle.std.specs.Prelude.{◌≡◌, ◌*◌, ◌<◌, ◌≤◌, [], ◌∷◌, IfOk, length};
@@ -32,7 +32,7 @@ fn out_of_memory(_: NoMemory) -> io::Error {
     io::Error::from(io::ErrorKind::OutOfMemory)
 }
 
-// The least time of an execution, in nanoseconds, the rows of the join and the sum of their row numbers.
+// The time of an execution in nanoseconds, the number of rows of the join, and a checksum of their row numbers.
 #[derive(Clone, Copy)]
 struct Joined {
     nanos: u128,
@@ -64,7 +64,8 @@ fn lists_for(alloc: Global, sizes: Sizes) -> Result<Vec<RowBuf<u32>>, NoMemory>
     row_buffers(alloc, &[sizes.left as u64, sizes.right as u64])
 }
 
-// Buffers with room for a join of at most so many rows for each row of the left table as the right one has each key.
+// Buffers with room for the join. The right table has each key at most `times` times, so each row of the left one is joined with at most
+// `times` rows.
 fn reserved_for(alloc: Global, sizes: Sizes) -> Result<Reserved, NoMemory>
     requires left { sizes.left ≤ 4000000 }
     requires right { sizes.right ≤ 4000000 }
@@ -77,7 +78,7 @@ fn reserved_for(alloc: Global, sizes: Sizes) -> Result<Reserved, NoMemory>
     reserve(alloc, &[0, 1], &[left, right], &[left, most])
 }
 
-// The scans and their join, without the reservation before it.
+// Times the scans and their join. The memory for them was reserved before.
 fn execution(
     rt: &impl Clock,
     mut lists: Vec<RowBuf<u32>>,
@@ -124,8 +125,7 @@ fn timed(
     execution(rt, lists, reserved, sizes, values, query, db)
 }
 
-// The least time of several executions. The right table has each key so many times, so the join has at most so many rows for each row of the
-// left one.
+// The fastest of several executions.
 fn least_of(
     rt: &impl Clock,
     alloc: Global,
@@ -150,7 +150,7 @@ fn least_of(
     Ok(least)
 }
 
-// Two tables: their rows, how often the right one has each key, and how their values are compared.
+// A name, how many rows the left and the right table have, how often the right one has each key, and how values are compared, if they are.
 #[derive(Clone, Copy)]
 struct Case<'a>(&'a str, u32, u32, u32, Option<Op>);
 
@@ -171,7 +171,7 @@ const LARGE: [Case<'static>; 8] = [
     Case("heavy-both", 10_000, 10_000, 1_000, Some(Op::Eq)),
 ];
 
-// Tables that are larger than a plan may be are refused.
+// Refuses tables and joins of more rows than a plan may have.
 fn measured(rt: &impl Clock, alloc: Global, case: Case<'_>, rounds: u32) -> io::Result<Joined> {
     let Case(_, left, right, times, values) = case;
     let most = u64::from(times) * u64::from(left);

@@ -1,7 +1,7 @@
-//! The proved side of the benchmark of link_index; bench/link_index.rs is the plain one.
+//! Measures the proved code of link_index; bench/link_index.rs measures plain Rust for the same work.
 //!
-//! With no argument it makes the calls over few keys and writes what they gave. With one it makes them over 4,000,000 keys, and writes to
-//! standard error the nanoseconds that `load`, `first` and `after` took for all of them, the least of five rounds.
+//! Without an argument it makes the calls over 1,000 keys, and writes a checksum of what they gave. With one it makes them over 4,000,000 keys.
+//! Then it also writes to standard error the nanoseconds that `load`, `first` and `after` took for all keys, each the least of five rounds.
 #![tactic(auto)]
 
 ghost use Rattle.std.specs.Prelude.{◌≡◌, ◌<◌, ◌≤◌, length, vec_len, IfOk};
@@ -15,7 +15,7 @@ use std::{env, io};
 
 const ROUNDS: u32 = 5;
 
-// The least time of each kind of call, in nanoseconds, and what the calls gave.
+// The least time of each kind of call, in nanoseconds, and sums of what the calls gave.
 #[derive(Clone, Copy)]
 struct Round {
     load: u128,

@@ -1,7 +1,7 @@
-//! The proved side of the benchmarks of order_search and bushy_plan; bench/orders.rs and bench/bushy.rs are the plain ones.
+//! Measures the proved code of order_search and bushy_plan; bench/orders.rs and bench/bushy.rs measure plain Rust for the same work.
 //!
-//! It chooses orders of twelve entries over several kinds of bounds, then join trees over the same ones, and writes what was chosen. With
-//! an argument it also writes to standard error the nanoseconds of each choice: the least of 50 of an order, and of 10 of a tree.
+//! It chooses orders of twelve entries for several kinds of bounds, then join trees for the same bounds, and writes what was chosen. With
+//! an argument it also writes to standard error the nanoseconds of each choice: the least of 50 for an order, and of 10 for a tree.
 #![tactic(auto)]
 
 ghost use Rattle.std.specs.Prelude.{◌≡◌, ◌<◌, length, replicate, vec_len, IfOk};
@@ -22,7 +22,7 @@ enum Wanted {
 }
 
 impl Wanted {
-    // How often it is chosen where that is timed.
+    // How many times the choice is made when it is timed.
     fn rounds(self) -> u32 {
         match self {
             Wanted::Order => 50,
@@ -31,7 +31,7 @@ impl Wanted {
     }
 }
 
-// A bound for each set of twelve entries.
+// A bound for each subset of twelve entries.
 fn bounds_of(alloc: Global, step: u64, limit: u64) -> Result<Vec<u128>, AllocError>
     requires { 0 < limit }
     ensures { IfOk result (λ bounds. vec_len bounds ≡ 4096) }
@@ -43,7 +43,7 @@ fn bounds_of(alloc: Global, step: u64, limit: u64) -> Result<Vec<u128>, AllocErr
     Ok(bounds)
 }
 
-// One choice, whose answer is dropped.
+// Makes the choice once, and drops the answer.
 fn choose_once(
     alloc: Global,
     wanted: Wanted,
@@ -83,7 +83,7 @@ fn measure(
     Ok(least)
 }
 
-// The choice over each kind of bounds.
+// Writes the choice for each kind of bounds, and its time if `is_timed`.
 fn write_choices(
     rt: &HostRuntime,
     wanted: Wanted,

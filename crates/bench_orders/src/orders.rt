@@ -22,7 +22,7 @@ pub fn chosen(alloc: Global, bounds: &Seq<u128>, scans: &Seq<u64>) -> io::Result
     choose(alloc, bounds, scans, 20_000_000).map_err(no_order)
 }
 
-/// Writes the best order and the bounds of its levels behind a name.
+/// Writes a name, the best order and the bounds of its levels.
 pub fn write(rt: &HostRuntime, name: &str, bounds: &Seq<u128>, scans: &Seq<u64>) -> io::Result<()>
     requires scans { scans.now ≡ replicate 12 1000 }
     requires bounds { length bounds.now ≡ 4096 }

@@ -23,7 +23,7 @@ pub fn chosen(alloc: Global, bounds: &Seq<u128>, scans: &Seq<u64>) -> io::Result
     choose_bushy(alloc, bounds, scans, 4_000_000).map_err(no_tree)
 }
 
-/// Writes the cost of the best join tree behind a name, and then its joins.
+/// Writes a name, the cost of the best join tree and its joins.
 pub fn write(rt: &HostRuntime, name: &str, bounds: &Seq<u128>, scans: &Seq<u64>) -> io::Result<()>
     requires scans { scans.now ≡ replicate 12 1000 }
     requires bounds { length bounds.now ≡ 4096 }

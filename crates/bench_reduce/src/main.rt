@@ -1,9 +1,9 @@
-//! The proved side of the benchmark of reduced scans; bench/reduce.rs is the plain one.
+//! Measures the proved code of reduced_scans; bench/reduce.rs measures plain Rust for the same work.
 //!
-//! It reduces the scans of a chain of three tables, of which one row in a hundred stays, and of a cycle of two tables, in which rows go
-//! one after another, and writes for each how many rows stay and the sum of their numbers. Without a word the tables are small. With
-//! one, as `time`, the chain has three tables of 1,000,000 rows, and the cycle 250,000 rows in all, then 500,000 and then 1,000,000; it
-//! writes to standard error the nanoseconds of scans and reduction together, the least of three.
+//! It reduces the scans of two queries. The first is a chain of three tables, in which one row in a hundred stays. The second is a cycle of
+//! two tables, in which one row after another is dropped. For each it writes how many rows stay and the sum of their numbers. Without an
+//! argument the tables are small. With one, say `time`, the chain has three tables of 1,000,000 rows, and the cycle has 250,000 rows in all,
+//! then 500,000, then 1,000,000. It also writes to standard error the nanoseconds of scans and reduction together, the least of three.
 #![tactic(auto)]
 
 ghost use Rattle.std.specs.Prelude.{◌≤◌};
@@ -26,7 +26,7 @@ use tables::{CHAIN, CYCLE, SCHEMA, chain, cycle};
 
 const ROUNDS: u32 = 3;
 
-// The least time of a reduction of the scans of a query.
+// The fastest of several reductions of a query's scans.
 fn least_of(
     rt: &impl Clock,
     alloc: Global,

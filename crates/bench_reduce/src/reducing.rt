@@ -43,7 +43,7 @@ fn summed(nanos: u128, lists: &[RowBuf<u32>]) -> Reduced {
     Reduced { nanos, rows, sum }
 }
 
-/// One reduction of the scans of a query.
+/// Scans the tables of a query and reduces the scans once, and takes the time of both.
 pub(crate) fn timed(
     rt: &impl Clock,
     alloc: Global,

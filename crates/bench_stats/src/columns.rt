@@ -1,9 +1,9 @@
-//! The columns of bench/stats.rs.
+//! The columns that are measured. bench/stats.rs makes the same columns.
 use base_io::NoMemory;
 use csv_tables::Pool;
 use std::alloc::Global;
 
-/// What a filter column has: ten numbers, numbers that are all different, or a thousand texts.
+/// The values of a filter column: ten numbers, numbers that are all different, or a thousand texts.
 #[derive(Clone, Copy)]
 pub enum Filter {
     Ten,
@@ -45,7 +45,7 @@ impl Random {
     }
 }
 
-// A key that is about as unequal as words of a text: each range of twice the size is about as likely.
+// A key of a random length of 0 to 21 bits. Small keys are frequent and large ones are rare, about as unequal as words of a text.
 fn unequal(bits: u64) -> u64 {
     (bits & 0xffff_ffff) >> (32 - (bits >> 58u32) % 22)
 }
@@ -57,7 +57,7 @@ pub struct Pair {
     pub joined: Vec<u64>,
 }
 
-/// So many rows of a kind.
+/// `rows` rows with a filter column of this kind, the same in every run.
 pub fn pair_of(alloc: Global, kind: Filter, rows: u32) -> Result<Pair, NoMemory> {
     let mut random = Random {
         state: 88172645463325252,

@@ -1,8 +1,8 @@
-//! The proved side of the benchmark of statistics; bench/stats.rs is the plain one.
+//! Measures the proved code of column_stats and cond_stats; bench/stats.rs measures plain Rust for the same work.
 //!
-//! It makes all lists of a pair of columns at once, and the lists of one value and of one range on demand, and writes for each how many runs
-//! the lists have. Without a word the tables are small; with one, as `time`, they have 1,000,000 rows, and it writes to standard error the
-//! nanoseconds of each, the least of three.
+//! It makes all lists of a pair of columns at once, and then the lists of one value and of one range on demand. For both it writes how many
+//! runs the lists have. Without an argument the columns have 100 rows. With one, say `time`, they have 1,000,000 rows, and it also writes to
+//! standard error the nanoseconds of each, the least of three.
 #![tactic(auto)]
 
 ghost use Rattle.std.specs.Prelude.{◌≡◌, ◌<◌, ◌^◌, length, IfOk};
@@ -46,7 +46,7 @@ fn runs_of(stats: &ColumnStats) -> u64 {
     all
 }
 
-// A column of a kind, sorted. What is no such column is answered as want of memory.
+// A column of a kind, sorted. The error is `NoMemory` too if a cell isn't of this kind or there are more than 4,000,000 cells.
 fn sorted<'a>(
     alloc: Global,
     pool: &'a Pool,
@@ -61,7 +61,7 @@ fn sorted<'a>(
     FilterColumn::new(alloc, pool, kind, cells)
 }
 
-// The lists of one value, that of the row in the middle, and of one range.
+// How many runs two lists have: that of the value of the middle row, and that of the range from leaf 8 to leaf 15.
 fn on_demand(alloc: Global, pool: &Pool, kind: Kind, pair: &Pair) -> Result<u64, NoMemory> {
     let cells = pair.filter.as_slice();
     let joined = pair.joined.as_slice();
@@ -74,7 +74,7 @@ fn on_demand(alloc: Global, pool: &Pool, kind: Kind, pair: &Pair) -> Result<u64,
     Ok(runs(&value).wrapping_add(runs(&range)))
 }
 
-// How often each is measured.
+// How many rows the columns have, how often each part is measured, and whether times are written.
 #[derive(Clone, Copy)]
 struct Plan {
     is_timed: bool,

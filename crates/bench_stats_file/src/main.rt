@@ -1,7 +1,7 @@
-//! The proved side of the measure of stats_reading; bench/stats_file.rs is the plain side.
+//! Measures the proved code of stats_reading; bench/stats_file.rs measures plain Rust for the same work.
 //!
-//! Without a word it reads a small file and writes nothing. With one, as `time`, it writes how many bytes and pairs the
-//! file has, and the milliseconds that `read_stats` took, the least of several.
+//! Without an argument it reads a small file and writes nothing. With one, say `time`, it reads a file of nearly the
+//! greatest length. Then it writes how many bytes and pairs the file has, and the milliseconds of the fastest `read_stats`.
 #![tactic(auto)]
 
 ghost use Rattle.std.specs.Prelude.{◌≤◌, length, IfOk};
@@ -64,7 +64,7 @@ fn read_once(rt: &impl Clock, alloc: Global, schema: &Schema, bytes: &[u8]) -> i
     })
 }
 
-// Several readings. A longer file than one may be is refused.
+// Reads a file `rounds` times, and gives the least time. A file of more than `MOST_FILE` bytes is refused.
 fn read_often(
     rt: &impl Clock,
     alloc: Global,

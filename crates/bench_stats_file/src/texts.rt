@@ -3,10 +3,10 @@ use std::alloc::{AllocError, Global};
 
 const DIGITS: [&str; 10] = ["0", "1", "2", "3", "4", "5", "6", "7", "8", "9"];
 
-// Tables of the schema, and columns of each.
+// How many tables the schema has, and how many columns each table has.
 const TABLES: usize = 64;
 
-// The lines of a pair have fewer bytes.
+// The lines of a pair have fewer bytes than this.
 const MOST_PAIR: usize = 4096;
 
 fn push_number(text: &mut String, number: usize) -> Result<(), AllocError> {
@@ -40,7 +40,7 @@ pub fn schema_text(alloc: Global) -> Result<String, AllocError> {
     Ok(text)
 }
 
-// A letter, given by its two digits, and a number, as a name.
+// A name in hexadecimal, as the file has it: a letter, given by its code of two digits, and then two decimal digits.
 fn push_name(text: &mut String, letter: &str, number: usize) -> Result<(), AllocError> {
     text.push_str("x")?;
     text.push_str(letter)?;
@@ -50,7 +50,7 @@ fn push_name(text: &mut String, letter: &str, number: usize) -> Result<(), Alloc
     text.push_str(DIGITS[number % 10])
 }
 
-// So many lines of numbers from 100 on.
+// `count` lines. Between `front` and `behind` each has a number of two digits, from 00 on.
 fn push_lines(
     text: &mut String,
     count: usize,
@@ -88,7 +88,7 @@ fn push_pair(text: &mut String, filter: usize, joined: usize) -> Result<(), Allo
     push_lists(text)
 }
 
-// All pairs of columns, while so many bytes last.
+// The pairs of a filter column with each column, as long as the text stays below `bytes` bytes.
 fn push_pairs(text: &mut String, filter: usize, bytes: usize) -> Result<(), AllocError> {
     for joined in 0..TABLES {
         if bytes.saturating_sub(text.len()) > MOST_PAIR {
@@ -108,7 +108,7 @@ fn push_table(text: &mut String, table: usize, bytes: usize) -> Result<(), Alloc
     Ok(())
 }
 
-/// A file of at most so many bytes, where they are enough for one pair.
+/// A file of at most `bytes` bytes, if these are enough for one pair.
 pub fn file_text(alloc: Global, bytes: usize) -> Result<String, AllocError> {
     let mut text = String::from_str(alloc, "safebound-stats 1 1\n")?;
     for table in 0..TABLES {

@@ -1,8 +1,8 @@
-//! Table files of a fixed rule: those of bench/tables.rs.
+//! Table files, the same in every run. bench/tables.rs makes the same files.
 use limits::MOST_ROWS;
 use std::alloc::{AllocError, Global};
 
-/// What a file is of: eight columns of numbers, or four of texts of which every second was there before.
+/// What a file has: eight columns of numbers, or four columns of texts. Every second text is one that the file had before.
 #[derive(Clone, Copy)]
 pub enum Source {
     Numbers,
@@ -25,7 +25,7 @@ impl Source {
     }
 }
 
-// Bits in an order that repeats nothing soon, and how many texts there were.
+// Random bits, and how many different texts there were.
 #[derive(Clone, Copy)]
 struct State {
     bits: u64,
@@ -40,7 +40,7 @@ impl State {
     }
 }
 
-// A number of 1 to 44 bits, with a minus sign before one of four.
+// A number of at most 44 bits, and sometimes a minus sign before it.
 fn push_number(file: &mut String, state: &mut State) -> Result<(), AllocError> {
     state.turn();
     if state.bits % 4 == 0 {
@@ -80,7 +80,7 @@ fn push_record(file: &mut String, source: Source, state: &mut State) -> Result<(
     file.push_str("\r\n")
 }
 
-/// A header, and then records up to the first that ends at or after so many bytes, but no more of them than a table may have.
+/// A header and then records, until the file has at least `bytes` bytes or as many records as a table may have rows.
 pub fn file_of(alloc: Global, source: Source, bytes: usize) -> Result<String, AllocError> {
     let mut file = String::from_str(alloc, source.header())?;
     let mut state = State {

@@ -1,8 +1,8 @@
-//! The proved side of the measures of csv_tables; bench/tables.rs is the plain side.
+//! Measures the proved code of csv_tables; bench/tables.rs measures plain Rust for the same work.
 //!
-//! Without a word it reads small files and writes nothing. With one, as `time`, it writes a line for each file: what
-//! the file is of, how many rows and different texts it has, a checksum of the cells, and the milliseconds that
-//! `read_table` took, the least of several.
+//! Without an argument it reads small files and writes nothing. With one, say `time`, it writes a line for each file. A
+//! line says whether the file has numbers or texts, how many rows and how many different texts. A checksum of the cells
+//! follows, and the milliseconds of the fastest `read_table`.
 #![tactic(auto)]
 
 ghost use Rattle.std.specs.Prelude.{◌≤◌, length};
@@ -42,7 +42,7 @@ fn no_schema(_: SchemaError) -> io::Error {
     invalid_data()
 }
 
-// A sum of cells in which their order counts, after the cells before.
+// A checksum of cells that continues the checksum of the cells before. It depends on the order of the cells.
 fn sum_with(before: u64, cells: &[u64]) -> u64 {
     let mut sum = before;
     for cell in cells {
@@ -76,7 +76,7 @@ fn read_once(rt: &impl Clock, alloc: Global, table: &Table, bytes: &[u8]) -> io:
     })
 }
 
-// Several readings. A longer file than a table may have is refused.
+// Reads a file `rounds` times, and gives the least time. A file of more than `MOST_FILE` bytes is refused.
 fn read_often(
     rt: &impl Clock,
     alloc: Global,
@@ -97,7 +97,7 @@ fn read_often(
     Ok(least)
 }
 
-// How long the files are and how often each is read.
+// How long the files are, how often each is read, and whether times are written.
 #[derive(Clone, Copy)]
 struct Plan {
     is_timed: bool,
@@ -111,7 +111,7 @@ const UNTIMED: Plan = Plan {
     rounds: 1,
 };
 
-// A record is shorter than 256 bytes.
+// A file ends with the first record that reaches `bytes`. A record has fewer than 256 bytes, so the file has at most `MOST_FILE` bytes.
 const TIMED: Plan = Plan {
     is_timed: true,
     bytes: MOST_FILE as usize - 256,

@@ -1,4 +1,4 @@
--- Equalities of columns, the classes that they make of columns, and when they close no cycle between entries.
+-- Equalities of columns, the classes of columns that they make, and when they close no cycle between entries.
 use Rattle.std.specs.Prelude.{◌≡◌, ◌≢◌, ℕ, Bool, not, ◌&&◌, ◌==◌, if◌then◌else◌, ⊤, List, [], ◌∷◌}
 use Rattle.std.specs.List.{AllByRecursion, Contains}
 use Rattle.berge_tree.specs.declared.edges.Place.{Place}
@@ -21,7 +21,7 @@ AreWithin set es = AllByRecursion (λ e. Contains set e.left.entry × Contains s
 
 -- ---- connected entries
 
--- nothing connects a with b: the entries fall into two sides so that each equality lies on one of them, but a and b don't
+-- no equalities connect a with b: the entries can be put on two sides so that each equality is within a side, but a and b are on different ones
 pub record AreApart (es : List Edge) (a b : ℕ) : Type 0 where
   pub side : ℕ → Bool
   pub together : AllByRecursion (λ e. side e.left.entry ≡ side e.right.entry) es
@@ -45,11 +45,11 @@ abbrev pub classes_from : (Place → Place) → List Edge → Place → Place
 classes_from name [] = name
 classes_from name (e ∷ es) = classes_from (merged name e.left e.right) es
 
--- the class of a column, where before the first equality each column is a class of its own
+-- the class of a column: at first each column is a class of its own, and then each equality merges the classes of its columns
 abbrev pub class_of : List Edge → Place → Place
 class_of es = classes_from (λ p. p) es
 
--- what is equal along all equalities is equal at the two columns
+-- whenever keys are equal in the two columns of each equality, they are equal in these two columns
 abbrev pub AreInOneClass : List Edge → Place → Place → Type 0
 AreInOneClass es p q =
     (key : ℕ → ℕ → ℕ) → AllByRecursion (λ e. key e.left.entry e.left.column ≡ key e.right.entry e.right.column) es
@@ -57,12 +57,12 @@ AreInOneClass es p q =
 
 -- ---- no cycle of entries and classes
 
--- the side of a column's entry, but the other one at p itself
+-- the side of the entry of column q, but for p itself the other side
 abbrev pub side_seen : (ℕ → Bool) → Place → Place → Bool
 side_seen side p q = if same_place q p then not (side q.entry) else side q.entry
 
--- the link of p's entry with p's class is the only way between them: the entries fall into two sides, and each class
--- lies on one, where p's entry alone is seen on the other
+-- the only way from p's entry to p's class is the link between them: entries can be put on two sides so that each class is on one side.
+-- A column is on the side of its entry, but p itself counts for the other side
 pub record IsBridge (class : Place → Place) (p : Place) : Type 0 where
   pub side : ℕ → Bool
   pub together : (q r : Place) → class q ≡ class r → side_seen side p q ≡ side_seen side p r

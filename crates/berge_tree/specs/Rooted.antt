@@ -7,7 +7,7 @@ use Rattle.berge_tree.specs.declared.edges.Edge.{Edge}
 use Rattle.berge_tree.specs.Equalities.{place, places_of, class_of}
 use Rattle.berge_tree.specs.Trees.{Classes, no_class, and_class, Members, one_member, and_member, BergeTree, entries, entries_of_all}
 
--- the entry's columns in the classes below it
+-- for each class below an entry, the entry's column in it
 abbrev pub class_columns : Classes → List ℕ
 class_columns no_class = []
 class_columns (and_class column members rest) = column ∷ class_columns rest
@@ -21,13 +21,13 @@ abbrev pub member_entries : Members → List ℕ
 member_entries (one_member entry column below) = entry ∷ []
 member_entries (and_member entry column below rest) = entry ∷ member_entries rest
 
--- the entry's columns that equalities name, but the one above, in the order of their numbers
+-- the entry's columns that equalities name, except its column in the class above, in the order of their numbers
 pub record AreItsColumns (es : List Edge) (entry : ℕ) (above : Option ℕ) (columns : List ℕ) : Type 0 where
   pub ascending : IsStrictlyIncreasing columns
   pub some : (c : ℕ) → Contains columns c → Contains (places_of es) (place entry c) × (above ≢ Some c)
   pub all : (c : ℕ) → Contains (places_of es) (place entry c) → above ≢ Some c → Contains columns c
 
--- the other columns of a class, in FROM order
+-- the columns of the class of `above`, except `above` itself, in the FROM order of their entries
 pub record AreItsOthers (es : List Edge) (above : Place) (ms : Members) : Type 0 where
   pub ascending : IsStrictlyIncreasing (member_entries ms)
   pub some : (q : Place) → Contains (member_places ms) q → Contains (places_of es) q × (class_of es above ≡ class_of es q) × (q ≢ above)
@@ -45,7 +45,7 @@ abbrev mutual
   FollowsWithin es (and_member entry column below rest) =
       AreItsColumns es entry (Some column) (class_columns below) × FollowsBelow es entry below × FollowsWithin es rest
 
--- a component's tree, which stands at the component's least entry
+-- the tree of a component, whose root is the component's least entry
 pub record IsTreeOf (es : List Edge) (t : BergeTree) : Type 0 where
   pub columns : AreItsColumns es t.root None (class_columns t.below)
   pub follows : FollowsBelow es t.root t.below

@@ -1,4 +1,4 @@
--- Tests by computation of what `rooted` asks for.
+-- Tests by computation. If they are true of equalities, `rooted` may be called with them.
 use Rattle.std.specs.Prelude.{ℕ, Bool, true, not, ◌&&◌, ◌==◌, if◌then◌else◌, List, [], ◌∷◌}
 use Rattle.entry_sets.specs.Sets.{has_entry}
 use Rattle.berge_tree.specs.declared.edges.Edge.{Edge}
@@ -13,7 +13,7 @@ abbrev pub joins_parts : (ℕ → ℕ) → List Edge → Bool
 joins_parts name [] = true
 joins_parts name (e ∷ es) = not (name e.left.entry == name e.right.entry) && joins_parts (joined_parts name e.left.entry e.right.entry) es
 
--- each equality is one of entries of the set
+-- each equality joins entries of the set
 abbrev pub has_entries : ℕ → List Edge → Bool
 has_entries subset [] = true
 has_entries subset (e ∷ es) = has_entry subset e.left.entry && (has_entry subset e.right.entry && has_entries subset es)

@@ -1,4 +1,4 @@
--- How the trees are found, by computation. What they are is said without it in Trees and Rooted.
+-- How the code finds the trees. What a tree is, and which trees they are, is said in Trees and Rooted.
 use Rattle.std.specs.Prelude.{◌≡◌, ◌≢◌, ℕ, zero, suc, ◌+◌, ◌<◌, ◌≤◌, Bool, true, false, not, ◌&&◌, ◌||◌, ◌==◌, nat_lt, if◌then◌else◌, ⊤, List, [], ◌∷◌, ◌++◌, length, map, filter, drop, slice_index_or, Option, Some, None}
 use Rattle.std.specs.List.{AllByRecursion, Contains}
 use Rattle.berge_tree.specs.declared.edges.Place.{Place}
@@ -11,11 +11,11 @@ use Rattle.berge_tree.specs.Boxed.{tree_of}
 
 -- ---- the columns that equalities name, in order, each with the name of its class
 
--- by entries, then by the columns' numbers
+-- the order of columns: by entries, then by the columns' numbers
 abbrev pub is_before : Place → Place → Bool
 is_before p q = nat_lt p.entry q.entry || ((p.entry == q.entry) && nat_lt p.column q.column)
 
--- a column that is a class of its own, put in where it belongs, unless it is there
+-- inserts a column in order, as a class of its own, unless it is there already
 abbrev pub put : Place → List Column → List Column
 put p [] = record { place = p; class = p } ∷ []
 put p (c ∷ cs) =
@@ -31,7 +31,7 @@ abbrev pub class_in : List Column → Place → Place
 class_in [] p = p
 class_in (c ∷ cs) p = if same_place c.place p then c.class else class_in cs p
 
--- the columns of one class go over to another one
+-- a column of the class `old` goes over to the class `new`, and every other column stays
 abbrev pub renamed : Place → Place → Column → Column
 renamed old new c = record { place = c.place; class = if same_place c.class old then new else c.class }
 
@@ -42,12 +42,12 @@ with_classes cs (e ∷ es) = with_classes (map (renamed (class_in cs e.right) (c
 abbrev pub columns_of : List Edge → List Column
 columns_of es = with_classes (with_places [] es) es
 
--- each column stands before the later ones
+-- the columns are in order, and no column stands twice
 abbrev pub Ascend : List Column → Type 0
 Ascend [] = ⊤
 Ascend (c ∷ cs) = AllByRecursion (λ d. is_before c.place d.place ≡ true) cs × Ascend cs
 
--- what the columns of equalities are like
+-- these are the columns that equalities name, in order, each once and with its class
 pub record AreColumnsOf (es : List Edge) (columns : List Column) : Type 0 where
   pub ascend : Ascend columns
   pub named : (c : Column) → Contains columns c → Contains (places_of es) c.place × (c.class ≡ class_of es c.place)
@@ -59,15 +59,15 @@ abbrev pub is_above : Option ℕ → ℕ → Bool
 is_above None column = false
 is_above (Some above) column = above == column
 
--- a column of the entry, but not the one above
+-- a column of the entry, but not its column in the class above
 abbrev pub is_at : ℕ → Option ℕ → Column → Bool
 is_at entry above c = (c.place.entry == entry) && not (is_above above c.place.column)
 
--- another column of the class
+-- another column in the class of `above`
 abbrev pub is_other : Column → Column → Bool
 is_other above c = same_place above.class c.class && not (same_place above.place c.place)
 
--- members, where there are any
+-- one more member, before the others if there are any
 abbrev pub joined_members : ℕ → ℕ → Classes → Option Members → Option Members
 joined_members entry column below None = Some (one_member entry column below)
 joined_members entry column below (Some rest) = Some (and_member entry column below rest)
@@ -91,13 +91,13 @@ walked (suc depth) columns entry above =
     classes_with (λ c. members_with (λ d. walked depth columns d.place.entry (Some d.place.column)) (filter (is_other c) columns))
     (filter (is_at entry above) columns)
 
--- the classes of those columns of an entry that stand from a place on, with the members to a depth below them
+-- the classes below an entry for those of its columns that stand at place `from` or later, with all that is below them to a depth
 abbrev pub classes_at : ℕ → List Column → ℕ → ℕ → Option ℕ → Classes
 classes_at depth columns from entry above =
     classes_with (λ c. members_with (λ d. walked depth columns d.place.entry (Some d.place.column)) (filter (is_other c) columns))
     (filter (is_at entry above) (drop from columns))
 
--- those members of a class whose columns stand from a place on
+-- those members of a class whose columns stand at place `from` or later
 abbrev pub members_at : ℕ → List Column → ℕ → Column → Option Members
 members_at depth columns from above =
     members_with (λ d. walked depth columns d.place.entry (Some d.place.column)) (filter (is_other above) (drop from columns))
@@ -106,7 +106,7 @@ members_at depth columns from above =
 abbrev pub HaveOthers : List Column → Type 0
 HaveOthers columns = (c : Column) → Contains columns c → filter (is_other c) columns ≢ []
 
--- the next column from a place on that passes the test
+-- the place of the first column at `from` or later that passes the test, if there is one
 abbrev pub IsNext : (Column → Bool) → List Column → ℕ → Option ℕ → Type 0
 IsNext test columns from None = filter test (drop from columns) ≡ []
 IsNext test columns from (Some i) =
@@ -135,6 +135,6 @@ abbrev pub stands_in : List Tree → ℕ → Bool
 stands_in [] x = false
 stands_in (t ∷ ts) x = is_among (entries (tree_of t)) x || stands_in ts x
 
--- one more tree, for an entry that no tree has
+-- a tree for the entry, unless one of the trees has it
 abbrev pub added : List Column → List Tree → ℕ → List BergeTree
 added columns trees x = if stands_in trees x then [] else tree_at 16 columns x ∷ []

@@ -10,7 +10,7 @@ ghost use Rattle.berge_tree.specs.Trees.{BergeTree, entries};
 ghost use Rattle.berge_tree.specs.declared.edges.Edge.{Edge};
 ghost use Rattle.berge_tree.specs.declared.edges.Place.{Place};
 
-/// Columns have one class exactly where they are equal whenever all equalities hold.
+/// Two columns are in one class exactly if they are equal whenever all equalities hold.
 pub fn classes_are_joined_columns()
     ensures { (es : List Edge) (p q : Place) → (class_of es p ≡ class_of es q) ↔ AreInOneClass es p q }
 {}
@@ -20,7 +20,7 @@ pub fn no_cycle_of_classes()
     ensures { (es : List Edge) → ClosesNoCycle es → HasNoCycle (class_of es) }
 {}
 
-/// Two entries are apart where names tell them from one another that each equality keeps equal.
+/// Two entries are apart if they have different names, and each equality joins entries of the same name.
 pub fn names_keep_entries_apart()
     ensures { (es : List Edge) (a b : ℕ) (name : ℕ → ℕ)
         → AllByRecursion (λ e. name e.left.entry ≡ name e.right.entry) es
@@ -32,13 +32,13 @@ pub fn joined_parts_close_no_cycle()
     ensures { (es : List Edge) → joins_parts (λ e. e) es ≡ true → ClosesNoCycle es }
 {}
 
-/// Where a test of bits says so, equalities join entries of a set.
+/// If `has_entries` is true for the bits of a set, the equalities join entries of this set.
 pub fn bits_tell_what_a_set_has()
     ensures { (subset : ℕ) (es : List Edge) → has_entries subset es ≡ true
         → AreWithin (entries_of_set subset) es }
 {}
 
-/// A tree of equalities is a component: it has all that they connect with one of its entries and nothing else, and each entry once.
+/// A tree of equalities is a component: it has every entry that they connect with its root, no other entry, and each entry once.
 pub fn a_tree_is_a_component()
     ensures whole { (es : List Edge) (t : BergeTree) → IsTreeOf es t
         → (p q : Place) → Contains (entries t) p.entry → class_of es p ≡ class_of es q

@@ -4,8 +4,8 @@
 //! the set, in boxes. A class is a largest set of columns that the equalities connect; below an entry stand the classes of its other
 //! columns, below a class its other entries. `Classed` tells whether two columns are in one class.
 //!
-//! Callers cite `ClosesNoCycle` and `AreWithin` for what they hand in, `tree_of` for the tree that boxes hold, `AreAllTreesOf` for the
-//! trees of a set, and `class_of` for the class of a column.
+//! Callers cite `ClosesNoCycle` and `AreWithin` for what they hand in. For what they get they cite `AreAllTreesOf` (the trees of a set),
+//! `tree_of` (the tree that boxes hold) and `class_of` (the class of a column).
 #![tactic(auto)]
 
 mod classes;

@@ -14,10 +14,10 @@ use base_io::{NoMemory, Seq};
 use entry_sets::EntrySet;
 use std::alloc::Global;
 
-// An entry stands once in a tree, and there are at most sixteen.
+// An entry stands once in a tree, and there are at most sixteen entries, so no tree is deeper.
 const DEPTH: u8 = 16;
 
-// Whether the column is one of the entry's, and not the column of the class above.
+// Whether this is a column of the entry, but not its column in the class above.
 fn is_at(column: Column, entry: u8, above: Option<u32>) -> bool
     ensures { result ≡ is_at entry above column }
 {
@@ -28,7 +28,7 @@ fn is_at(column: Column, entry: u8, above: Option<u32>) -> bool
     column.place.entry == entry && !is_above
 }
 
-// Whether the column is another one of the class.
+// Whether the column is another column in the class of `above`.
 fn is_other(above: Column, column: Column) -> bool
     ensures { result ≡ is_other above column }
 {
@@ -57,7 +57,7 @@ fn next_other(columns: &[Column], from: usize, above: Column) -> Option<usize>
     None
 }
 
-// The classes of those columns of an entry that stand from a place on.
+// The classes below an entry for those of its columns that stand at place `from` or later.
 #[cycle(walk)]
 fn classes_at(
     alloc: Global,
@@ -85,7 +85,7 @@ fn classes_at(
     }
 }
 
-// The members of a class whose columns stand from a place on, each with all that is below it. It answers None if there are no such members.
+// The members of a class whose columns stand at place `from` or later, each with all that is below it. `None` if there are no such members.
 #[cycle(walk)]
 fn members_at(
     alloc: Global,
@@ -213,8 +213,8 @@ fn add_tree(
 
 /// The trees of the set: one for each component, in the order of their roots, each rooted at its least entry.
 ///
-/// The children of an entry are its classes other than the one above, in the order of the columns' numbers; those of a class are its other
-/// entries, in FROM order.
+/// The children of an entry are its classes other than the one above, in the order of the columns' numbers. The children of a class are its
+/// other entries, in FROM order.
 pub fn rooted(alloc: Global, edges: &[Edge], subset: EntrySet) -> Result<Seq<Tree>, NoMemory>
     requires within { AreWithin (entries_of_set subset) edges.now }
     requires no_cycle { ClosesNoCycle edges.now }

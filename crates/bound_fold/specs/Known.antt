@@ -6,7 +6,7 @@ use Rattle.std.specs.declared.hash.BuildHasherDefault.{BuildHasherDefault}
 use Rattle.std.specs.HashMap.{get, HashMap}
 use Rattle.degree_sequences.specs.Falling.{IsFalling}
 
--- a map by numbers or pairs
+-- a hash map, here with numbers or pairs as its keys
 abbrev pub MapOf : Type 0 → Type 0 → Type 0
 MapOf K X = HashMap K X (BuildHasherDefault FoldHasher)
 

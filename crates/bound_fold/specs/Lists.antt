@@ -1,4 +1,4 @@
--- What an `EntryLists` holds, as bounds of entries, and what a tree needs of it.
+-- What an `EntryLists` holds, how it is read as `EntryBounds`, and what a tree needs of it.
 use Rattle.std.specs.Prelude.{ℕ, List, [], Option, unwrap_or, IsSome}
 use Rattle.std.specs.List.{AllByRecursion}
 use Rattle.berge_tree.specs.Trees.{BergeTree, entries}
@@ -15,7 +15,7 @@ rows_of lists entry = rows_in lists.rows entry
 abbrev pub list_of : EntryLists → ℕ → ℕ → Option (List ℕ)
 list_of lists entry column = list_in lists.lists entry column
 
--- the same as bounds of entries, with 0 and the empty list for what is not there
+-- the row bounds and lists as `EntryBounds`: a row bound that was not set is 0, and a list that was not added is empty
 abbrev pub bounds_of : EntryLists → EntryBounds
 bounds_of lists = record {
   rows = λ entry. unwrap_or (rows_of lists entry) 0;

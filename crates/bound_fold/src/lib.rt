@@ -1,14 +1,14 @@
-//! The fold of a join tree, and the bound of a set of entries: the numbers that no join of them passes, from the lists of their columns.
+//! The fold of a join tree, and the bound of a set of entries: from the lists of columns, numbers that no join of the entries exceeds.
 //!
 //! In: a tree of entries and classes, and for each entry a row bound and falling lists of its joined columns, as pieces. Out: one number
 //! of 128 bits.
 //!
 //! The fold goes from the leaves up. A class multiplies the lists of the entries below it, rank by rank. An entry composes its own list with
-//! the lists of the classes below it. The root sums the weights of its rows; this sum is the bound of the tree. In each turn, the bound of a
-//! set of entries is the product over the trees of the equalities that the set keeps. The least of all turns is the bound of the set.
+//! the lists of the classes below it. The root sums the weights of its rows; this sum is the bound of the tree. In each turn a set of entries
+//! keeps some equalities, and multiplies the bounds of their trees. The least product of all turns is the bound of the set.
 //!
-//! Callers cite `rows_of` and `list_of` for what an `EntryLists` holds, `bounds_of` for the same as bounds of entries, `IsListed` for what
-//! a tree needs of it, and `SetIsListed` for what a set does.
+//! Callers cite `rows_of` and `list_of` for what an `EntryLists` holds, and `bounds_of` for the same as `EntryBounds`. They cite `IsListed` for
+//! what a tree needs of it, and `SetIsListed` for what a set needs.
 #![tactic(auto)]
 
 mod listed;

@@ -9,7 +9,7 @@ use piece_math::Pieces;
 use std::alloc::Global;
 use std::collections::HashMap;
 
-/// For each entry its row bound, and for each of its columns a list; each is there or not.
+/// Row bounds of entries and lists of their columns. An entry may have no row bound yet, and a column no list.
 ///
 /// The sum of each list is the row bound of its entry.
 #[derive(Drop)]
@@ -55,7 +55,7 @@ impl EntryLists {
         ensures rows { (other : ℕ) → rows_of self.new other ≡ rows_of self.old other }
         ensures err { OnErr result (list_of self.new entry column ≡ None) }
     {
-        // What is looked at here is that the list falls.
+        // This call tells the proof that the list falls.
         let _ = list.pieces();
         self.lists.insert((entry, column), list)?;
         Ok(())

@@ -18,7 +18,7 @@ use berge_tree::{Classes, Members, Tree};
 use piece_math::{Child, Pieces, compose, root_total};
 use std::alloc::Global;
 
-// Adds the classes below an entry, each with the entry's list in it and the list of the class.
+// For each class below an entry, adds the entry's list for that class, and the list of the class.
 #[cycle(folding)]
 fn add_children(
     children: &mut Vec<Child>,
@@ -89,14 +89,14 @@ fn own_list(list: &Pieces) -> Result<Pieces, NoMemory>
     requires { sum list.now < 2 ^ 64 }
     ensures { IfOk result (λ own. own ≡ map saturated (composed list.now [])) }
 {
-    // What is looked at here is that the list falls, and that its numbers are positive.
+    // This call tells the proof that the list falls, and that its numbers are positive.
     let _ = list.pieces();
     list.copy()
 }
 
 /// The bound of a tree, or `u128::MAX` where it is larger.
 ///
-/// From the leaves up, an entry's list is composed with those of the classes below it, and a class multiplies the lists
+/// From the leaves up, an entry's list is composed with the lists of the classes below it. A class multiplies the lists
 /// of the entries below it (Degree Sequence Bound, ICDT 2023; SafeBound, SIGMOD 2023). Where the lists dominate tables,
 /// no join of the tables along the tree has more rows.
 pub fn fold(alloc: Global, tree: &Tree, lists: &EntryLists) -> Result<u128, NoMemory>

@@ -1,4 +1,4 @@
-//! The bound of a set of entries: the least over the turns of the product over the trees.
+//! The bound of a set of entries: in each turn the product of the bounds of its trees, and of all turns the least.
 ghost use Rattle.std.specs.Prelude.{◌≡◌, ◌⊎◌, ◌-◌, ◌^◌, ◌≤◌, ℕ, List, length, map, IfOk};
 ghost use Rattle.std.specs.List.{AllByRecursion};
 ghost use Rattle.degree_sequences.specs.Saturation.{saturated};
@@ -31,7 +31,8 @@ fn product_of_trees(alloc: Global, trees: &[Tree], lists: &EntryLists) -> Result
     Ok(product)
 }
 
-/// The bound that a set has in one turn, or `u128::MAX` where it is larger: the product over the trees of the equalities that it keeps.
+/// The bound of a set in one turn, or `u128::MAX` where it is larger. It is the product of the bounds of the trees of the equalities that
+/// the set keeps in that turn.
 pub fn turn_bound(
     alloc: Global,
     parts: &Parts,
@@ -49,9 +50,9 @@ pub fn turn_bound(
 
 /// The bound of a set of entries, or `u128::MAX` where it is larger.
 ///
-/// In each turn the set has the trees of the equalities that it keeps, and the product of their bounds; of the turns the
-/// least counts (SafeBound, SIGMOD 2023). What a turn leaves out only makes rows fewer. Where the lists dominate tables, no
-/// join of the set's tables by all its equalities has more rows.
+/// In each turn the set keeps some equalities, and its bound is the product of the bounds of their trees. Of all turns the
+/// least bound counts (SafeBound, SIGMOD 2023). The equalities that a turn leaves out can only make the rows fewer. Where
+/// the lists dominate tables, no join of the set's tables by all its equalities has more rows.
 pub fn set_bound(
     alloc: Global,
     parts: &Parts,

@@ -1,4 +1,4 @@
-//! The rows of small trees over whole tables, and that their plans are plans of their queries over whole scans.
+//! Small join trees: the rows of their nodes over whole tables, and that each plan is a plan of its query over whole scans.
 ghost use Rattle.std.specs.Prelude.{◌≡◌, ◌∷◌, []};
 ghost use Rattle.sql_meaning.specs.Examples.{triangle, triangle_tables};
 ghost use Rattle.hash_join.specs.Examples.{pair, six_and_five, twice_three};
@@ -7,14 +7,14 @@ ghost use Rattle.join_steps.specs.Lists.{scans_of};
 ghost use Rattle.bushy_join.specs.Trees.{whole_rows, IsTreePlanOf};
 ghost use Rattle.bushy_join_tests.specs.Examples.{alone, never, pair_plan, three, triangle_plan, twice};
 
-/// Two tables with one inner node: of 30 choices six.
+/// Two tables with one inner node, which has six of the 30 choices.
 pub fn two_tables()
     ensures plan { IsTreePlanOf pair (tables_of six_and_five) (scans_of pair (tables_of six_and_five)) pair_plan }
     ensures inner { whole_rows pair (tables_of six_and_five) pair_plan 2
         ≡ (0 ∷ 0 ∷ []) ∷ (0 ∷ 1 ∷ []) ∷ (1 ∷ 0 ∷ []) ∷ (1 ∷ 1 ∷ []) ∷ (2 ∷ 0 ∷ []) ∷ (2 ∷ 1 ∷ []) ∷ [] }
 {}
 
-/// The triangle: five rows at the inner node and four at the root, with its leaves from left to right.
+/// The triangle: five rows at the inner node below the root and four at the root, each with the leaves from left to right.
 pub fn triangles()
     ensures plan { IsTreePlanOf triangle (tables_of triangle_tables) (scans_of triangle (tables_of triangle_tables)) triangle_plan }
     ensures inner { whole_rows triangle (tables_of triangle_tables) triangle_plan 3
@@ -23,7 +23,7 @@ pub fn triangles()
         ≡ (0 ∷ 0 ∷ 0 ∷ []) ∷ (0 ∷ 1 ∷ 1 ∷ []) ∷ (1 ∷ 0 ∷ 2 ∷ []) ∷ (2 ∷ 2 ∷ 0 ∷ []) ∷ [] }
 {}
 
-/// A condition that names no entry and fails: a root that is a leaf is empty, and so is an inner node, but not a leaf that is joined.
+/// A condition that names no entry and fails. A root that is a leaf is empty, and so is an inner node, but a leaf that is joined is not.
 pub fn constants()
     ensures plan_alone { IsTreePlanOf (never (0 ∷ [])) (tables_of three) (scans_of (never (0 ∷ [])) (tables_of three)) alone }
     ensures alone { whole_rows (never (0 ∷ [])) (tables_of three) alone 0 ≡ [] }

@@ -16,18 +16,18 @@ inner_sum bounds (leaf entry) = 0
 inner_sum bounds (node left right) = slice_index bounds (leaf_set left + leaf_set right) + inner_sum bounds left
     + inner_sum bounds right
 
--- the cost of a whole tree: the largest bound of its inner nodes, and of a leaf alone its own
+-- the cost of a whole tree: the largest bound of its inner nodes, and for a leaf alone its own bound
 abbrev pub cost : List ℕ → PlanTree → ℕ
 cost bounds (leaf entry) = slice_index bounds (2 ^ entry)
 cost bounds (node left right) = inner_greatest bounds (node left right)
 
--- the sum of these bounds
+-- the total of a whole tree: the sum of the bounds of its inner nodes, and for a leaf alone its own bound
 abbrev pub total : List ℕ → PlanTree → ℕ
 total bounds (leaf entry) = slice_index bounds (2 ^ entry)
 total bounds (node left right) = inner_sum bounds (node left right)
 
--- Of two trees over one set the one comes before the other: the number of its left set at the root is less;
--- or where these sets are the same, its left tree comes before the other's; or where these trees are the same, its right tree does
+-- Of two trees over one set the first comes before the other if its left set at the root has the lower number. If these sets are the same,
+-- the left trees decide; if the left trees are the same too, the right trees decide
 abbrev pub IsTreeBefore : PlanTree → PlanTree → Type 0
 IsTreeBefore (leaf a) other = ⊥
 IsTreeBefore (node left right) (leaf b) = ⊥
@@ -39,7 +39,7 @@ IsTreeBefore (node left right) (node left' right') =
 abbrev pub all_of : ℕ → ℕ
 all_of n = 2 ^ n - 1
 
--- the tree has the least cost, among those of least cost the least sum, and none of this sum comes before it
+-- the tree has the least cost, and the least sum among the trees of least cost. No tree of the same cost and sum comes before it
 pub record IsBest (bounds : List ℕ) (n : ℕ) (best : PlanTree) : Type 0 where
   pub is_tree : IsTreeOver (all_of n) best
   pub none_cheaper : (other : PlanTree) → IsTreeOver (all_of n) other → cost bounds best ≤ cost bounds other
@@ -48,7 +48,7 @@ pub record IsBest (bounds : List ℕ) (n : ℕ) (best : PlanTree) : Type 0 where
   pub none_earlier : (other : PlanTree) → IsTreeOver (all_of n) other → cost bounds other ≡ cost bounds best
       → total bounds other ≡ total bounds best → ¬ IsTreeBefore other best
 
--- joins are those of the best tree, with the bounds of their sets, and this is its cost
+-- the joins are those of the best tree, with the bounds of their sets, and `cheapest` is its cost
 pub record AreOfBest (bounds : List ℕ) (n cheapest : ℕ) (joins : List Join) : Type 0 where
   pub tree : PlanTree
   pub is_best : IsBest bounds n tree

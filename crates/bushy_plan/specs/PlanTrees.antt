@@ -25,7 +25,7 @@ pub record IsSplit (set left right : ℕ) : Type 0 where
   pub some_right : 0 < right
   pub first_left : (first : ℕ) → IsFirstEntry set first → bit_at left first ≡ 1
 
--- the trees over a set: of one entry its leaf, and of more a split and a tree over each side
+-- the trees over a set: for one entry its leaf, and for more entries a split with a tree over each side
 abbrev pub IsTreeOver : ℕ → PlanTree → Type 0
 IsTreeOver set (leaf entry) = set ≡ 2 ^ entry
 IsTreeOver set (node left right) = IsSplit set (leaf_set left) (leaf_set right) × IsTreeOver (leaf_set left) left
@@ -36,7 +36,7 @@ abbrev pub inner_count : PlanTree → ℕ
 inner_count (leaf entry) = 0
 inner_count (node left right) = inner_count left + inner_count right + 1
 
--- The number of the root: of a leaf its entry. Inner nodes are numbered from `next` on, each behind its left and then its right subtree.
+-- The number of the root; that of a leaf is its entry. Inner nodes are numbered from `next` on: the left subtree's, the right one's, the root.
 abbrev pub root_number : ℕ → PlanTree → ℕ
 root_number next (leaf entry) = entry
 root_number next (node left right) = next + inner_count left + inner_count right

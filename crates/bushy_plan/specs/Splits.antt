@@ -1,4 +1,4 @@
--- What a tree weighs, by the splits of its sets. The search's own words; no public clause cites them.
+-- The weight of a tree, by the splits of its sets. Only the search uses these definitions; no public contract cites them.
 use Rattle.std.specs.Prelude.{◌≡◌, ◌≢◌, ℕ, ◌+◌, ◌-◌, ◌^◌, ◌<◌, ◌≤◌, max, min, List, ◌++◌, length, slice_index, nat_le, if◌then◌else◌}
 use Rattle.limits.specs.Profile.{top_bound}
 use Rattle.tree_plans.specs.declared.bushy.Join.{Join}
@@ -7,18 +7,18 @@ use Rattle.bushy_plan.specs.PlanTrees.{PlanTree, leaf, node, IsFirstEntry, IsSpl
 use Rattle.bushy_plan.specs.declared.weight.Weight.{Weight}
 use Rattle.bushy_plan.specs.declared.weight.Weight.TheVariants as weight
 
--- the entries of a set but for its first
+-- the entries of a set without its first one
 pub record IsBehindFirst (set behind : ℕ) : Type 0 where
   pub first : ℕ
   pub is_first : IsFirstEntry set first
   pub others : behind ≡ set - 2 ^ first
 
--- the bound of a node and the weights of its two sides. Where the bound is above what a sum may have, nothing is heavier
+-- the weight of a node, from its bound and the weights of its two sides. With `SumWithin`, a bound above `most` gives the greatest weight
 abbrev pub combined : Weight → ℕ → ℕ → ℕ → ℕ
 combined weight.Greatest bound left right = max bound (max left right)
 combined (weight.SumWithin most) bound left right = if nat_le bound most then (min (bound + left + right) top_bound) else top_bound
 
--- the weight of a tree: the bounds of its inner nodes, joined
+-- the weight of a tree, from the bounds of its inner nodes; a leaf weighs nothing
 abbrev pub weight_of : Weight → List ℕ → PlanTree → ℕ
 weight_of w bounds (leaf entry) = 0
 weight_of w bounds (node left right) = combined w (slice_index bounds (leaf_set left
@@ -31,7 +31,7 @@ pub record IsLeastWeight (w : Weight) (bounds : List ℕ) (set least : ℕ) : Ty
   pub weighs : weight_of w bounds tree ≡ least
   pub none_lighter : (other : PlanTree) → IsTreeOver set other → least ≤ weight_of w bounds other
 
--- the table has the least weight for each set of a smaller number. Number 0 is no tree's set
+-- the table has the least weight of each set with a number below `end`. It says nothing of number 0, as no tree is over the empty set
 abbrev pub IsTable : Weight → List ℕ → List ℕ → ℕ → Type 0
 IsTable w bounds table end = (set : ℕ) → 0 < set → set < end → IsLeastWeight w bounds set (slice_index table set)
 
@@ -39,20 +39,20 @@ IsTable w bounds table end = (set : ℕ) → 0 < set → set < end → IsLeastWe
 abbrev pub weight_through : Weight → List ℕ → List ℕ → ℕ → ℕ → ℕ
 weight_through w bounds table set right = combined w (slice_index bounds set) (slice_index table (set - right)) (slice_index table right)
 
--- the right set of a lightest split, and no greater one is of such: so its left set has the least number
+-- `right` is the right set of a lightest split, and no lightest split has a greater one. So its left set has the least number
 pub record IsFirstLightestSplit (w : Weight) (bounds table : List ℕ) (set right : ℕ) : Type 0 where
   pub is_split : IsSplit set (set - right) right
   pub lightest : weight_through w bounds table set right ≡ slice_index table set
   pub first : (other : ℕ) → IsSplit set (set - other) other → right < other
       → weight_through w bounds table set other ≢ slice_index table set
 
--- no tree over the set is lighter, and none of its weight comes before it
+-- no tree over the set is lighter, and no tree of the same weight comes before it
 pub record IsFirstLightest (w : Weight) (bounds : List ℕ) (set : ℕ) (tree : PlanTree) : Type 0 where
   pub is_tree : IsTreeOver set tree
   pub none_lighter : (other : PlanTree) → IsTreeOver set other → weight_of w bounds tree ≤ weight_of w bounds other
   pub none_earlier : (other : PlanTree) → IsTreeOver set other → weight_of w bounds other ≡ weight_of w bounds tree → ¬ IsTreeBefore other tree
 
--- the joins of the first of the lightest trees were appended, and this is the number of its root. Inner nodes are numbered from `next` on
+-- the joins of the first of the lightest trees were appended, and its root has the number `root`. Inner nodes are numbered from `next` on
 pub record IsReadOff (w : Weight) (bounds : List ℕ) (next set : ℕ) (old new : List Join) (root : ℕ) : Type 0 where
   pub tree : PlanTree
   pub is_first : IsFirstLightest w bounds set tree

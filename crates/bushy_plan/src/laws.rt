@@ -9,14 +9,14 @@ ghost use Rattle.bushy_plan.specs.PlanTrees.{PlanTree, leaf_set, joins_from, lea
 ghost use Rattle.order_search.specs.declared.refusal.PlanError.{PlanError};
 ghost use Rattle.order_search.specs.declared.refusal.PlanError.TheVariants as error;
 
-/// Of any number of entries, over any bounds, exactly one tree is best.
+/// For any number of entries from 1 on, and for any bounds, exactly one tree is best.
 pub fn one_best_tree()
     ensures some { (bounds : List ℕ) (n : ℕ) → 1 ≤ n → (best : PlanTree) × IsBest bounds n best }
     ensures one { (bounds : List ℕ) (n : ℕ) (a b : PlanTree) → IsBest bounds n a → IsBest bounds n b → a ≡ b }
 {}
 
-/// Where the best tree costs no more than the budget, no refusal has a cause but want of memory; and besides that one refusal at most has
-/// one.
+/// If the best tree costs no more than the budget, only want of memory can be the cause of a refusal. Besides want of memory, at most one
+/// refusal has a cause.
 pub fn one_answer()
     ensures accepted { (bounds : List ℕ) (n budget : ℕ) (best : PlanTree) (e : PlanError) → budget ≤ greatest_budget
         → IsBest bounds n best → cost bounds best ≤ budget → IsCause bounds n budget e → e ≡ error.NoMemory }

@@ -1,4 +1,4 @@
-//! The search.
+//! The search for the best join tree.
 ghost use Rattle.std.specs.Prelude.{◌≡◌, ◌-◌, ◌≤◌, ◌<◌, ◌^◌, ℕ, List, length, slice_index, IfErr, IfOk};
 ghost use Rattle.std.specs.List.{AllByRecursion};
 ghost use Rattle.limits.specs.Profile.{greatest_budget, most_entries, top_bound};
@@ -17,15 +17,16 @@ use order_search::PlanError;
 use std::alloc::Global;
 use tree_plans::{BushyPlan, Join};
 
-/// The best join tree of n entries, n from 1 to 12, over a bound for each of the 2^n sets: the tree of least cost, which is the greatest
-/// bound of its inner nodes; among those the one of least sum of these bounds; among those the first by the number of the left set at the
-/// root, then by the left tree, then by the right one.
+/// The best join tree of n entries, n from 1 to 12, from a bound for each of the 2^n sets. The cost of a tree is the greatest bound of its
+/// inner nodes. The best tree has the least cost, and among the trees of that cost the least sum of these bounds. Of several such trees the
+/// first is best: first by the number of the left set at the root, then by the left tree, then by the right one.
 ///
-/// All bounds and the budget are in rows. A bound of 2^128 - 1 stands for all from there on.
-/// It fills two tables of 2^n numbers in 3^n steps each, only one of which is in memory at a time: the least cost over sets, then the least sum by
-/// trees within that cost. A set's left part has its first entry, so each tree is looked at once.
+/// All bounds and the budget are in rows. A bound of 2^128 - 1 means that number or more.
+/// It fills two tables of 2^n numbers, in at most 3^n steps each, and only one of them is in memory at a time. The first has the least cost for
+/// each set. The second has the least sum for each set, over trees within the least cost. The left part of a set has its first entry, so
+/// each split is looked at once.
 ///
-/// `Budget` and `PastBits` come exactly where `IsCause` says; `NoMemory` where memory is wanting.
+/// It answers `Budget` or `PastBits` exactly where `IsCause` says, and `NoMemory` where memory is wanting.
 pub fn choose_bushy(
     alloc: Global,
     bounds: &Seq<u128>,
@@ -78,7 +79,7 @@ fn least_cost(alloc: Global, count: u8, bounds: &[u128]) -> Result<u128, NoMemor
     Ok(costs[bounds.len() - 1])
 }
 
-// The joins of the first tree of least sum among those of the least cost.
+// The joins of the best tree: among the trees of least cost, the first of those that have the least sum.
 fn best_joins(alloc: Global, count: u8, bounds: &[u128], least: u128) -> Result<Vec<Join>, NoMemory>
     requires some { 1 ≤ count }
     requires count { count ≤ most_entries }

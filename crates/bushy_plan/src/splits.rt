@@ -1,4 +1,4 @@
-//! The splits of a set, as the code goes through them. A set is the number whose bits are its entries, and so the place of its bound.
+//! The splits of a set, as the code goes through them. A set is the number whose bits are its entries, and its bound is at that place.
 ghost use Rattle.std.specs.Prelude.{◌<◌};
 ghost use Rattle.bushy_plan.specs.PlanTrees.{IsFirstEntry};
 ghost use Rattle.bushy_plan.specs.Splits.{IsBehindFirst};

@@ -1,20 +1,20 @@
-//! What the search keeps small.
+//! The weight of a tree. The search looks for the lightest tree.
 ghost use Rattle.std.specs.Prelude.{◌≡◌};
 ghost use Rattle.bushy_plan.specs.Splits.{combined as joined_of};
 
 use limits::TOP_BOUND;
 
-// How the bounds in a tree make its weight.
+// How the weight of a tree is made from the bounds of its inner nodes.
 #[derive(Clone, Copy)]
 pub(crate) enum Weight {
     /// The greatest of them.
     Greatest,
-    /// Their sum, where none is above this; else the heaviest that there is.
+    /// Their sum if each of them is at most this number, else `TOP_BOUND`.
     SumWithin(u128),
 }
 
 impl Weight {
-    // The bound of a node and the weights of its two sides.
+    // The weight of a node, from its bound and the weights of its two sides.
     pub(crate) fn joined(self, bound: u128, left: u128, right: u128) -> u128
         ensures { result ≡ joined_of self bound left right }
     {

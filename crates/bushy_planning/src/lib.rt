@@ -1,11 +1,11 @@
-//! Plans over join trees: from a query and its database to the best join tree of its entries, with the bounds of its scans and nodes.
+//! Plans a query by the best join tree of its entries, with bounds of the tree's scans and nodes.
 //!
 //! This is the stage before joins over a tree, as planning is the stage before joins along an order. In: a query and the tables of its entries.
-//! The crate takes the bounds of all scans and of all sets of entries from planning, and chooses the tree of least cost over them. Out: the
-//! plan, or why no plan is within the budget.
+//! The crate takes the bounds of all scans and of all sets of entries from planning, and chooses the tree that costs least by these bounds.
+//! Out: the plan, or why there is no plan.
 //!
 //! Callers cite `tree_answer` of tree_answers for the answer, and `IsTreePlanOf` of bushy_join for a plan in which no bound is too low.
-//! `BoundLevels` and `BoundLists` of planning say when bounds serve.
+//! `BoundLevels` and `BoundLists` of planning say which bounds of sets and of scans are never too low.
 //!
 //! ```text
 //! let plan = plan_bushy(alloc, &query, &db, accuracy, budget)?;

@@ -1,14 +1,14 @@
--- Statistics of worked examples.
+-- Statistics of small columns, for worked examples.
 use Rattle.std.specs.Prelude.{ℕ, List, [], ◌∷◌}
 use Rattle.std.specs.List.{zip}
 use Rattle.schema_types.specs.declared.types.Kind.TheVariants as kind
 use Rattle.column_stats.specs.declared.stats.ColumnStats.{ColumnStats}
 use Rattle.column_stats.specs.Stats.{stats_of}
 
--- those of a column of numbers with itself
+-- the statistics of a column of numbers at accuracy 1, with itself as the joined column
 abbrev pub of_itself : List ℕ → ColumnStats
 of_itself column = stats_of [] kind.Int 1 (zip column column)
 
--- the column 1, 1, 1, 2, 2, 3 with itself
+-- the same for the column 1, 1, 1, 2, 2, 3
 abbrev pub of_six : ColumnStats
 of_six = of_itself (1 ∷ 1 ∷ 1 ∷ 2 ∷ 2 ∷ 3 ∷ [])

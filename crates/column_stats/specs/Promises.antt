@@ -1,5 +1,5 @@
--- What statistics of rows of a filter value and a joined key promise: they answer what is made on demand, and no list is under the rows
--- that it stands for. How values compare is a parameter.
+-- What statistics of rows promise: they give the lists that cond_stats makes on demand, and each list dominates the joined keys of the
+-- rows that it stands for. A row is a filter value and a joined key. `at_most` says how values compare.
 use Rattle.std.specs.Prelude.{ℕ, ◌≡◌, ◌<◌, ◌&&◌, nat_le, Bool, List, Option, Some, IfSome}
 use Rattle.degree_sequences.specs.Domination.{DominatesKeys}
 use Rattle.cond_stats.specs.Leaves.{IsNodeSize, in_node, leaf_of}
@@ -8,11 +8,11 @@ use Rattle.cond_stats.specs.Rows.{filter_values, joined_keys, keys_where}
 use Rattle.column_stats.specs.declared.stats.ColumnStats.{ColumnStats}
 use Rattle.column_stats.specs.Stats.{list_for_node, list_for_range, list_for_value}
 
--- each value, or None, has the list that is made on demand
+-- for each value, and for None, the statistics give the list that is made on demand
 abbrev pub AnswerValues : ℕ → List (ℕ × ℕ) → ColumnStats → Type 0
 AnswerValues accuracy rows stats = (value : Option ℕ) → list_for_value stats value ≡ list_of_value accuracy rows value
 
--- each range has the list that is made on demand
+-- for each range of leaves the statistics give the list that is made on demand
 abbrev pub AnswerRanges : (ℕ → ℕ → Bool) → ℕ → List (ℕ × ℕ) → ColumnStats → Type 0
 AnswerRanges at_most accuracy rows stats =
     (low high : Option ℕ) → IfSome low (λ leaf. leaf < 32) → IfSome high (λ leaf. leaf < 32)
@@ -22,18 +22,18 @@ AnswerRanges at_most accuracy rows stats =
 abbrev pub WholeDominates : List (ℕ × ℕ) → ColumnStats → Type 0
 WholeDominates rows stats = DominatesKeys stats.whole (joined_keys rows)
 
--- the list of each value dominates the keys of the rows that have it, whether it is frequent or not
+-- the list of each value, frequent or not, dominates the keys of the rows that have the value
 abbrev pub ValuesDominate : List (ℕ × ℕ) → ColumnStats → Type 0
 ValuesDominate rows stats = (value : ℕ) → DominatesKeys (list_for_value stats (Some value)) (keys_with value rows)
 
--- the list of each node dominates the keys of the rows whose leaf lies in it
+-- the list of each node dominates the keys of the rows whose leaf lies in the node
 abbrev pub NodesDominate : (ℕ → ℕ → Bool) → List (ℕ × ℕ) → ColumnStats → Type 0
 NodesDominate at_most rows stats =
     (size leaf : ℕ) → IsNodeSize size → leaf < 32
     → DominatesKeys (list_for_node stats size leaf)
     (keys_where (λ value. in_node size leaf (leaf_of at_most (filter_values rows) value)) rows)
 
--- the list of each range dominates the keys of the rows whose leaf lies from its low leaf to its high one
+-- the list of each range dominates the keys of the rows whose leaf is at least the low leaf and at most the high one
 abbrev pub RangesDominate : (ℕ → ℕ → Bool) → List (ℕ × ℕ) → ColumnStats → Type 0
 RangesDominate at_most rows stats =
     (low high : ℕ) → low < 32 → high < 32

@@ -1,4 +1,4 @@
--- Statistics of a filter column for a joined column: their parts, and what they answer.
+-- Statistics of a filter column for a joined column: their parts, and the lists and leaves that they give.
 use Rattle.std.specs.Prelude.{ℕ, nat_eq, ◌≡◌, ◌<◌, ◌==◌, ◌⊎◌, List, [], map, length, find, All, Option, None, Some, unwrap_or, slice_index_or}
 use Rattle.std.specs.List.{IsDistinct}
 use Rattle.std.specs.Option.{option_map_or}
@@ -22,7 +22,7 @@ frequent_list accuracy rows value = record { cell = value; list = compressed_deg
 abbrev pub frequent_lists : ℕ → List (ℕ × ℕ) → List FrequentList
 frequent_lists accuracy rows = map (frequent_list accuracy rows) (frequent (filter_values rows))
 
--- the statistics of rows of a filter value and a joined key
+-- the statistics of rows, each a filter value and a joined key
 abbrev pub stats_of : List (List ℕ) → Kind → ℕ → List (ℕ × ℕ) → ColumnStats
 stats_of texts kind accuracy rows = record {
   kind = kind;
@@ -34,26 +34,26 @@ stats_of texts kind accuracy rows = record {
   nodes = node_lists (cell_le texts kind) accuracy rows;
 }
 
--- the list of a value, by its cell: the frequent list of the cell, else the rest list. None is a value that no cell has
+-- the list of a value, given by its cell: its own list where it is frequent, else the rest list. None is a value without a cell
 abbrev pub list_for_value : ColumnStats → Option ℕ → List ℕ
 list_for_value stats None = stats.rest
 list_for_value stats (Some value) = option_map_or (λ found. found.list) (find (λ found. found.cell == value) stats.frequent) stats.rest
 
--- the list of the node of a size that holds a leaf, and the empty list where there are no nodes
+-- the list of the node of this size that holds this leaf, or the empty list where there are no nodes
 abbrev pub list_for_node : ColumnStats → ℕ → ℕ → List ℕ
 list_for_node stats size leaf = slice_index_or stats.nodes (node_place size leaf) []
 
--- the list of a range, by the leaves of its ends: that of the least node that holds both
+-- the list of a range: the list of the least node that holds the leaves of both ends. A missing low end is leaf 0, a missing high end leaf 31
 abbrev pub list_for_range : ColumnStats → Option ℕ → Option ℕ → List ℕ
 list_for_range stats low high =
     let first = unwrap_or low 0 in
     list_for_node stats (node_size first (unwrap_or high 31)) first
 
--- the leaf of a value by the cuts: the last whose cut is at most the value. A text's cell stands for its text among these texts
+-- the leaf of a value: the last whose cut is at most the value, or 0 where no cut is. A cut of a text column is the number of one of `texts`
 abbrev pub leaf_by_cuts : List (List ℕ) → ColumnStats → Value → ℕ
 leaf_by_cuts texts stats value = last_place (λ cut. value_le (value_of_cell texts stats.kind cut) value) stats.cuts
 
--- statistics of no rows
+-- statistics of no rows: each list is empty, and there are no cuts and no nodes
 pub record AreOfNone (stats : ColumnStats) : Type 0 where
   pub no_rows : stats.rows ≡ 0
   pub whole_is : stats.whole ≡ []
@@ -62,13 +62,13 @@ pub record AreOfNone (stats : ColumnStats) : Type 0 where
   pub cuts_are : stats.cuts ≡ []
   pub nodes_are : stats.nodes ≡ []
 
--- statistics of some rows
+-- statistics of one or more rows: there are 32 cuts and 63 nodes
 pub record AreOfSome (stats : ColumnStats) : Type 0 where
   pub some_rows : 0 < stats.rows
   pub cuts_many : length stats.cuts ≡ 32
   pub nodes_many : length stats.nodes ≡ 63
 
--- the frequent values are different, and there are no cuts and no nodes, or 32 cuts and 63 nodes
+-- the frequent values are different, and the other parts are those of no rows, or of one or more rows
 pub record IsValid (stats : ColumnStats) : Type 0 where
   pub different : IsDistinct nat_eq (map (λ found. found.cell) stats.frequent)
   pub parts : AreOfNone stats ⊎ AreOfSome stats

@@ -1,4 +1,4 @@
-//! All statistics of a pair of columns, out of one sort.
+//! Makes all statistics of a filter column for a joined column, with one sort of the filter column.
 ghost use Rattle.std.specs.Prelude.{◌≡◌, ◌^◌, ◌<◌, IfOk, length};
 ghost use Rattle.std.specs.List.{sum, zip};
 ghost use Rattle.cond_stats.specs.Columns.{cell_le};
@@ -16,15 +16,15 @@ use limits::Accuracy;
 use schema_types::Kind;
 use std::alloc::Global;
 
-// How many rows there are.
+// How many rows the table has.
 fn row_count(cells: &Cells) -> u32
     ensures { result ≡ cells.now.rows }
 {
     cells.rows
 }
 
-/// The statistics of a sorted filter column for the keys of a joined column, row by row, part by part: for whoever makes those of several
-/// joined columns. The accuracy is that of compression.
+/// The statistics of a filter column that is sorted already; `joined` has the joined key of each row. Whoever makes statistics for several
+/// joined columns sorts the filter column once. `accuracy` says how near compressed lists are to the degrees.
 pub fn gather_sorted(
     alloc: Global,
     column: &FilterColumn<'_>,
@@ -77,8 +77,8 @@ fn made(
     gather_sorted(alloc, &column, kind, keys, accuracy)
 }
 
-/// The statistics of a filter column for a joined column, each by its number in the table (SafeBound, SIGMOD 2023). The accuracy is
-/// that of compression. Only memory may be wanting, and then nothing is kept.
+/// The statistics of a filter column for a joined column (SafeBound, SIGMOD 2023). `filter` and `joined` number the table's columns from 0.
+/// `accuracy` says how near compressed lists are to the degrees. The one error is `NoMemory`, and then nothing is kept.
 pub fn gather(
     alloc: Global,
     cells: &Cells,
@@ -90,17 +90,17 @@ pub fn gather(
     requires filter { HasColumn pool.now cells.now filter }
     requires joined { HasColumn pool.now cells.now joined }
 
-    // each part is its definition
+    // each part is what its definition says
     ensures parts { IfOk result (λ stats. stats ≡
         stats_of pool.now (kind_of_column cells.now filter) accuracy (rows_of_pair cells.now filter joined)) }
     ensures valid { IfOk result IsValid }
 
-    // what they answer is what is made on demand
+    // values and ranges have the lists that cond_stats makes on demand
     ensures values { IfOk result (AnswerValues accuracy (rows_of_pair cells.now filter joined)) }
     ensures ranges { IfOk result (AnswerRanges (cell_le pool.now (kind_of_column cells.now filter)) accuracy
         (rows_of_pair cells.now filter joined)) }
 
-    // no list is under the rows that it stands for
+    // each list dominates the joined keys of the rows that it stands for
     ensures whole_never_under { IfOk result (WholeDominates (rows_of_pair cells.now filter joined)) }
     ensures whole_total { IfOk result (λ stats. sum stats.whole ≡ cells.now.rows) }
     ensures value_never_under { IfOk result (ValuesDominate (rows_of_pair cells.now filter joined)) }

@@ -1,4 +1,4 @@
-//! The lists of the frequent values and of the nodes, out of the calls on demand.
+//! Makes the lists of all frequent values and of all nodes, with calls of `FilterColumn`.
 ghost use Rattle.std.specs.Prelude.{◌≡◌, ◌++◌, length, IfOk, OnOk};
 ghost use Rattle.std.specs.List.{zip};
 ghost use Rattle.cond_stats.specs.Columns.{cell_le};

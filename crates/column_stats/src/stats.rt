@@ -1,4 +1,4 @@
-//! Statistics, and what they answer without memory.
+//! The statistics of a filter column for a joined column, and the lists and leaves that they give. No call takes memory.
 ghost use Rattle.std.specs.Prelude.{◌≡◌, ◌<◌, ◌≤◌, ℕ, List, length, IfSome};
 ghost use Rattle.csv_tables.specs.Values.{Int, Text};
 ghost use Rattle.cond_stats.specs.Leaves.{node_size};
@@ -33,7 +33,7 @@ pub struct ColumnStats {
     pub rest: Pieces,
     /// The cells at which the leaves begin.
     pub cuts: Seq<u64>,
-    /// The lists of the nodes: of 1, 2, 4, 8, 16 and 32 leaves, those of one size by their first leaves.
+    /// The lists of the nodes of 1, 2, 4, 8, 16 and 32 leaves, in this order. Nodes of one size stand in the order of their leaves.
     pub nodes: Seq<Pieces>,
 }
 
@@ -54,8 +54,8 @@ impl ColumnStats {
         &self.rest
     }
 
-    /// The list of a range, by the leaves of its ends: that of the least node that holds both. `None` is leaf 0 as the low end, and
-    /// leaf 31 as the high end; crossed ends are treated in the same way. Without rows it is the empty list.
+    /// The list of a range, by the leaves of its ends: the list of the least node that holds both, whichever is greater. `None` is leaf 0
+    /// as the low end, and leaf 31 as the high end. Without rows the list is empty.
     pub fn for_range(&self, low: Option<u8>, high: Option<u8>) -> &Pieces
         requires valid { IsValid self.now }
         requires low { IfSome low (λ leaf. leaf < 32) }
@@ -71,7 +71,7 @@ impl ColumnStats {
         self.nodes.get(usize::from(place))
     }
 
-    /// The leaf of a number. In a column of texts no cut is at most a number.
+    /// The leaf of a number: the last whose cut is at most the number, or 0 where no cut is, as in a column of texts.
     pub fn leaf_int(&self, value: i64) -> u8
         requires { IsValid self.now }
         ensures leaf { (texts : List (List ℕ)) → result ≡ leaf_by_cuts texts self.now (Int value) }
@@ -80,8 +80,8 @@ impl ColumnStats {
         leaf_of_int(self.kind, self.cuts.as_slice(), cell_of(value))
     }
 
-    /// The leaf of a text, which the pool need not have. A cut stands for its text in this pool. In a column of numbers every cut is
-    /// at most a text.
+    /// The leaf of a text, which need not be in the pool: the last whose cut is at most the text, or 0 where no cut is. `pool` has the texts
+    /// of the cuts. In a column of numbers every cut is at most a text.
     pub fn leaf_text(&self, pool: &Pool, text: &str) -> u8
         requires { IsValid self.now }
         ensures leaf { result ≡ leaf_by_cuts pool.now self.now (Text text.now) }
@@ -91,7 +91,7 @@ impl ColumnStats {
     }
 }
 
-/// The place among the nodes of the least one that holds both leaves.
+/// The place in `nodes` of the least node that holds both leaves.
 pub fn place_of_node(low: u8, high: u8) -> u8
     requires low { low < 32 }
     ensures place { result ≡ node_place (node_size low high) low }

@@ -11,7 +11,7 @@ use schema_types::Kind;
 use std::alloc::Global;
 use std::test::Fail;
 
-// The statistics of a column of numbers.
+// The statistics of a column of numbers for a joined column, at accuracy 1.
 fn statistics(alloc: Global, filter: &[u64], joined: &[u64]) -> Result<ColumnStats, NoMemory>
     ensures { IfOk result IsValid }
 {
@@ -20,12 +20,12 @@ fn statistics(alloc: Global, filter: &[u64], joined: &[u64]) -> Result<ColumnSta
     gather(alloc, &cells, &pool, 0, 1, Accuracy::of(1))
 }
 
-// The sum of a list, and its runs.
+// The sum of a list, and the number of its runs.
 fn shape(list: &Pieces) -> (u128, usize) {
     (list.total(), list.pieces().len())
 }
 
-// The numbers from 1 on.
+// The numbers from 1 to `last`.
 fn numbers(alloc: Global, last: u64) -> Result<Vec<u64>, NoMemory> {
     let mut numbers = Vec::new(alloc);
     for number in 1..=last {
@@ -34,7 +34,8 @@ fn numbers(alloc: Global, last: u64) -> Result<Vec<u64>, NoMemory> {
     Ok(numbers)
 }
 
-// 32 values in four rows each, one joined key each; then 100 with the keys 5, 6, 7 and 200 with 8, 8.
+// 32 values have four rows each, all with one joined key; 100 has the keys 5, 6 and 7, and 200 has the key 8 twice. This gives the shapes of
+// the lists of 0, 31 and 100, and of the rest list.
 fn rest_of_two(alloc: Global) -> Result<[(u128, usize); 4], NoMemory> {
     let mut filter = Vec::new(alloc);
     let mut joined = Vec::new(alloc);
@@ -53,7 +54,7 @@ fn rest_of_two(alloc: Global) -> Result<[(u128, usize); 4], NoMemory> {
     ])
 }
 
-// How many values are frequent, the list of the value that occurs last, and that of an absent one.
+// For the column 1 to `last` with itself: how many values are frequent, and the shapes of the lists of `last` and of an absent value.
 fn frequent_of(
     alloc: Global,
     last: u64,
@@ -65,7 +66,7 @@ fn frequent_of(
     Ok((stats.frequent.len(), of_last, absent))
 }
 
-// The leaves of three numbers, and the list from the first leaf to the last.
+// The leaves of three numbers, and the shape of the list from the leaf of the first number to that of the last one.
 fn leaves_of(
     alloc: Global,
     column: &[u64],
@@ -79,14 +80,14 @@ fn leaves_of(
     Ok(([low, stats.leaf_int(middle), high], list))
 }
 
-// How many cuts and nodes there are without rows, and the list of all.
+// How many cuts and nodes there are without rows, and the shape of the list of a range.
 fn of_nothing(alloc: Global) -> Result<(usize, usize, (u128, usize)), NoMemory> {
     let stats = statistics(alloc, &[], &[])?;
     let list = shape(stats.for_range(None, None));
     Ok((stats.cuts.len(), stats.nodes.len(), list))
 }
 
-// Texts that come in another order than they compare: the leaves of "a", "b" and "c", and the list up to "a".
+// A column and a pool in which "b" comes before "a": the leaves of "a", "b" and "c", and the shape of the list up to "a".
 fn leaves_of_texts(alloc: Global) -> Result<([u8; 3], (u128, usize)), NoMemory> {
     let mut pool = Pool::new(alloc);
     let b = u64::from(pool.intern("b")?);

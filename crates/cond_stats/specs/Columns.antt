@@ -1,4 +1,4 @@
--- The same of columns of cells, which stand for values.
+-- Leaves and lists of columns of cells, by the order of the values that the cells stand for.
 use Rattle.std.specs.Prelude.{ℕ, Bool, true, ◌&&◌, List, Option, None, Some, option_map}
 use Rattle.std.specs.Ordering.{is_le}
 use Rattle.schema_types.specs.declared.types.Kind.{Kind}
@@ -12,7 +12,7 @@ use Rattle.cond_stats.specs.Rows.{filter_values}
 abbrev pub value_le : Value → Value → Bool
 value_le a b = is_le (value_cmp a b)
 
--- a cell's value is at most another's
+-- the value of one cell is at most that of another
 abbrev pub cell_le : List (List ℕ) → Kind → ℕ → ℕ → Bool
 cell_le texts kind cell other = value_le (value_of_cell texts kind cell) (value_of_cell texts kind other)
 
@@ -20,7 +20,7 @@ cell_le texts kind cell other = value_le (value_of_cell texts kind cell) (value_
 abbrev pub leaf_of_value : List (List ℕ) → Kind → List ℕ → Value → ℕ
 leaf_of_value texts kind column value = leaf_above (cell_le texts kind) column (λ cut. value_le (value_of_cell texts kind cut) value)
 
--- the list of the values from one to another, both counted in, if there is one
+-- the list of the range from a low value to a high one; either may be missing
 abbrev pub list_between : List (List ℕ) → Kind → ℕ → List (ℕ × ℕ) → Option Value → Option Value → List ℕ
 list_between texts kind accuracy rows low high =
     list_of_range (cell_le texts kind) accuracy rows

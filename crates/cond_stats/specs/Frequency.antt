@@ -8,7 +8,7 @@ use Rattle.cond_stats.specs.Leaves.{in_order}
 abbrev pub first_place : List ℕ → ℕ → ℕ
 first_place column value = position_or_len (λ other. other == value) column
 
--- one value is more frequent than another, or as frequent and occurs no later
+-- a is more frequent than b, or as frequent and occurs no later
 abbrev pub comes_before : List ℕ → ℕ → ℕ → Bool
 comes_before column a b =
     nat_lt (degree column b) (degree column a) || degree column a == degree column b && nat_le (first_place column a) (first_place column b)
@@ -21,6 +21,6 @@ by_frequency column = in_order (comes_before column) (different column)
 abbrev pub frequent : List ℕ → List ℕ
 frequent column = take 32 (by_frequency column)
 
--- the values that remain
+-- the other values, which aren't frequent
 abbrev pub remaining : List ℕ → List ℕ
 remaining column = drop 32 (by_frequency column)

@@ -1,5 +1,5 @@
--- The lists of a filter column for a joined column: what is known of the joined keys of the rows with a filter value, or with one in a
--- range.
+-- The lists of a filter column for a joined column. They are compressed degree lists of the joined keys of all rows, of the rows with one
+-- filter value, and of the rows whose filter value lies in a range.
 use Rattle.std.specs.Prelude.{ℕ, ◌==◌, max, Bool, if◌then◌else◌, List, [], ◌∷◌, map, Option, None, Some, unwrap_or}
 use Rattle.std.specs.List.{list_any}
 use Rattle.degree_sequences.specs.ByRank.{rank_maximum}
@@ -31,13 +31,13 @@ abbrev pub maxima : List (List ℕ) → List ℕ
 maxima [] = []
 maxima (list ∷ lists) = rank_maximum list (maxima lists)
 
--- the greatest of numbers, and 0 of none
+-- the greatest of these numbers, or 0 where there is no number
 abbrev pub greatest : List ℕ → ℕ
 greatest [] = 0
 greatest (n ∷ ns) = max n (greatest ns)
 
--- the rest list: of the values that aren't frequent the rank-wise maximum of their degree lists, which has no more rows than the
--- most frequent of them, compressed. It is empty where no value remains
+-- the rest list: the rank-wise maximum of the degree lists of all values that aren't frequent. It is cut to as many rows as the most
+-- frequent of these values has, and then compressed. It is empty where each value is frequent
 unfoldable pub rest : ℕ → List (ℕ × ℕ) → List ℕ
 rest accuracy rows =
     let values = remaining (filter_values rows) in
@@ -48,19 +48,19 @@ rest accuracy rows =
 abbrev pub is_frequent : List (ℕ × ℕ) → ℕ → Bool
 is_frequent rows value = list_any (λ other. other == value) (frequent (filter_values rows))
 
--- the list of a value: that of its rows where it is frequent, else the rest list. A value that is nowhere has the rest list
+-- the list of a value: that of its rows where it is frequent, else the rest list. A value that is in no row has the rest list
 unfoldable pub list_of_value : ℕ → List (ℕ × ℕ) → Option ℕ → List ℕ
 list_of_value accuracy rows None = rest accuracy rows
 list_of_value accuracy rows (Some value) =
     if is_frequent rows value then compressed_degrees accuracy (keys_with value rows) else rest accuracy rows
 
--- the list of a node: that of the rows whose leaf it holds
+-- the list of the node of this size that holds this leaf: that of the rows whose leaf lies in the node
 unfoldable pub list_of_node : (ℕ → ℕ → Bool) → ℕ → List (ℕ × ℕ) → ℕ → ℕ → List ℕ
 list_of_node at_most accuracy rows size leaf =
     list_where accuracy (λ value. in_node size leaf (leaf_of at_most (filter_values rows) value)) rows
 
--- the list of a range: that of the least node that holds the leaves of both ends. A range without a low end begins in leaf 0, one
--- without a high end ends in leaf 31, and the ends may be crossed
+-- the list of a range: that of the least node that holds the leaves of both ends. A missing low end is leaf 0, and a missing high end is
+-- leaf 31. The low leaf may be greater than the high one
 abbrev pub list_of_range : (ℕ → ℕ → Bool) → ℕ → List (ℕ × ℕ) → Option ℕ → Option ℕ → List ℕ
 list_of_range at_most accuracy rows low high =
     let first = unwrap_or low 0 in

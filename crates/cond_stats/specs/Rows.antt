@@ -1,4 +1,4 @@
--- Rows of a table by two of its columns: the filter value and the joined key of each row. Both are numbers, equal where the values are.
+-- Rows of a table, each as its filter value and its joined key. Both are numbers, which are equal where the values are equal.
 use Rattle.std.specs.Prelude.{ℕ, Bool, List, map}
 use Rattle.std.specs.List.{filter}
 

@@ -1,4 +1,4 @@
--- The runs of a column: the rows of each value, which stand together.
+-- The runs of a column whose rows stand in the order of their values. A run is the rows of one value.
 use Rattle.std.specs.Prelude.{ℕ, ◌≡◌, ◌+◌, ◌<◌, ◌≤◌, ◌==◌, ◌*◌, ◌/◌, ◌||◌, not, nat_lt, Bool, List, map, length, All, slice_index, slice_index_or}
 use Rattle.degree_sequences.specs.Degrees.{different}
 use Rattle.cond_stats.specs.declared.groups.Group.{Group}
@@ -7,7 +7,7 @@ use Rattle.cond_stats.specs.Leaves.{leaf_of}
 use Rattle.cond_stats.specs.Order.{AreInValueOrder, AreSorted, numbers_at}
 use Rattle.cond_stats.specs.Windows.{IsWindow}
 
--- the rows of one number among rows in ascending order of their numbers
+-- the run has all rows of one number. The rows stand in ascending order of their numbers
 pub record IsRun (numbers places : List ℕ) (run : Group) : Type 0 where
   pub some : 0 < run.count
   pub ends : run.start + run.count ≤ length numbers
@@ -16,18 +16,18 @@ pub record IsRun (numbers places : List ℕ) (run : Group) : Type 0 where
   pub lower : (k : ℕ) → k < run.start → slice_index numbers k < slice_index numbers run.start
   pub higher : (k : ℕ) → run.start + run.count ≤ k → k < length numbers → slice_index numbers run.start < slice_index numbers k
 
--- each number has its run, and just one, and the runs are in the order of their starts
+-- each number has exactly one run, and the runs stand in the order of their starts
 pub record AreRunsOfNumbers (numbers places : List ℕ) (runs : List Group) : Type 0 where
   pub each : All (IsRun numbers places) runs
   pub all : map (λ run. slice_index numbers run.start) runs ≡ different numbers
   pub ascend : (i j : ℕ) (none : Group) → i < j → j < length runs → (slice_index_or runs i none).start < (slice_index_or runs j none).start
 
--- the places of numbers in ascending order of these, those of one number in their own order, and the runs of equal numbers
+-- `places` has the places of the numbers in ascending order of the numbers, those of equal numbers ascending; `runs` has their runs
 pub record AreSortedInRuns (numbers places : List ℕ) (runs : List Group) : Type 0 where
   pub sorted : AreSorted numbers (numbers_at numbers places) places
   pub runs_are : AreRunsOfNumbers (numbers_at numbers places) places runs
 
--- the places of a column in ascending order of their values, those of one value in their own order, and the runs of equal values
+-- `places` has the column's places in ascending order of their values, those of equal values ascending; `runs` has the runs of the values
 pub record AreInRuns (at_most : ℕ → ℕ → Bool) (column places : List ℕ) (runs : List Group) : Type 0 where
   pub numbers : List ℕ
   pub order : AreInValueOrder at_most column numbers places
@@ -37,20 +37,20 @@ pub record AreInRuns (at_most : ℕ → ℕ → Bool) (column places : List ℕ)
 abbrev pub value_of_group : List ℕ → Group → ℕ
 value_of_group column group = slice_index column group.first
 
--- each value of a column has its group, the most frequent value first
+-- each value of a column has one group, and the group of the most frequent value comes first
 pub record AreGroups (column places : List ℕ) (groups : List Group) : Type 0 where
   pub values : map (value_of_group column) groups ≡ by_frequency column
   pub firsts : All (λ group. group.first < length column) groups
   pub windows : All (λ group. IsWindow column places (λ value. value == value_of_group column group) group.start group.count) groups
 
--- for each leaf from 0 to 32, how many rows have a leaf below it; these stand first among the places
+-- `starts` says for each leaf from 0 to 32 how many rows have a lower leaf; these rows come first in `places`
 pub record AreStarts (at_most : ℕ → ℕ → Bool) (column places starts : List ℕ) : Type 0 where
   pub length_is : length starts ≡ 33
   pub within : (leaf : ℕ) → slice_index starts leaf ≤ length places
   pub tell : (leaf k : ℕ) → leaf ≤ 32 → k < length places
       → nat_lt (leaf_of at_most column (slice_index column (slice_index places k))) leaf ≡ nat_lt k (slice_index starts leaf)
 
--- so many numbers lie below the cut of a leaf: none below the first leaf, all below the end of the last
+-- `start` is how many numbers are below the cut of a leaf. For leaf 0 it is 0. For 32, the end of the last leaf, it is the number of all
 pub record IsLeafStart (numbers : List ℕ) (leaf start : ℕ) : Type 0 where
   pub within : start ≤ length numbers
   pub first : leaf ≡ 0 → start ≡ 0
@@ -58,6 +58,6 @@ pub record IsLeafStart (numbers : List ℕ) (leaf start : ℕ) : Type 0 where
   pub between : (k : ℕ) → 0 < leaf → leaf < 32 → k < length numbers
       → nat_lt (slice_index numbers k) (slice_index numbers (length numbers * leaf / 32)) ≡ nat_lt k start
 
--- whether the number at a place is the last of all, or the next one is another
+-- whether a number is the last of its run: no number follows it, or a different one
 abbrev pub ends_run : List ℕ → ℕ → ℕ → Bool
 ends_run numbers i number = i + 1 == length numbers || not (slice_index numbers (i + 1) == number)

@@ -7,8 +7,8 @@ use Rattle.cond_stats.specs.declared.groups.Group.{Group}
 use Rattle.cond_stats.specs.Leaves.{cuts}
 use Rattle.cond_stats.specs.Runs.{AreGroups, AreStarts}
 
--- the places are those of all rows, in an order in which the rows of each value stand together (its group), and those of each leaf before those
--- of the next one (the starts); the cuts are the column's
+-- `places` has the places of all rows. Rows of one value stand together (`groups`), and the rows of a leaf stand before those of the next
+-- leaf (`starts`). `cuts_of` has the column's cuts
 pub record IsSortedColumn (at_most : ℕ → ℕ → Bool) (column places : List ℕ) (groups : List Group) (cuts_of starts : List ℕ) : Type 0 where
   pub rows : length column < 2 ^ 32
   pub moved : IsPermutation (range_with_len 0 (length column)) places
@@ -20,7 +20,7 @@ pub record IsSortedColumn (at_most : ℕ → ℕ → Bool) (column places : List
 abbrev pub keys_at : List ℕ → List ℕ → List ℕ
 keys_at joined places = map (λ place. slice_index joined place) places
 
--- the places of a group lie among so many
+-- the group ends within the first `rows` places
 abbrev pub LiesWithin : ℕ → Group → Type 0
 LiesWithin rows group = group.start + group.count ≤ rows
 

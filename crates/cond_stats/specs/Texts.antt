@@ -13,18 +13,18 @@ text_of texts cell = slice_index_or texts cell []
 abbrev pub text_le : List (List ℕ) → ℕ → ℕ → Bool
 text_le texts a b = is_le (slice_cmp nat_cmp (chars (text_of texts a)) (chars (text_of texts b)))
 
--- these cells in the order of their texts
+-- `ordered` has these cells in the order of their texts, and the texts are UTF-8
 pub record AreByText (texts : List (List ℕ)) (cells ordered : List ℕ) : Type 0 where
   pub moved : IsPermutation cells ordered
   pub utf8 : All (λ cell. IsUtf8 (text_of texts cell)) ordered
   pub ascend : (i j : ℕ) → i ≤ j → j < length ordered
       → text_le texts (slice_index ordered i) (slice_index ordered j) ≡ true
 
--- the rank of a cell that is one of them, and 0 of others
+-- the place of a cell among the ordered cells, or 0 where it isn't one of them
 abbrev pub number_or_zero : List ℕ → ℕ → ℕ
 number_or_zero ordered cell = unwrap_or (position (nat_eq cell) ordered) 0
 
--- a text is the one of a cell, and is UTF-8
+-- the text is that of the cell, and is UTF-8
 pub record IsTextOf (texts : List (List ℕ)) (cell : ℕ) (text : List ℕ) : Type 0 where
   pub is : text ≡ text_of texts cell
   pub utf8 : IsUtf8 text

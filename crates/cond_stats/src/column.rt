@@ -47,7 +47,7 @@ impl<'a> Model for FilterColumn<'a> {
 }
 
 impl<'a> FilterColumn<'a> {
-    /// The cells of a column, sorted by what they stand for.
+    /// Sorts the rows of a column by the values of their cells.
     pub fn new(
         alloc: Global,
         pool: &'a Pool,
@@ -93,8 +93,8 @@ impl<'a> FilterColumn<'a> {
         }
     }
 
-    /// The list of a range, by the leaves of its ends: that of the least node that holds both. `None` is the first leaf as the low end,
-    /// and the last one as the high end.
+    /// The list of a range, by the leaves of its ends: that of the least node that holds both. `None` is leaf 0 as the low end, and leaf 31
+    /// as the high end.
     pub fn list_of_range(
         &self,
         joined: &[u64],
@@ -113,7 +113,7 @@ impl<'a> FilterColumn<'a> {
         self.list_of_node(joined, size_of_node(low, high), low, accuracy)
     }
 
-    /// The leaf of a number.
+    /// The leaf of a number: the last whose cut is at most the number, or 0 where no cut is.
     pub fn leaf_of_int(&self, value: i64) -> u8
         ensures leaf { result ≡ leaf_of_value self.now.texts self.now.kind self.now.cells (Int value) }
         ensures below { result < 32 }
@@ -121,7 +121,7 @@ impl<'a> FilterColumn<'a> {
         leaf_of_int(self.kind, self.cuts.as_slice(), cell_of(value))
     }
 
-    /// The leaf of a text, which the pool need not have.
+    /// The leaf of a text, which need not be in the pool: the last whose cut is at most the text, or 0 where no cut is.
     pub fn leaf_of_text(&self, text: &str) -> u8
         ensures leaf { result ≡ leaf_of_value self.now.texts self.now.kind self.now.cells (Text text.now) }
         ensures below { result < 32 }
@@ -129,7 +129,7 @@ impl<'a> FilterColumn<'a> {
         leaf_of_text(self.kind, self.pool, self.cuts.as_slice(), text)
     }
 
-    /// The rest list, which every value has that isn't frequent.
+    /// The rest list: the list of every value that isn't frequent.
     pub fn rest(&self, joined: &[u64], accuracy: Accuracy) -> Result<Pieces, NoMemory>
         requires joined { length joined.now ≡ length self.now.cells }
         ensures { IfOk result (λ list. list ≡ rest accuracy (zip self.now.cells joined.now)) }
@@ -145,7 +145,7 @@ impl<'a> FilterColumn<'a> {
         )
     }
 
-    /// The list of the node of 1, 2, 4, 8, 16 or 32 leaves that holds a leaf.
+    /// The list of the node that has `size` leaves and holds `leaf`. The size is 1, 2, 4, 8, 16 or 32.
     pub fn list_of_node(
         &self,
         joined: &[u64],
@@ -179,7 +179,7 @@ impl<'a> FilterColumn<'a> {
         Ok(Seq::from_vec(values))
     }
 
-    /// The cells at which the leaves begin: 32 of them, or none without rows.
+    /// The cells at which the leaves begin: 32 cells, or no cells where there are no rows.
     pub fn cuts(&self) -> &[u64]
         ensures { result.now ≡ cuts (cell_le self.now.texts self.now.kind) self.now.cells }
     {
@@ -211,7 +211,7 @@ impl<'a> FilterColumn<'a> {
     }
 }
 
-// How many leaves the least node has that holds both leaves.
+// The size in leaves of the least node that holds both leaves.
 fn size_of_node(low: u8, high: u8) -> u8
     ensures size { result ≡ node_size low high }
     ensures dyadic { IsNodeSize result }

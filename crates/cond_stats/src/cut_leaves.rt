@@ -1,4 +1,4 @@
-//! The leaf of a value, by the cuts.
+//! Finds the leaf of a value among the cuts of a column.
 ghost use Rattle.std.specs.Prelude.{◌≡◌, ◌<◌, ◌≤◌, [], ℕ, List, length, slice_index_or, IsTrue};
 ghost use Rattle.csv_tables.specs.Cells.{value_of_cell};
 ghost use Rattle.csv_tables.specs.Numbers.{number_in};
@@ -9,7 +9,7 @@ ghost use Rattle.cond_stats.specs.Leaves.{last_place};
 use csv_tables::{Pool, compare_texts, value_of};
 use schema_types::Kind;
 
-/// The text of a cell, and the empty text where the pool has none of that number.
+/// The text of a cell, or the empty text where the pool has no text of that number.
 pub(crate) fn text_at(pool: &Pool, cell: u64) -> &str
     ensures { result.now ≡ slice_index_or pool.now cell [] }
 {
@@ -20,7 +20,7 @@ pub(crate) fn text_at(pool: &Pool, cell: u64) -> &str
     }
 }
 
-// Whether a cell's value is at most the number of another cell. A text is at most none.
+// Whether a cell's value is at most the number of another cell. A text is above every number.
 fn is_at_most_int(kind: Kind, cell: u64, number: u64) -> bool
     ensures { (texts : List (List ℕ)) → result ≡ value_le (value_of_cell texts kind cell) (Int (number_in number)) }
 {
@@ -30,7 +30,7 @@ fn is_at_most_int(kind: Kind, cell: u64, number: u64) -> bool
     }
 }
 
-// Whether a cell's value is at most a text. Each number is.
+// Whether a cell's value is at most a text. A number is below every text.
 fn is_at_most_text(kind: Kind, pool: &Pool, cell: u64, text: &str) -> bool
     ensures { result ≡ value_le (value_of_cell pool.now kind cell) (Text text.now) }
 {
@@ -40,8 +40,8 @@ fn is_at_most_text(kind: Kind, pool: &Pool, cell: u64, text: &str) -> bool
     }
 }
 
-/// The last of at most 32 places whose cut is at most the number of a cell, and 0 if there is none. A cut that is a text is at most
-/// no number.
+/// The leaf of a number, which is given as its cell: the last whose cut is at most the number, or 0 where no cut is. There are at most
+/// 32 cuts. Where the cuts are texts, the leaf is 0.
 pub fn leaf_of_int(kind: Kind, cuts: &[u64], number: u64) -> u8
     requires { length cuts.now ≤ 32 }
     ensures { (texts : List (List ℕ)) → result ≡ last_place
@@ -56,7 +56,8 @@ pub fn leaf_of_int(kind: Kind, cuts: &[u64], number: u64) -> u8
     leaf
 }
 
-/// The last of at most 32 places whose cut is at most a text, and 0 if there is none. A cut that is a number is at most each text.
+/// The leaf of a text: the last whose cut is at most the text, or 0 where no cut is. There are at most 32 cuts. Where the cuts are numbers,
+/// each is at most the text.
 pub fn leaf_of_text(kind: Kind, pool: &Pool, cuts: &[u64], text: &str) -> u8
     requires { length cuts.now ≤ 32 }
     ensures { result ≡ last_place (λ cut. value_le (value_of_cell pool.now kind cut) (Text text.now)) cuts.now }

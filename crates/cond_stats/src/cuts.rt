@@ -8,7 +8,7 @@ use crate::groups::Group;
 use base_io::NoMemory;
 use std::alloc::Global;
 
-/// The cells at which the leaves begin, from the places of the column in order.
+/// The cells at which the leaves begin. `places` are the column's places in the order of their values.
 pub(crate) fn cuts_of(alloc: Global, cells: &[u64], places: &[u32]) -> Result<Vec<u64>, NoMemory>
     requires places { All (λ place. place < length cells.now) places.now }
     requires rows { length places.now < 2 ^ 32 }
@@ -26,7 +26,7 @@ pub(crate) fn cuts_of(alloc: Global, cells: &[u64], places: &[u32]) -> Result<Ve
     Ok(cuts)
 }
 
-/// For each leaf from 0 to 32, how many of the rows have a leaf below it, from the runs of their values.
+/// For each leaf from 0 to 32, how many rows have a lower leaf. `runs` are the runs of the rows, the least value first.
 pub(crate) fn leaf_starts(alloc: Global, runs: &[Group], rows: u32) -> Result<Vec<u32>, NoMemory>
     ensures { IfOk result (λ starts. (at_most : ℕ → ℕ → Bool) (column places : List ℕ) → length column ≡ rows → AreInRuns at_most column places runs.now
         → AreStarts at_most column places starts.items) }
@@ -38,7 +38,7 @@ pub(crate) fn leaf_starts(alloc: Global, runs: &[Group], rows: u32) -> Result<Ve
     Ok(starts)
 }
 
-// How many rows have a leaf below this one: those before the run with the leaf's cut. Below 32, which is the end, lie all.
+// How many rows have a lower leaf than this one: those before the run of the leaf's cut. For 32, the end of the last leaf, it is all rows.
 fn leaf_start(runs: &[Group], rows: u32, leaf: u32) -> u32
     requires leaf { leaf ≤ 32 }
     ensures { (numbers places : List ℕ) → length numbers ≡ rows → AreRunsOfNumbers numbers places runs.now → IsLeafStart numbers leaf result }

@@ -1,11 +1,12 @@
-//! The definitions at small columns.
+//! What the definitions give for small columns.
 ghost use Rattle.std.specs.Prelude.{◌≡◌, ◌++◌, nat_le, true, false, [], ◌∷◌, Some, None, replicate};
 ghost use Rattle.std.specs.List.{zip, range_with_len, flat_map};
 ghost use Rattle.cond_stats.specs.Frequency.{remaining};
 ghost use Rattle.cond_stats.specs.Leaves.{cuts, leaf_of, node_size};
 ghost use Rattle.cond_stats.specs.Lists.{whole, rest, is_frequent, list_of_value, list_of_range};
 
-/// The lists of values: 40 different ones, three, none, and 33 that stand in one row each.
+/// The list of an absent value in a column of 40 different values, in a column of three, and without rows. Of 33 values in one row each, the
+/// first 32 are frequent.
 pub fn values()
     ensures absent_among_forty { let column = range_with_len 1 40 in list_of_value 1 (zip column column) None ≡ 1 ∷ [] }
     ensures absent_among_three { let column = 1 ∷ 2 ∷ 3 ∷ [] in list_of_value 1 (zip column column) (Some 99) ≡ [] }
@@ -14,8 +15,8 @@ pub fn values()
     ensures thirty_third { let column = range_with_len 1 33 in is_frequent (zip column column) 33 ≡ false }
 {}
 
-/// 32 values in four rows each, one joined key each; then 100 with the keys 5, 6 and 7, and 200 twice with the key 8. The degree lists of
-/// the two that remain are 1, 1, 1 and 2; their maximum 2, 1, 1 has no more rows than three.
+/// 32 values have four rows each, all with one joined key; 100 has the keys 5, 6 and 7, and 200 has the key 8 twice. So 100 and 200 aren't
+/// frequent, and have the degree lists 1, 1, 1 and 2. Their rank-wise maximum is 2, 1, 1. It is cut to three rows, as 100 has: 2, 1.
 pub fn rest_list()
     ensures remain { let column = flat_map (λ v. replicate 4 v) (range_with_len 0 32)
         ++ (100 ∷ 100 ∷ 100 ∷ 200 ∷ 200 ∷ []) in remaining column ≡ 100 ∷ 200 ∷ [] }
@@ -24,7 +25,7 @@ pub fn rest_list()
         rest 1 (zip column joined) ≡ 2 ∷ 1 ∷ [] }
 {}
 
-/// The leaves of the numbers 1 to 32, of 1, 1, 1, 2, 2, 3, and of no rows.
+/// Leaves in the columns 1 to 32 and 1, 1, 1, 2, 2, 3, and without rows.
 pub fn leaves()
     ensures cuts { let column = range_with_len 1 32 in cuts nat_le column ≡ column }
     ensures five { leaf_of nat_le (range_with_len 1 32) 5 ≡ 4 }

@@ -6,7 +6,7 @@ ghost use Rattle.cond_stats.specs.Runs.{AreGroups, AreInRuns, AreRunsOfNumbers, 
 use base_io::NoMemory;
 use std::alloc::Global;
 
-/// The rows of one value: the place of the first of them, and where they stand among the rows in order.
+/// The rows of one value. `first` is the first row's place in the column. `start` and `count` say where the rows stand in the order of values.
 #[derive(Clone, Copy, Debug, PartialEq, Eq)]
 pub(crate) struct Group {
     pub first: u32,
@@ -14,7 +14,7 @@ pub(crate) struct Group {
     pub count: u32,
 }
 
-/// Runs in order of frequency, the most frequent value first; of equally frequent ones the one that occurs first.
+/// Sorts runs by frequency, the most frequent value first. Of equally frequent values the one that occurs first comes first.
 pub(crate) fn by_frequency(runs: Vec<Group>) -> Vec<Group>
     ensures { (at_most : ℕ → ℕ → Bool) (column places : List ℕ) → length column < 2 ^ 32 → AreInRuns at_most column places runs.items
         → AreGroups column places result.items }

@@ -1,4 +1,4 @@
-//! The lists of rows that are given by their places.
+//! Makes the lists of rows that are given by their places.
 ghost use Rattle.std.specs.Prelude.{◌≡◌, ℕ, ◌+◌, ◌<◌, ◌≤◌, ◌==◌, ◌^◌, false, length, map, All, Contains, IfOk, MatchOption, slice_index, slice_range};
 ghost use Rattle.std.specs.List.{list_any};
 ghost use Rattle.degree_sequences.specs.Compression.{compressed};
@@ -33,7 +33,7 @@ pub(crate) fn list_at(
     whole_list(alloc, keys.as_slice(), accuracy)
 }
 
-/// The places from one on and before another.
+/// The places from index `from` on, and before index `to`.
 pub(crate) fn stretch(places: &[u32], from: u32, to: u32) -> &[u32]
     requires order { from ≤ to }
     requires within { to ≤ length places.now }
@@ -70,7 +70,7 @@ fn degrees_of(
     falling(alloc, keys.as_slice())
 }
 
-/// The rest list of groups that remain: the rank-wise maximum of their degree lists, with no more rows than the largest of them.
+/// The rest list of these groups: the rank-wise maximum of their degree lists, cut to as many rows as the largest group has, and compressed.
 pub(crate) fn rest_list(
     alloc: Global,
     joined: &[u64],
@@ -95,7 +95,7 @@ pub(crate) fn rest_list(
     compress(alloc, list.as_slice(), accuracy)
 }
 
-/// The group of a value among groups, where it is one of them.
+/// The group whose value has this cell, where there is one.
 pub(crate) fn group_of(cells: &[u64], groups: &[Group], cell: u64) -> Option<Group>
     requires { All (λ group. group.first < length cells.now) groups.now }
     ensures { MatchOption result (list_any (λ value. value == cell) (map (value_of_group cells.now) groups.now) ≡ false)
@@ -109,7 +109,7 @@ pub(crate) fn group_of(cells: &[u64], groups: &[Group], cell: u64) -> Option<Gro
     None
 }
 
-/// The cells of the values of groups.
+/// The cell of each group's value.
 pub(crate) fn values_of(
     alloc: Global,
     cells: &[u64],

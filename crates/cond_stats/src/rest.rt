@@ -1,4 +1,4 @@
-//! The rest list: what is kept of the degree lists of the values that aren't frequent.
+//! Steps to the rest list: the rank-wise maximum of lists, and a list that is cut to a number of rows.
 ghost use Rattle.std.specs.Prelude.{◌≡◌, ◌<◌, ◌≤◌, max, [], ◌∷◌, ◌++◌, length, slice_index, slice_set, IfOk, OnOk};
 ghost use Rattle.degree_sequences.specs.ByRank.{rank_maximum};
 ghost use Rattle.degree_sequences.specs.Falling.{IsFalling};
@@ -7,7 +7,7 @@ ghost use Rattle.degree_sequences.specs.RunningSums.{cut_at};
 use base_io::NoMemory;
 use std::alloc::Global;
 
-/// Raises a list to another, rank by rank.
+/// Makes `maxima` the rank-wise maximum of itself and `degrees`.
 pub(crate) fn raise(maxima: &mut Vec<u64>, degrees: &[u64]) -> Result<(), NoMemory>
     ensures { OnOk result (maxima.new.items ≡ rank_maximum maxima.old.items degrees.now) }
 {
@@ -17,7 +17,7 @@ pub(crate) fn raise(maxima: &mut Vec<u64>, degrees: &[u64]) -> Result<(), NoMemo
     Ok(())
 }
 
-// Raises one rank, which may be the next after the last.
+// Raises the element at one rank to this degree, where the element is less. Past the last rank the degree is appended.
 fn raise_at(maxima: &mut Vec<u64>, i: usize, degree: u64) -> Result<(), NoMemory>
     ensures within { OnOk result (i < length maxima.old.items
         → maxima.new.items ≡ slice_set maxima.old.items i (max (slice_index maxima.old.items i) degree)) }
@@ -31,7 +31,7 @@ fn raise_at(maxima: &mut Vec<u64>, i: usize, degree: u64) -> Result<(), NoMemory
     Ok(())
 }
 
-/// A falling list cut so that its running sums are at most a number.
+/// Cuts a falling list so that its running sums are at most `most`.
 pub(crate) fn cut(alloc: Global, falling: &[u64], most: u64) -> Result<Vec<u64>, NoMemory>
     requires { IsFalling falling.now }
     ensures { IfOk result (λ list. list.items ≡ cut_at falling.now most) }

@@ -1,4 +1,4 @@
-//! What holds of counted bounds of all sets: no law computes anything, and the contract is the law.
+//! Laws of the counted bounds of all sets. The functions do nothing; their contracts are the laws.
 ghost use Rattle.std.specs.Prelude.{◌≡◌, ◌+◌, ◌^◌, ◌<◌, ◌≤◌, ℕ, true, List, [], Ok, length, slice_index, take};
 ghost use Rattle.limits.specs.Profile.{most_budget, most_entries};
 ghost use Rattle.degree_sequences.specs.Saturation.{saturated};
@@ -17,8 +17,8 @@ ghost use Rattle.reduced_scans.specs.Rounds.{reduced_of};
 ghost use Rattle.planning.specs.ListedBounds.{set_bounds_over};
 ghost use Rattle.planning.specs.Standing.{BoundLevels};
 
-/// Whatever is counted, no level over the lists has more rows than the bound of its set, and no bound of a plan over lists of scanned rows
-/// is too low.
+/// Whatever is counted, no level over the lists has more rows than the bound of its set, unless that is the top bound, 2^128 - 1. No bound of
+/// a plan over lists of scanned rows is too low.
 pub fn counts_are_never_under()
     ensures sets { (counted : Counted) (query : Query) (tables : Tables) (lists : List (List ℕ))
         → BoundLevels query tables lists (counted_bounds_of_sets counted query tables lists) }
@@ -28,8 +28,9 @@ pub fn counts_are_never_under()
         → IsPlanOf query tables lists plan }
 {}
 
-/// Where all conjuncts of each part of a set are counted, and no conjunct without entries is false, its bound is the number of rows of each
-/// level over it, or both saturate. So it is of each level of a plan: the level has exactly as many rows as the plan says.
+/// Suppose that each part of a set is counted under all of its conjuncts, and that each conjunct without entries holds. Then the bound of the
+/// set is the number of rows of each level over its entries, or 2^128 - 1 where that number is larger. A level of a plan whose set is counted
+/// in this way has exactly as many rows as the plan says.
 pub fn counts_are_exact()
     ensures sets { (counted : Counted) (query : Query) (tables : Tables) (lists : List (List ℕ)) (subset : ℕ) (order : List ℕ)
         → subset < 2 ^ length query.from → IsOrderOfSet (entries_of_set subset) order → AllAreCounted counted query tables subset
@@ -44,7 +45,8 @@ pub fn counts_are_exact()
         → slice_index plan.levels k ≡ length (list_levels query tables lists plan.order (k + 1)) }
 {}
 
-/// Whatever is counted, no bound is above the one from degree sequences of the same lists, at any accuracy. The reduced scans are such lists.
+/// Whatever is counted, no bound is above the one from degree sequences of the same lists, at any accuracy. The second clause is about the
+/// reduced scans.
 pub fn counts_are_not_above_degree_sequences()
     ensures over_lists { (counted : Counted) (query : Query) (tables : Tables) (lists : List (List ℕ)) (accuracy subset : ℕ)
         → AreOfScans query tables lists → subset < 2 ^ length query.from

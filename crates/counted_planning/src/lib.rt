@@ -1,10 +1,11 @@
-//! Bounds by counting, as bounds of all sets from which plans are chosen.
+//! The bounds of all sets of a query's entries by counting over its reduced scans, from which plans are chosen.
 //!
 //! In: a query and its tables. Out: its reduced scans, and the bound of each set of entries by counting over these (`from_counted`).
 //!
-//! The laws say why the bound of each set (`counted_bounds_of_sets`) serves for a plan. They hold for any lists, and whatever conjuncts are
-//! counted with (`Counted` of counted_bounds). No level over the lists has more rows than the bound. The bound is at most the one from degree
-//! sequences of the same lists, at any accuracy. If all conjuncts are counted with, it is the number of rows.
+//! The laws say why plans can be chosen by these bounds (`counted_bounds_of_sets`). They hold for any lists of rows, under whatever conjuncts
+//! sets are counted (`Counted` of counted_bounds). No level over the lists has more rows than the bound. The bound is at most the one from
+//! degree sequences of the same lists, at any accuracy. If the parts of a set are counted under all of their conjuncts, and conjuncts without
+//! entries hold, the bound is the number of rows.
 //!
 //! Callers cite `set_bounds_by_counts`.
 #![tactic(auto)]

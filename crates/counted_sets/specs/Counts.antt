@@ -1,4 +1,4 @@
--- What the reduction keeps while it runs. No public contract speaks of it.
+-- What holds while the reduction runs. No public contract names it.
 use Rattle.std.specs.Prelude.{◌≡◌, ℕ, zero, suc, ◌+◌, ◌<◌, ◌≤◌, ◌==◌, ◌&&◌, List, [], ◌∷◌, length, slice_index, slice_index_or, Bool, true, false, if◌then◌else◌}
 use Rattle.std.specs.List.{Contains}
 use Rattle.row_buf.specs.Rows.{Rows}
@@ -26,31 +26,31 @@ positives [] = 0
 positives (zero ∷ counts) = positives counts
 positives (suc n ∷ counts) = suc (positives counts)
 
--- the slots whose count is 0 are listed, each once
+-- `work` lists the slots whose count is 0, each once
 pub record EmptySlotsAreListed (counts work : List ℕ) : Type 0 where
   pub within : (p : ℕ) → p < length work → slice_index work p < length counts
   pub zero_there : (p : ℕ) → p < length work → slice_index counts (slice_index work p) ≡ 0
   pub all_there : (slot : ℕ) → slot < length counts → slice_index counts slot ≡ 0 → Contains work slot
   pub room : length work + positives counts ≡ length counts
 
--- and there is room to list each of the others
+-- `work` lists the slots whose count is 0, and has room for exactly the others
 pub record IsWorkOf (counts : List ℕ) (work : Rows ℕ) : Type 0 where
   pub listed : EmptySlotsAreListed counts work.items
   pub spare : work.spare ≡ positives counts
 
--- the one list begins with the other
+-- the new list begins with the old one
 pub record Extends (old new : List ℕ) : Type 0 where
   pub longer : length old ≤ length new
   pub same : (p : ℕ) → p < length old → slice_index new p ≡ slice_index old p
 
--- the counts are those of the uses of marked items, and the slots of count 0 are listed
+-- the count of a slot is how many uses of marked items give it, and the slots of count 0 are listed
 pub record IsCounted (items slots : ℕ) (uses : List Use) (marks : List Bool) (counts : List ℕ) (work : Rows ℕ) : Type 0 where
   pub item_count : length marks ≡ items
   pub slot_count : length counts ≡ slots
   pub counted : (slot : ℕ) → slot < slots → slice_index counts slot ≡ supply (marked marks) uses slot (length uses)
   pub listed : IsWorkOf counts work
 
--- no mark is new, and no consistent set loses an item
+-- no mark is new, and a consistent set whose items were all marked keeps all of its marks
 pub record IsSafe (items : ℕ) (uses : List Use) (old new : List Bool) : Type 0 where
   pub fewer : (item : ℕ) → marked new item ≡ true → marked old item ≡ true
   pub safe : (other : ℕ → Bool) → IsConsistent items uses other → ((item : ℕ) → other item ≡ true → marked old item ≡ true)

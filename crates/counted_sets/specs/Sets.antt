@@ -1,9 +1,9 @@
--- Items that stand only while each slot that they need is given by an item that stands.
+-- Consistent sets of items: each slot that an item of the set needs is given by an item of the set.
 use Rattle.std.specs.Prelude.{◌≡◌, ℕ, ◌<◌, List, slice_index_or, Bool, true, false}
 use Rattle.std.specs.List.{Contains}
 use Rattle.counted_sets.specs.declared.uses.Use.{Use}
 
--- the items that are marked
+-- whether the item is marked
 abbrev pub marked : List Bool → ℕ → Bool
 marked marks item = slice_index_or marks item false
 
@@ -11,7 +11,7 @@ marked marks item = slice_index_or marks item false
 abbrev pub IsGiven : List Use → (ℕ → Bool) → ℕ → Type 0
 IsGiven uses kept slot = (giver : Use) × Contains uses giver × (kept giver.item ≡ true) × (giver.gives ≡ slot)
 
--- of items that are numbered below an end some are kept, and each slot that a kept one needs is given
+-- the kept items have numbers below `items`, and each slot that a kept item needs is given by a kept item
 pub record IsConsistent (items : ℕ) (uses : List Use) (kept : ℕ → Bool) : Type 0 where
   pub within : (item : ℕ) → kept item ≡ true → item < items
   pub given : (need : Use) → Contains uses need → kept need.item ≡ true → IsGiven uses kept need.needs
@@ -21,7 +21,7 @@ pub record IsGreatest (items : ℕ) (uses : List Use) (kept : ℕ → Bool) : Ty
   pub consistent : IsConsistent items uses kept
   pub greatest : (other : ℕ → Bool) → IsConsistent items uses other → (item : ℕ) → other item ≡ true → kept item ≡ true
 
--- item and slots of the use are below their ends
+-- the use's item is below `items`, and its two slots are below `slots`
 pub record IsUseOf (items slots : ℕ) (u : Use) : Type 0 where
   pub item : u.item < items
   pub gives : u.gives < slots

@@ -1,4 +1,4 @@
-//! Uses with one item, or with one needed slot, linked from the last one back.
+//! Links uses that have the same item, or that need the same slot, from the last one back to the first.
 ghost use Rattle.std.specs.Prelude.{◌≡◌, ◌+◌, ◌^◌, ◌<◌, ◌≤◌, All, IfOk, ℕ, length, slice_index};
 ghost use Rattle.counted_sets.specs.Chains.{AreUseChains, last_before};
 ghost use Rattle.counted_sets.specs.Counts.{item_at, need_at};
@@ -9,7 +9,8 @@ use base_io::NoMemory;
 use row_buf::RowBuf;
 use std::alloc::Global;
 
-/// Places are counted from 1, so that 0 means no place. It takes 4 bytes for each key and for each place.
+/// For each key the last place that has it, and for each place the place before it with the same key. In both, places are counted from 1,
+/// and 0 means no place. It takes 4 bytes for each key and for each place.
 #[derive(Drop)]
 pub(crate) struct Chains {
     lasts: RowBuf<u32>,
@@ -48,7 +49,7 @@ impl Chains {
         self.lasts.set(key, self.befores.len() as u32);
     }
 
-    /// The last place with the key.
+    /// The last place with the key, counted from 1, or 0 if there is no such place.
     pub(crate) fn last(&self, key: u32) -> u32
         requires { key < length self.now.lasts.items }
         ensures { result ≡ slice_index self.now.lasts.items key }
@@ -56,7 +57,7 @@ impl Chains {
         self.lasts.get(key)
     }
 
-    /// The place before this one, which is counted from 0 here, with the same key.
+    /// The place before this one with the same key, counted from 1, or 0 if there is no such place. The argument is counted from 0.
     pub(crate) fn before(&self, place: u32) -> u32
         requires { place < length self.now.befores.items }
         ensures { result ≡ slice_index self.now.befores.items place }
@@ -65,7 +66,7 @@ impl Chains {
     }
 }
 
-/// The uses of each item.
+/// Chains of the uses of each item.
 pub(crate) fn chained_by_item(alloc: Global, items: u32, uses: &[Use]) -> Result<Chains, NoMemory>
     requires items { All (λ u. u.item < items) uses.now }
     requires few { length uses.now < 2 ^ 32 }
@@ -78,7 +79,7 @@ pub(crate) fn chained_by_item(alloc: Global, items: u32, uses: &[Use]) -> Result
     Ok(chains)
 }
 
-/// The uses that need each slot.
+/// Chains of the uses that need each slot.
 pub(crate) fn chained_by_need(alloc: Global, slots: u32, uses: &[Use]) -> Result<Chains, NoMemory>
     requires slots { All (λ u. u.needs < slots) uses.now }
     requires few { length uses.now < 2 ^ 32 }

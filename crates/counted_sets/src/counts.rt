@@ -1,4 +1,4 @@
-//! Counts of slots, and the slots whose count is 0.
+//! Counts how often each slot is given, and lists the slots whose count is 0.
 ghost use Rattle.std.specs.Prelude.{◌≡◌, ◌==◌, ◌+◌, ◌-◌, ◌^◌, ◌<◌, ◌≤◌, ℕ, All, IfOk, length, slice_index, slice_set, true};
 ghost use Rattle.counted_sets.specs.Chains.{AreUseChains};
 ghost use Rattle.counted_sets.specs.Counts.{EmptySlotsAreListed, Extends, IsWorkOf, item_at, supply};
@@ -9,7 +9,7 @@ use base_io::NoMemory;
 use row_buf::RowBuf;
 use std::alloc::Global;
 
-/// How often each slot is given.
+/// How many uses give each slot.
 pub(crate) fn count_all(alloc: Global, slots: u32, uses: &[Use]) -> Result<RowBuf<u32>, NoMemory>
     requires slots { All (λ u. u.gives < slots) uses.now }
     requires few { length uses.now < 2 ^ 32 }
@@ -60,7 +60,7 @@ fn take_one(slot: u32, counts: &mut RowBuf<u32>, work: &mut RowBuf<u32>)
     }
 }
 
-/// Lowers the count of each slot that the item gives.
+/// Lowers a slot's count by one for each use of the item that gives the slot.
 pub(crate) fn take_off(
     uses: &[Use],
     of_item: &Chains,

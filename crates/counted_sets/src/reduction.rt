@@ -1,4 +1,4 @@
-//! Items go while a slot that they need has the count 0.
+//! Removes items as long as a slot that they need has the count 0.
 ghost use Rattle.std.specs.Prelude.{◌≡◌, ◌^◌, ◌<◌, All, IfOk, false, length, slice_index, slice_set};
 ghost use Rattle.counted_sets.specs.Chains.{AreUseChains};
 ghost use Rattle.counted_sets.specs.Counts.{AreGone, Extends, IsCounted, IsSafe, item_at, need_at};
@@ -11,7 +11,7 @@ use base_io::NoMemory;
 use row_buf::RowBuf;
 use std::alloc::Global;
 
-// Removes an item, with what it gives. An item that isn't marked was removed before and gives nothing.
+// Removes an item: it loses its mark, and the slots that it gives are counted down. An item without a mark was removed before.
 fn remove(
     uses: &[Use],
     of_item: &Chains,

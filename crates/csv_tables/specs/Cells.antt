@@ -20,7 +20,7 @@ row_of_columns texts (kind ∷ kinds) [] row = []
 row_of_columns texts (kind ∷ kinds) (column ∷ columns) row =
     value_of_cell texts kind (slice_index column row) ∷ row_of_columns texts kinds columns row
 
--- the first so many rows of columns
+-- the first `rows` rows of columns of these kinds
 abbrev pub rows_of_columns : List (List ℕ) → List Kind → List (List ℕ) → ℕ → List Row
 rows_of_columns texts kinds columns zero = []
 rows_of_columns texts kinds columns (suc rows) =
@@ -30,24 +30,24 @@ rows_of_columns texts kinds columns (suc rows) =
 abbrev pub rows_of_cells : List (List ℕ) → Cells → List Row
 rows_of_cells texts cells = rows_of_columns texts cells.kinds cells.columns cells.rows
 
--- a cell of this kind: of a number it has 64 bits, of a text it is the number of one in the pool
+-- a cell of this kind: in a column of numbers it is below 2^64, in a column of texts it is the number of a text in the pool
 abbrev pub IsCell : List (List ℕ) → Kind → ℕ → Type 0
 IsCell texts kind.Int cell = cell < 2 ^ 64
 IsCell texts (kind.Text most) cell = cell < length texts
 
--- a column of so many cells of this kind
+-- a column of `rows` cells of this kind
 pub record IsColumn (texts : List (List ℕ)) (rows : ℕ) (kind : Kind) (column : List ℕ) : Type 0 where
   pub height : length column ≡ rows
   pub cells : All (IsCell texts kind) column
 
--- columns of these kinds, each of so many cells
+-- columns of these kinds, each of `rows` cells
 abbrev pub AreColumns : List (List ℕ) → ℕ → List Kind → List (List ℕ) → Type 0
 AreColumns texts rows [] [] = ⊤
 AreColumns texts rows [] (column ∷ columns) = ⊥
 AreColumns texts rows (kind ∷ kinds) [] = ⊥
 AreColumns texts rows (kind ∷ kinds) (column ∷ columns) = IsColumn texts rows kind column × AreColumns texts rows kinds columns
 
--- the cells of a table's columns, each column with one cell for each row, and texts that are in the pool
+-- the cells of a table's columns: each column has its kind, one cell for each row, and texts that are in the pool
 pub record AreCellsOf (table : Table) (texts : List (List ℕ)) (cells : Cells) : Type 0 where
   pub kinds : cells.kinds ≡ map (λ column. column.kind) table.columns
   pub columns : AreColumns texts cells.rows cells.kinds cells.columns

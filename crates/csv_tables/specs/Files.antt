@@ -13,7 +13,7 @@ use Rattle.csv_tables.specs.Records.{Record, records_of}
 use Rattle.csv_tables.specs.Rows.{Row, rows_of_records}
 use Rattle.csv_tables.specs.Steps.{◌>>=◌, refuse_if}
 
--- the header is the first record. A file without records has no header field
+-- the header is the first record. The header of a file without records has no field
 abbrev pub header_of : List Record → Record
 header_of [] = []
 header_of (header ∷ records) = header
@@ -23,19 +23,19 @@ abbrev pub after_header : List Record → List Record
 after_header [] = []
 after_header (header ∷ records) = records
 
--- the rows of a file's records, of which the first is the header, before the keys are looked at
+-- the rows of a file's records, where keys aren't checked. The first record is the header
 unfoldable pub rows_under_header : List Column → List Record → Result (List Row) TableError
 rows_under_header columns records =
     column_places 0 columns (header_of records)
     >>= (λ places. rows_of_records columns places (length (header_of records)) 1 (after_header records))
 
--- the rows of a table in the records of its file
+-- the rows of a table in the records of its file, where keys are checked too
 unfoldable pub rows_in_records : Table → List Record → Result (List Row) TableError
 rows_in_records table records = rows_under_header table.columns records >>= rows_with_keys table.keys
 
--- the rows of a table in its file, row by row the values in declared order; or the first refusal: bytes that are no UTF-8, a column that the
--- header does not name once, a record behind it (the 4,000,001st, or of another width than the header, or with a field outside its column's
--- type), a key whose values repeat. A byte order mark at the front is dropped. Header fields that name no column are passed over
+-- the rows of a table in its file, each with its values in declared order; or the first refusal: bytes that aren't UTF-8; a column that the
+-- header doesn't name exactly once; a record after it (the 4,000,001st, or of another width than the header, or with a field outside its
+-- column's type); a key whose values repeat. A byte order mark at the front is dropped. Header fields that name no column are ignored
 unfoldable pub rows_of_file : Table → List ℕ → Result (List Row) TableError
 rows_of_file table bytes =
     refuse_if (not (is_utf8 bytes)) (error.Utf8 (utf8_valid_len bytes)) (rows_in_records table (records_of (strip_bom bytes)))

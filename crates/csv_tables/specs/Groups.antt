@@ -1,4 +1,4 @@
--- Places that are numbered by the first place that is like them.
+-- Groups of places that are alike: the number of a place is the first place that is like it.
 use Rattle.std.specs.Prelude.{ℕ, ◌≡◌, ◌<◌, ◌≤◌, ◌+◌, ◌==◌, ◌&&◌, nat_eq, Bool, true, false, if◌then◌else◌, List, [], ◌∷◌, length, slice_index, slice_index_or, Option, None, Some}
 use Rattle.std.specs.List.{list_all}
 use Rattle.csv_tables.specs.declared.types.Repeat.{Repeat}
@@ -10,13 +10,13 @@ same_pair a b = nat_eq a.0 b.0 && nat_eq a.1 b.1
 abbrev pub are_alike : List ℕ → List ℕ → ℕ → ℕ → Bool
 are_alike group cells i j = nat_eq (slice_index group i) (slice_index group j) && nat_eq (slice_index cells i) (slice_index cells j)
 
--- the first place that is like i
+-- `first` is the first place that is like i
 pub record IsFirst (like : ℕ → ℕ → Bool) (i first : ℕ) : Type 0 where
   pub at_most : first ≤ i
   pub same : like i first ≡ true
   pub least : (j : ℕ) → j < first → like i j ≡ false
 
--- each place is numbered by the first one that is like it
+-- `group` has for each place the first place that is like it
 abbrev pub AreFirsts : (ℕ → ℕ → Bool) → List ℕ → Type 0
 AreFirsts like group = (i : ℕ) → i < length group → IsFirst like i (slice_index group i)
 
@@ -25,12 +25,12 @@ abbrev pub have_same_cells : List (List ℕ) → List ℕ → ℕ → ℕ → Bo
 have_same_cells columns key i j = list_all
     (λ column. slice_index (slice_index_or columns column []) i == slice_index (slice_index_or columns column []) j) key
 
--- the first place, counted from `at`, that is not numbered by itself, as records that are numbered from 1
+-- the first place, counted from `at`, whose number isn't the place itself. Both are given as numbers of records, counted from 1
 abbrev pub repeat_from : ℕ → List ℕ → Option Repeat
 repeat_from at [] = None
 repeat_from at (first ∷ group) = if first == at then repeat_from (at + 1) group else Some (record { later = at + 1; earlier = first + 1 })
 
--- the first repeat of a key among so many rows
+-- `found` is the first repeat of a key among the first `rows` rows, or None
 pub record IsRepeat (columns : List (List ℕ)) (key : List ℕ) (rows : ℕ) (found : Option Repeat) : Type 0 where
   pub group : List ℕ
   pub long : length group ≡ rows

@@ -7,23 +7,23 @@ use Rattle.csv_tables.specs.declared.types.TableError.TheVariants as error
 use Rattle.csv_tables.specs.Records.{Record}
 use Rattle.csv_tables.specs.Steps.{or_refuse, then_all}
 
--- the places, counted from `at`, of the fields that are this name in letters of either case
+-- the places of the fields that equal this name, ignoring ASCII case; the first field has the place `at`
 abbrev pub places_from : ℕ → List ℕ → Record → List ℕ
 places_from at name [] = []
 places_from at name (field ∷ fields) =
     if str_eq_ignore_ascii_case field name then at ∷ places_from (at + 1) name fields else places_from (at + 1) name fields
 
--- the one item of a list that has one
+-- a list's item, if the list has exactly one
 abbrev pub only : {X : Type 0} → List X → Option X
 only [] = None
 only (x ∷ []) = Some x
 only (x ∷ y ∷ rest) = None
 
--- the place of the one header field that names the column
+-- the place of the header field that names the column, if exactly one does
 abbrev pub column_place : List ℕ → Record → Option ℕ
 column_place name header = only (places_from 0 name header)
 
--- the places of the columns; the first column has this number; the first column without one is refused
+-- the places of the columns, which are numbered from `number`; the first column that no field or several fields name is refused
 abbrev pub column_places : ℕ → List Column → Record → Result (List ℕ) TableError
 column_places number [] header = Ok []
 column_places number (column ∷ columns) header =

@@ -11,7 +11,7 @@ use Rattle.csv_tables.specs.Values.{Value, Int, is_same}
 abbrev pub key_values : List ℕ → Row → List Value
 key_values key row = map (λ column. slice_index_or row column (Int (pos 0))) key
 
--- values are equal one by one
+-- the two lists have equal values, place by place
 abbrev pub are_same : List Value → List Value → Bool
 are_same a b = pointwise is_same a b
 
@@ -19,14 +19,14 @@ abbrev pub repeat_or : Option Repeat → Option ℕ → ℕ → Option Repeat
 repeat_or rest None later = rest
 repeat_or rest (Some place) later = Some (record { later = later; earlier = place + 1 })
 
--- lists of values, one for each record behind those that were seen, all numbered from 1: the first that is the same as an earlier one, by its
--- number, and the number of the first that it is the same as
+-- the first of the later lists of values that equals a list before it: its number, and the number
+-- of the first list that it equals. Numbers are counted from 1, and the lists in `seen` come first
 abbrev pub repeat_after : List (List Value) → List (List Value) → Option Repeat
 repeat_after seen [] = None
 repeat_after seen (values ∷ rest) =
     repeat_or (repeat_after (seen ++ values ∷ []) rest) (position (are_same values) seen) (length seen + 1)
 
--- the least record whose values in the key's columns are those of an earlier record, and that earlier record
+-- the first record that repeats an earlier record's values in the key's columns, and the first record with these values
 abbrev pub first_repeat : List ℕ → List Row → Option Repeat
 first_repeat key rows = repeat_after [] (map (key_values key) rows)
 
@@ -34,7 +34,7 @@ abbrev pub or_rows : List Row → Option Repeat → Result (List Row) TableError
 or_rows rows None next = next
 or_rows rows (Some repeat) next = Err (error.Key repeat.later repeat.earlier)
 
--- the rows, where they repeat no values of a key; else the first key in declared order that has a repeat is refused
+-- the rows, if no key's values repeat in them; else the refusal of the first key, in declared order, whose values repeat
 abbrev pub rows_with_keys : List (List ℕ) → List Row → Result (List Row) TableError
 rows_with_keys [] rows = Ok rows
 rows_with_keys (key ∷ keys) rows = or_rows rows (first_repeat key rows) (rows_with_keys keys rows)

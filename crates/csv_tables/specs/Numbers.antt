@@ -8,7 +8,7 @@ abbrev pub is_minus : List ℕ → Bool
 is_minus [] = false
 is_minus (c ∷ cs) = c == 45
 
--- the field without the sign at its front, where it has one
+-- the field without the + or - at its front, if it has one
 abbrev pub without_sign : List ℕ → List ℕ
 without_sign [] = []
 without_sign (c ∷ cs) = if c == 45 || c == 43 then cs else c ∷ cs
@@ -18,27 +18,27 @@ abbrev pub is_numeral : List ℕ → Bool
 is_numeral [] = false
 is_numeral (c ∷ cs) = all_ascii_digits (c ∷ cs)
 
--- the number that digits spell behind those of n: a digit counts ten times the one after it
+-- the decimal number whose digits are those of n and then these
 abbrev pub decimal_after : ℕ → List ℕ → ℕ
 decimal_after n [] = n
 decimal_after n (c ∷ cs) = decimal_after (n * 10 + (c - 48)) cs
 
--- the number that digits spell, where they are digits and spell at most so much
+-- the number that these bytes spell, if they are digits and the number is at most `most`
 abbrev pub size_of : ℕ → List ℕ → Option ℕ
 size_of most digits =
     if is_numeral digits && nat_le (decimal_after 0 digits) most then Some (decimal_after 0 digits) else None
 
--- the greatest size of a signed number of 64 bits, below 0 and from 0 on
+-- the greatest magnitude of a signed number of 64 bits: `true` for numbers below 0, `false` for the others
 abbrev pub greatest_magnitude : Bool → ℕ
 greatest_magnitude true = 2 ^ 63
 greatest_magnitude false = 2 ^ 63 - 1
 
--- the number of this size, below 0 or not
+-- the number of this magnitude, negated if `true`
 abbrev pub signed : Bool → ℕ → ℤ
 signed true size = neg_ℤ (pos size)
 signed false size = pos size
 
--- the number that a field spells: a sign or none, then digits, in the signed range of 64 bits
+-- the number that a field spells: an optional sign, then digits, in the signed range of 64 bits
 abbrev pub number_of : List ℕ → Option ℤ
 number_of field = option_map (signed (is_minus field)) (size_of (greatest_magnitude (is_minus field)) (without_sign field))
 

@@ -1,9 +1,9 @@
--- Texts and their numbers.
+-- The texts of a pool, and how it grows.
 use Rattle.std.specs.Prelude.{ℕ, ◌≡◌, List, [], ◌∷◌, ◌++◌, if◌then◌else◌, AllPairs, ◌≢◌}
 use Rattle.std.specs.List.{list_any}
 use Rattle.std.specs.Str.{bytes_eq}
 
--- the texts after one more: one that is new goes last
+-- the texts, with this text added at the end if it is new
 abbrev pub with_text : List (List ℕ) → List ℕ → List (List ℕ)
 with_text texts text = if list_any (bytes_eq text) texts then texts else texts ++ text ∷ []
 

@@ -1,4 +1,4 @@
--- What is read so far.
+-- When cells and columns hold the rows that the specification gives.
 use Rattle.std.specs.Prelude.{ℕ, ◌≡◌, List, [], ◌∷◌, ◌++◌, map, Result, Ok, ⊤}
 use Rattle.schema_types.specs.declared.types.Column.{Column}
 use Rattle.schema_types.specs.declared.types.Kind.{Kind}
@@ -10,12 +10,12 @@ use Rattle.csv_tables.specs.Values.{Value}
 abbrev pub kinds_of : List Column → List Kind
 kinds_of columns = map (λ column. column.kind) columns
 
--- a cell of a value
+-- the cell is of this kind and has this value
 pub record IsCellOf (texts : List (List ℕ)) (kind : Kind) (value : Value) (cell : ℕ) : Type 0 where
   pub value_is : value_of_cell texts kind cell ≡ value
   pub is_cell : IsCell texts kind cell
 
--- the cells of a row of values
+-- each cell has the value and the kind that stand at its place
 abbrev pub AreCellsOfRow : List (List ℕ) → List Kind → Row → List ℕ → Type 0
 AreCellsOfRow texts [] [] [] = ⊤
 AreCellsOfRow texts [] [] (cell ∷ cells) = ⊥
@@ -24,19 +24,19 @@ AreCellsOfRow texts (kind ∷ kinds) [] cells = ⊥
 AreCellsOfRow texts (kind ∷ kinds) (value ∷ values) [] = ⊥
 AreCellsOfRow texts (kind ∷ kinds) (value ∷ values) (cell ∷ cells) = IsCellOf texts kind value cell × AreCellsOfRow texts kinds values cells
 
--- the cells of the row that is stated
+-- the specification gives a row, and these are its cells
 pub record HoldsRow (stated : Result Row TableError) (texts : List (List ℕ)) (kinds : List Kind) (cells : List ℕ) : Type 0 where
   pub row : Row
   pub is_row : stated ≡ Ok row
   pub cells_of_row : AreCellsOfRow texts kinds row cells
 
--- each column with one more cell
+-- the columns, each with its cell of one more row at the end
 abbrev pub add_row : List (List ℕ) → List ℕ → List (List ℕ)
 add_row [] cells = []
 add_row (column ∷ columns) [] = column ∷ columns
 add_row (column ∷ columns) (cell ∷ cells) = (column ++ cell ∷ []) ∷ add_row columns cells
 
--- the columns of the rows that are stated
+-- the specification gives rows, and these are their columns
 pub record HoldsColumns (stated : Result (List Row) TableError) (texts : List (List ℕ)) (kinds : List Kind) (columns : List (List ℕ))
     (rows : ℕ) : Type 0 where
   pub rows_are : stated ≡ Ok (rows_of_columns texts kinds columns rows)

@@ -1,4 +1,4 @@
--- The records of a file's bytes, and those that a reader has left.
+-- The records of a file's bytes, and the records that a reader has yet to give.
 use Rattle.std.specs.Prelude.{ℕ, ◌≡◌, ◌≤◌, ◌+◌, false, List, [], length, Option, None, Some, IsUtf8}
 use Rattle.std.proofs.Common.{Bor}
 use Rattle.limits.specs.Profile.{most_file}
@@ -12,10 +12,10 @@ use Rattle.csv.specs.declared.reader.Trim.TheVariants as trim
 abbrev pub Record : Type 0
 Record = List (List ℕ)
 
--- the records of bytes, as the kit's crate csv has them (`records` of its specs, which no file of this repository repeats). Commas part fields.
--- CR, LF, or both end a record, and so does the text's end. An empty line is no record. A double quote counts at the front of a field alone: up
--- to the one that closes, commas and line ends belong to the field, and two quotes stand for one. What stands between a closing quote and the
--- next comma belongs to the field too. A field whose quote nothing closes goes on to the text's end
+-- the records of bytes, as the kit's crate csv has them (`records` of its specs, which no file of this repository repeats). Commas
+-- part fields. CR, LF, or both end a record, and so does the text's end. An empty line is no record. A double quote counts only at the
+-- front of a field. Up to the closing quote, commas and line ends belong to the field, and two quotes stand for one. What stands
+-- between the closing quote and the next comma belongs to the field too. A field whose quote is never closed goes on to the text's end
 abbrev pub records_of : List ℕ → List Record
 records_of bytes = records default_config bytes
 
@@ -23,7 +23,7 @@ records_of bytes = records default_config bytes
 abbrev pub Source : Type 0
 Source = Reader (Bor (List ℕ))
 
--- the bytes that it has yet to read, where it has not failed
+-- the bytes that a reader has yet to read, if it has not failed
 abbrev pub unread : Source → Option (List ℕ)
 unread reader = source_of (λ bytes. Some bytes.now) reader
 
@@ -31,11 +31,11 @@ abbrev pub records_in : State → Option (List ℕ) → List Record
 records_in state None = []
 records_in state (Some bytes) = records_from default_config (length bytes + 1) state bytes
 
--- the records that it has yet to give
+-- the records that a reader has yet to give
 abbrev pub left : Source → List Record
 left reader = records_in (reader_state reader) (unread reader)
 
--- it stands between two records of a text of at most 64 MiB, and reads every record as it is
+-- the reader stands between two records, has at most 64 MiB of text left, and gives each field untrimmed
 pub record IsReading (reader : Source) : Type 0 where
   pub config : reader_config reader ≡ default_config
   pub trim : reader_trim reader ≡ trim.None

@@ -21,16 +21,16 @@ is_same (Text a) (Text b) = bytes_eq a b
 is_same (Int a) (Text b) = false
 is_same (Text a) (Int b) = false
 
--- the order of values: numbers by size, texts by the code points of their characters, without padding (SQL-92's NO PAD:
--- a text and the same with a blank at its end differ). No comparison has a number and a text; a number would stand before
--- a text.
+-- the order of values: numbers by size, texts by the code points of their characters, without
+-- padding (SQL-92's NO PAD: a text and the same text with a blank at its end differ). No
+-- query compares a number with a text; in this order a number stands before a text.
 abbrev pub value_cmp : Value → Value → Ordering
 value_cmp (Int a) (Int b) = int_cmp a b
 value_cmp (Text a) (Text b) = slice_cmp nat_cmp (chars a) (chars b)
 value_cmp (Int a) (Text b) = Less
 value_cmp (Text a) (Int b) = Greater
 
--- the value of this kind that a field spells: a number in its range, or a text of at most so many characters
+-- the value of this kind that a field spells: a number in its range, or a text of at most `most` characters
 abbrev pub value_of_field : Kind → List ℕ → Option Value
 value_of_field kind.Int field = option_map Int (number_of field)
 value_of_field (kind.Text most) field = if nat_le (length (chars field)) most then Some (Text field) else None

@@ -1,4 +1,4 @@
-//! Small cases of this crate's words.
+//! Examples of this crate's definitions.
 ghost use Rattle.std.specs.Prelude.{◌≡◌, ◌∷◌, ◌^◌, ◌-◌, [], None, Some, codes, neg_ℤ, pos};
 ghost use Rattle.schema_types.specs.declared.types.Kind.TheVariants as kind;
 ghost use Rattle.csv_tables.specs.Header.{column_place};
@@ -7,7 +7,7 @@ ghost use Rattle.csv_tables.specs.Numbers.{bits_of, number_of};
 ghost use Rattle.csv_tables.specs.Records.{records_of};
 ghost use Rattle.csv_tables.specs.Values.{Int, value_of_field};
 
-/// Theorems by computation. It does nothing.
+/// The examples are this contract's clauses, proved by computation. The function does nothing.
 pub fn examples()
     ensures plus { number_of (codes "+007") ≡ Some (pos 7) }
     ensures least { number_of (codes "-9223372036854775808") ≡ Some (neg_ℤ (pos (2 ^ 63))) }
@@ -17,7 +17,7 @@ pub fn examples()
     ensures cell { bits_of (neg_ℤ (pos 1)) ≡ 2 ^ 64 - 1 }
     ensures value { value_of_field kind.Int (codes "5") ≡ Some (Int (pos 5)) }
 
-    // X and 1, each with CR and LF behind it, and 2 without.
+    // X and 1 are each followed by CR and LF, 2 by the end of the text.
     ensures records { records_of (88 ∷ 13 ∷ 10 ∷ 49 ∷ 13 ∷ 10 ∷ 50 ∷ [])
         ≡ (codes "X" ∷ []) ∷ (codes "1" ∷ []) ∷ (codes "2" ∷ []) ∷ [] }
     ensures place { column_place (codes "X") (codes "Y" ∷ codes "x" ∷ []) ≡ Some 1 }

@@ -10,14 +10,14 @@ use csv::ByteRecord;
 use schema_types::Column;
 use std::alloc::Global;
 
-// Whether a header field is this name in letters of either case.
+// Whether a header field equals this name, ignoring ASCII case.
 fn is_named(field: &[u8], name: &[u8]) -> bool
     ensures { result ≡ str_eq_ignore_ascii_case field.now name.now }
 {
     field.eq_ignore_ascii_case(name)
 }
 
-// The place of the one field that is this name in letters of either case.
+// The place of the field that equals this name, ignoring ASCII case. It answers None if no field does, or several do.
 fn place_of(name: &[u8], header: &ByteRecord) -> Option<usize>
     ensures { result ≡ named_place name.now (fields_of header.now) }
 {

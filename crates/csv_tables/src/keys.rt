@@ -44,7 +44,7 @@ fn number_pairs(alloc: Global, group: &mut [u32], cells: &[u64]) -> Result<(), N
     Ok(())
 }
 
-// The first place that is not numbered by itself.
+// The first place that has another place's number, and that other place. It gives both as records, counted from 1.
 fn repeat_in(group: &[u32]) -> Option<Repeat>
     requires few { length group.now ≤ most_rows }
     requires below { (i : ℕ) → i < length group.now → slice_index group.now i ≤ i }

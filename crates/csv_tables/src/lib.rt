@@ -4,9 +4,10 @@
 //! `csv` reads it). Each field of a declared column becomes one cell of 8 bytes. The cell of a number has its bits;
 //! the cell of a text has the text's number in the pool, which has each text once. Then declared keys are checked.
 //!
-//! Callers cite `rows_of_file` (in `specs/Files.antt`), which says which rows a file has or why it is
-//! refused, and `rows_of_cells` and `AreCellsOf` (in `specs/Cells.antt`), which say which values cells stand
-//! for. They see a `Pool` as the list of its texts. `compare_texts` is the order of texts.
+//! Callers cite `rows_of_file` (in `specs/Files.antt`), which says which rows a file has or why it
+//! is refused. They also cite `rows_of_cells` and `AreCellsOf` (in `specs/Cells.antt`), which say
+//! which values cells stand for. In contracts a `Pool` is the list of its texts. `compare_texts` is
+//! the order of texts.
 #![tactic(auto)]
 
 mod cases;

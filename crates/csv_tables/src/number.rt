@@ -45,7 +45,8 @@ fn long_size(digits: &[u8], most: u64) -> Option<u64>
     Some(size)
 }
 
-// The number that digits spell. It answers None if there are none, if they aren't digits, or if they spell more than the limit.
+// The number that digits spell. It answers None for no bytes, for bytes that aren't digits, and for
+// a number above the limit.
 fn size_of(digits: &[u8], most: u64) -> Option<u64>
     requires { most ≤ 2 ^ 63 }
     ensures { result ≡ spelled_size most digits.now }
@@ -60,7 +61,7 @@ fn size_of(digits: &[u8], most: u64) -> Option<u64>
     }
 }
 
-// The number from 0 on that digits spell, in the signed range of 64 bits.
+// The number that digits without a minus sign spell, in the signed range of 64 bits.
 fn at_least_zero(digits: &[u8]) -> Option<i64>
     ensures { result ≡ option_map (signed false) (spelled_size (greatest_magnitude false) digits.now) }
 {
@@ -68,7 +69,7 @@ fn at_least_zero(digits: &[u8]) -> Option<i64>
     Some(size as i64)
 }
 
-// The number that digits spell behind a minus sign, in the signed range of 64 bits.
+// The number that digits spell after a minus sign, in the signed range of 64 bits.
 fn at_most_zero(digits: &[u8]) -> Option<i64>
     ensures { result ≡ option_map (signed true) (spelled_size (greatest_magnitude true) digits.now) }
 {

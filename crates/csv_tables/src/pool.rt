@@ -27,7 +27,7 @@ impl Model for Pool {
 }
 
 impl Pool {
-    /// No texts. It takes no memory.
+    /// An empty pool. It takes no memory.
     pub fn new(alloc: Global) -> Pool
         ensures { result ≡ [] }
     {

@@ -1,4 +1,4 @@
-//! The records of a file as cells.
+//! Reads the records of a file into columns of cells.
 ghost use Rattle.std.specs.Prelude.{◌≡◌, ◌<◌, ◌≤◌, ◌+◌, ◌^◌, ◌∷◌, [], nat_le, length, map, option_map, replicate, slice_index_or, vec_len, IfErr, IfOk, IfSome, IsUtf8, OnOk, Ok};
 ghost use Rattle.std.specs.Str.{chars};
 ghost use Rattle.limits.specs.Profile.{most_rows};
@@ -22,14 +22,14 @@ use limits::MOST_ROWS;
 use schema_types::{Column, Kind};
 use std::alloc::Global;
 
-// Whether a text has at most so many characters.
+// Whether a text has at most `most` characters.
 fn is_short(text: &str, most: u32) -> bool
     ensures { result ≡ nat_le (length (chars text.now)) most }
 {
     text.chars().count() <= most as usize
 }
 
-// The cell of a text of at most so many characters.
+// The cell of a text. It answers None if the text has more than `most` characters.
 fn cell_of_text(pool: &mut Pool, most: u32, field: &[u8]) -> Result<Option<u64>, NoMemory>
     requires text { IsUtf8 field.now }
     requires room { length pool.old < 4294967295 }
@@ -46,7 +46,7 @@ fn cell_of_text(pool: &mut Pool, most: u32, field: &[u8]) -> Result<Option<u64>,
     Ok(Some(pool.intern(text)? as u64))
 }
 
-// The cell of the value of this kind that a field spells.
+// The cell of the value of this kind that a field spells. It answers None if the field spells no value of this kind.
 fn cell_of_field(pool: &mut Pool, kind: Kind, field: &[u8]) -> Result<Option<u64>, NoMemory>
     requires text { IsUtf8 field.now }
     requires room { length pool.old < 4294967295 }
@@ -64,7 +64,7 @@ fn cell_of_field(pool: &mut Pool, kind: Kind, field: &[u8]) -> Result<Option<u64
     }
 }
 
-// The field at a place of a record, or an empty one.
+// The field at a place of a record. It is empty if the record has no such place.
 fn field_of(row: &ByteRecord, place: usize) -> &[u8]
     requires { AllText (fields_of row.now) }
     ensures field { result.now ≡ slice_index_or (fields_of row.now) place [] }
@@ -76,7 +76,7 @@ fn field_of(row: &ByteRecord, place: usize) -> &[u8]
     }
 }
 
-// The cells of the values of a record in its columns.
+// Puts the cells of a record's values into `cells`, one for each column.
 fn read_row(
     columns: &[Column],
     places: &[usize],
@@ -119,7 +119,7 @@ fn push_row(columns: &mut Vec<Seq<u64>>, cells: &[u64]) -> Result<(), NoMemory>
     Ok(())
 }
 
-// The cells of the row of a record.
+// Checks a record's number and width, and puts the cells of its row into `cells`.
 fn read_record(
     columns: &[Column],
     places: &[usize],
@@ -156,7 +156,7 @@ fn read_record(
     read_row(columns, places, row, number, pool, cells)
 }
 
-// As many columns without cells.
+// `count` columns without cells.
 fn empty_columns(alloc: Global, count: usize) -> Result<Vec<Seq<u64>>, NoMemory>
     ensures { IfOk result (λ columns. columns.items ≡ replicate count []) }
 {

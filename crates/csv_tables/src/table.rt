@@ -24,7 +24,7 @@ use csv::ByteRecord;
 use schema_types::{Column, Kind, Table};
 use std::alloc::Global;
 
-// Whether the bytes are UTF-8.
+// Refuses bytes that aren't UTF-8.
 #[tactic(auto, using(crate::proofs::TextFacts::text_steps))]
 fn check_text(bytes: &[u8]) -> Result<(), TableError>
     requires { length bytes.now ≤ most_file }
@@ -51,7 +51,7 @@ fn kinds(alloc: Global, columns: &[Column]) -> Result<Seq<Kind>, NoMemory>
     Ok(Seq::from_vec(kinds))
 }
 
-// The columns of cells of a file's records below its header, and the number of records.
+// Reads the records after a file's header. It gives their cells, column by column, and the number of records.
 fn read_columns(
     alloc: Global,
     columns: &[Column],
@@ -73,7 +73,7 @@ fn read_columns(
 {
     let mut reader = open_records(alloc, bytes);
     let mut row = ByteRecord::new(alloc);
-    // A file without records has no header field.
+    // A file without records has no header, so no field names the first column.
     if !next_record(&mut reader, &mut row)? {
         return Err(TableError::Header { column: 0 });
     }
@@ -82,8 +82,8 @@ fn read_columns(
     read_rows(alloc, &mut reader, &mut row, columns, &places, width, pool)
 }
 
-/// Reads the cells of a table from its file of at most 64 MiB, close to RFC 4180 as the crate `csv`
-/// reads it. The texts of the file are put into the pool.
+/// Reads the cells of a table from its file of at most 64 MiB. The crate `csv` says which records the file has,
+/// close to RFC 4180. The texts of the file are put into the pool.
 ///
 /// Whatever it answers, the pool still begins with its old texts, in their places.
 pub fn read_table(
@@ -96,7 +96,7 @@ pub fn read_table(
     requires few { length bytes.now ≤ most_file }
     requires room { length pool.old ≤ 4000000000 }
 
-    // The rows of the cells are the rows of the file, or the refusal is the file's.
+    // The rows of the cells are the rows of the file. An error is the file's refusal, or says that memory was too little.
     ensures rows { IfOk result (λ cells. rows_of_file table.now bytes.now ≡ Ok (rows_of_cells pool.new cells)) }
     ensures cells { IfOk result (AreCellsOf table.now pool.new) }
     ensures refused { IfErr result (Refuses (rows_of_file table.now bytes.now)) }

@@ -1,4 +1,4 @@
-//! What is read of table files.
+//! What is read from table files, and why a file is refused.
 ghost use Rattle.std.specs.Prelude.{◌≡◌};
 ghost use Rattle.csv_tables.specs.declared.types.TableError.TheVariants as error;
 
@@ -29,19 +29,19 @@ pub struct Database {
 /// numbered from 0.
 #[derive(Clone, Copy, Debug, PartialEq, Eq)]
 pub enum TableError {
-    /// The file isn't UTF-8; its longest front that is UTF-8 has so many bytes.
+    /// The file isn't UTF-8. Its longest UTF-8 prefix has `at` bytes.
     Utf8 { at: u32 },
     /// No header field names this column, or more than one does.
     Header { column: u32 },
-    /// A record has so many fields, and the header has not.
+    /// Record `row` has `found` fields, and the header has another number of fields.
     Width { row: u32, found: u32 },
-    /// The field of this column is outside the column's type.
+    /// The field of this column in record `row` is outside the column's type.
     Field { row: u32, column: u32 },
-    /// A record has the values of an earlier record in the columns of a key.
+    /// Record `row` has the values of the record `earlier` in the columns of a key.
     Key { row: u32, earlier: u32 },
-    /// There are more records after the header than 4,000,000; at this one the reader stopped.
+    /// More than 4,000,000 records follow the header. The reader stopped at record `found`.
     Limit { found: u32 },
-    /// Memory was wanting.
+    /// There was too little memory.
     NoMemory,
 }
 

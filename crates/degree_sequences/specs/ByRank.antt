@@ -19,7 +19,7 @@ rank_maximum [] t = t
 rank_maximum (x ∷ s) [] = x ∷ s
 rank_maximum (x ∷ s) (y ∷ t) = max x y ∷ rank_maximum s t
 
--- the rank-wise product of s and of each list of ss
+-- the rank-wise product of s and all further lists
 abbrev pub rank_product_with : List ℕ → List (List ℕ) → List ℕ
 rank_product_with s [] = s
 rank_product_with s (t ∷ ts) = rank_product s (rank_product_with t ts)

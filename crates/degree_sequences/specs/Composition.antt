@@ -1,16 +1,16 @@
--- The list of a table's weights by its parent column, from the lists of its columns and of its children.
+-- Composition: a table's list for its parent column, made from the lists of its columns and of its children.
 use Rattle.std.specs.Prelude.{ℕ, ◌-◌, ◌*◌, List, [], ◌∷◌, map, drop, slice_index}
 use Rattle.std.specs.List.{sum, range_with_len}
 use Rattle.degree_sequences.specs.Falling.{trimmed}
 use Rattle.degree_sequences.specs.RunningSums.{running_sum}
 use Rattle.degree_sequences.specs.Rank.{rank}
 
--- a child of a table: the list of the column that joins it, and the list of the weights of its class
+-- a child of a table: the list of the table's column that joins it, and the list of the weights of its class
 pub record ChildLists : Type 0 where
   pub column : List ℕ
   pub class : List ℕ
 
--- what row t weighs, counted from 1: each child gives the class weight at the row's rank in its column, and these are multiplied
+-- the weight of row t, counted from 1: the product over the children of the class weight at the row's rank in the child's column
 abbrev pub weight_by_rank : List ChildLists → ℕ → ℕ
 weight_by_rank [] t = 1
 weight_by_rank (child ∷ children) t = slice_index child.class (rank child.column t - 1) * weight_by_rank children t
@@ -24,10 +24,10 @@ abbrev pub block_sums : List ℕ → List ℕ → List ℕ
 block_sums [] weights = []
 block_sums (count ∷ g) weights = running_sum weights count ∷ block_sums g (drop count weights)
 
--- the composition: the rows of each rank of the parent column, weighed together
+-- the composition: element r is the sum of the weights of the rows of rank r in the parent column. Zeros at the end are dropped
 abbrev pub composed : List ℕ → List ChildLists → List ℕ
 composed parent children = trimmed (block_sums parent (row_weights children (sum parent)))
 
--- the sum of the weights of that many rows, for a table without a parent
+-- the sum of the weights of `rows` rows, for a table without a parent
 abbrev pub root_total : List ChildLists → ℕ → ℕ
 root_total children rows = sum (row_weights children rows)

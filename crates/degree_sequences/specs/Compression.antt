@@ -4,7 +4,7 @@ use Rattle.std.specs.Prelude.{ℕ, zero, suc, ◌+◌, ◌-◌, ◌*◌, min, na
 use Rattle.std.specs.List.{sum}
 use Rattle.degree_sequences.specs.Rank.{rank}
 
--- the head after an element: the element itself where it lies so far below the head, which else stays in force
+-- the head from element x on: x itself if (accuracy + 1) * x is less than accuracy * head, else the head before it
 abbrev pub next_head : ℕ → ℕ → ℕ → ℕ
 next_head accuracy head x = if nat_lt ((accuracy + 1) * x) (accuracy * head) then x else head
 
@@ -13,15 +13,15 @@ abbrev pub heads_from : ℕ → ℕ → List ℕ → List ℕ
 heads_from accuracy head [] = []
 heads_from accuracy head (x ∷ s) = next_head accuracy head x ∷ heads_from accuracy (next_head accuracy head x) s
 
--- the heads of the whole list, of which the first is its first element
+-- the heads of the whole list; the first head is the first element
 abbrev pub heads : ℕ → List ℕ → List ℕ
 heads accuracy f = heads_from accuracy (slice_index f 0) f
 
--- the head that governs row m + 1: that of the element to which the row belongs
+-- the head at the element to which row m + 1 belongs
 abbrev pub slope : ℕ → List ℕ → ℕ → ℕ
 slope accuracy f m = slice_index (heads accuracy f) (rank f (suc m) - 1)
 
--- what comes after elements that sum to m, in at most `count` steps: a step takes the slope there, or what is left of the sum
+-- at most `count` elements that follow elements of sum m: each is the slope there, or what is left of f's sum if that is less
 abbrev pub compressed_from : ℕ → List ℕ → ℕ → ℕ → List ℕ
 compressed_from accuracy f zero m = []
 compressed_from accuracy f (suc count) m =

@@ -6,12 +6,12 @@ use Rattle.std.specs.List.{count_by, filter}
 abbrev pub degree : List ℕ → ℕ → ℕ
 degree keys a = count_by (λ key. key == a) keys
 
--- the different keys, by their first places
+-- the different keys, in the order of their first places
 abbrev pub different : List ℕ → List ℕ
 different [] = []
 different (key ∷ keys) = key ∷ filter (λ other. not (other == key)) (different keys)
 
--- n in its place of a falling list
+-- the falling list with n put in its place
 abbrev pub put_in : ℕ → List ℕ → List ℕ
 put_in n [] = n ∷ []
 put_in n (m ∷ ms) = if nat_le m n then n ∷ (m ∷ ms) else (m ∷ put_in n ms)
@@ -21,6 +21,6 @@ abbrev pub in_falling_order : List ℕ → List ℕ
 in_falling_order [] = []
 in_falling_order (n ∷ ns) = put_in n (in_falling_order ns)
 
--- the degree list of keys: what the different keys have as degrees, from the greatest down
+-- the degree list of keys: the degrees of the different keys, the greatest first
 abbrev pub degree_list : List ℕ → List ℕ
 degree_list keys = in_falling_order (map (degree keys) (different keys))

@@ -1,11 +1,11 @@
--- Falling lists of whole numbers without a limit. Ranks count from 1, and past its end a list is 0.
+-- Falling lists of whole numbers of any size. Ranks count from 1, and past its end a list is 0.
 use Rattle.std.specs.Prelude.{ℕ, zero, suc, ◌≤◌, List, [], ◌∷◌, slice_index}
 
 -- each element is at most the one before it
 abbrev pub IsFalling : List ℕ → Type 0
 IsFalling s = (r : ℕ) → slice_index s (suc r) ≤ slice_index s r
 
--- x and then s, but nothing where x is 0 and s is empty
+-- x in front of s; the empty list if x is 0 and s is empty
 abbrev pub onto : ℕ → List ℕ → List ℕ
 onto zero [] = []
 onto zero (y ∷ s) = zero ∷ (y ∷ s)

@@ -1,11 +1,11 @@
--- Two families of lists side by side, for the laws that compare what comes of them.
+-- Children whose lists are compared with those of other children, for the laws that compare their compositions.
 use Rattle.std.specs.Prelude.{◌≡◌, ℕ, ◌+◌, ◌*◌, ◌≤◌, List, [], ◌∷◌}
 use Rattle.std.specs.List.{sum}
 use Rattle.degree_sequences.specs.Falling.{IsFalling}
 use Rattle.degree_sequences.specs.RunningSums.{running_sum, IsAbove}
 use Rattle.degree_sequences.specs.Composition.{ChildLists}
 
--- a child of a table with so many rows: its class list falls, and its column has that sum
+-- a child of a table with `total` rows: its class list falls, and its column sums to `total`
 pub record IsChildOf (total : ℕ) (child : ChildLists) : Type 0 where
   pub class_falls : IsFalling child.class
   pub column_sum : sum child.column ≡ total
@@ -14,7 +14,7 @@ pub record IsChildOf (total : ℕ) (child : ChildLists) : Type 0 where
 abbrev pub ColumnFalls : ChildLists → Type 0
 ColumnFalls child = IsFalling child.column
 
--- both lists of a child are above those of its match
+-- both lists of a child are above those of the other child
 pub record ChildIsAbove (child other : ChildLists) : Type 0 where
   pub column : IsAbove child.column other.column
   pub class : IsAbove child.class other.class
@@ -23,14 +23,14 @@ pub record ChildIsAbove (child other : ChildLists) : Type 0 where
 abbrev pub SumsAreWithin : ℕ → ℕ → List ℕ → List ℕ → Type 0
 SumsAreWithin scale factor s t = (r : ℕ) → scale * running_sum s r ≤ factor * running_sum t r
 
--- a child, the one that it is near, and how near its class list is: scale times the one against factor times the other
+-- a child, the exact child that it is near, and how near its class list is: SumsAreWithin with `scale` and `factor`
 pub record MatchedChild : Type 0 where
   pub near : ChildLists
   pub exact : ChildLists
   pub scale : ℕ
   pub factor : ℕ
 
--- a child is near its match: its column by the accuracy, its class list by its own two numbers
+-- a child is near its exact child: the columns as the accuracy says, the class lists as the child's own two numbers say
 pub record IsNear (accuracy : ℕ) (child : MatchedChild) : Type 0 where
   pub column : SumsAreWithin accuracy (accuracy + 1) child.near.column child.exact.column
   pub class : SumsAreWithin child.scale child.factor child.near.class child.exact.class

@@ -5,12 +5,12 @@ use Rattle.degree_sequences.specs.Falling.{IsFalling}
 use Rattle.degree_sequences.specs.Domination.{DominatesKeys, DominatesWeights}
 use Rattle.degree_sequences.specs.Composition.{ChildLists}
 
--- a child as the rows have it: the key of each row, and the class weight of each key
+-- a child of the rows: the key that each row has for it, and the class weight of each key
 pub record ChildKeys : Type 0 where
   pub keys : List ℕ
   pub weight : ℕ → ℕ
 
--- the lists of a child dominate its keys, one for each row, and their class weights
+-- the lists of a child dominate its keys and their class weights; its class list falls, and each row has a key
 pub record DominatesChild (rows : ℕ) (lists : ChildLists) (child : ChildKeys) : Type 0 where
   pub column : DominatesKeys lists.column child.keys
   pub class : DominatesWeights lists.class child.weight

@@ -1,4 +1,4 @@
--- Running sums of a list, and the lists that are known by theirs.
+-- Running sums of a list, and lists that are given by their running sums.
 use Rattle.std.specs.Prelude.{ℕ, zero, suc, ◌+◌, ◌-◌, ◌≤◌, min, max, List, [], ◌∷◌, map, length}
 use Rattle.std.specs.List.{range_with_len}
 use Rattle.degree_sequences.specs.Falling.{trimmed}
@@ -13,7 +13,7 @@ running_sum (x ∷ s) (suc r) = x + running_sum s r
 abbrev pub IsAbove : List ℕ → List ℕ → Type 0
 IsAbove s t = (r : ℕ) → running_sum t r ≤ running_sum s r
 
--- the list of n elements with the running sums sums 1, sums 2 and so on, where sums 0 is 0
+-- the list of n elements whose running sums are `sums 1`, `sums 2` and so on, if `sums` begins with 0 and never falls
 abbrev pub with_running_sums : (ℕ → ℕ) → ℕ → List ℕ
 with_running_sums sums n = map (λ r. sums (suc r) - sums r) (range_with_len 0 n)
 

@@ -1,4 +1,4 @@
-//! Each definition at small numbers.
+//! Each definition, computed for small lists.
 ghost use Rattle.std.specs.Prelude.{◌≡◌, ◌-◌, ◌^◌, ◌∷◌, [], map};
 ghost use Rattle.degree_sequences.specs.ByRank.{rank_product, rank_sum, rank_maximum};
 ghost use Rattle.degree_sequences.specs.Composition.{ChildLists, row_weights, composed, root_total};
@@ -7,7 +7,7 @@ ghost use Rattle.degree_sequences.specs.Degrees.{degree_list};
 ghost use Rattle.degree_sequences.specs.RunningSums.{lesser, cut_at};
 ghost use Rattle.degree_sequences.specs.Saturation.{saturated};
 
-/// Degree lists, and what compression makes of them at an accuracy.
+/// Degree lists, and their compression at several accuracies.
 pub fn compression()
     ensures degrees { degree_list (8 ∷ 8 ∷ 8 ∷ 8 ∷ 8 ∷ 2 ∷ 2 ∷ 2 ∷ 5 ∷ []) ≡ 5 ∷ 3 ∷ 1 ∷ [] }
     ensures heads { heads 1 (5 ∷ 3 ∷ 1 ∷ []) ≡ 5 ∷ 5 ∷ 1 ∷ [] }

@@ -1,4 +1,4 @@
-//! What the definitions mean, in the words of the subject: no law computes anything, and the contract is the law.
+//! Laws of the definitions. Each function does nothing, and its contract is the law.
 ghost use Rattle.std.specs.Prelude.{◌≡◌, ℕ, ◌+◌, ◌-◌, ◌*◌, ◌^◌, ◌<◌, ◌≤◌, ◌==◌, min, max, List, length, map, slice_index};
 ghost use Rattle.std.specs.List.{All, AllByRecursion, Contains, IsDistinct, sum};
 ghost use Rattle.std.specs.List.Sorted.{IsPermutation};
@@ -14,8 +14,9 @@ ghost use Rattle.degree_sequences.specs.RunningSums.{running_sum, lesser, cut_at
 ghost use Rattle.degree_sequences.specs.Runs.{runs};
 ghost use Rattle.degree_sequences.specs.Saturation.{saturated};
 
-/// A degree list rearranges the degrees of the different keys so that they fall, and dominates the keys. What
-/// dominates keys dominates their degrees as weights, and the other way round (SafeBound, SIGMOD 2023).
+/// A degree list has the degrees of the different keys in falling order, and dominates the keys. A
+/// list that dominates keys also dominates their degrees as weights, and the other way round
+/// (SafeBound, SIGMOD 2023).
 pub fn degree_lists()
     ensures different { (keys : List ℕ) → IsDistinct ◌==◌ (different keys) }
     ensures rearranged { (keys : List ℕ) → IsPermutation (map (degree keys) (different keys)) (degree_list keys) }
@@ -27,13 +28,14 @@ pub fn degree_lists()
     ensures from_weights { (s keys : List ℕ) → DominatesWeights s (degree keys) → DominatesKeys s keys }
 {}
 
-/// The rank of row t is the least whose running sum is at least t.
+/// The rank of row t is the least rank whose running sum is at least t, if the list's sum is at least t.
 pub fn ranks()
     ensures reaches { (s : List ℕ) (t : ℕ) → t ≤ sum s → t ≤ running_sum s (rank s t) }
     ensures least { (s : List ℕ) (t r : ℕ) → 0 < t → r < rank s t → running_sum s r < t }
 {}
 
-/// Lists that are known by their running sums, and the operations rank by rank: each answer falls where its lists do.
+/// The running sums of `lesser` and `cut_at`, and the elements of the rank-wise operations. Each
+/// result falls if its lists fall.
 pub fn operations()
     ensures lesser { (s t : List ℕ) (r : ℕ) → running_sum (lesser s t) r ≡ min (running_sum s r) (running_sum t r) }
     ensures cut { (s : List ℕ) (n r : ℕ) → running_sum (cut_at s n) r ≡ min (running_sum s r) n }
@@ -51,11 +53,11 @@ pub fn operations()
 /// A compressed list is above its list, has its sum, stays near it and has few runs. Compression by heads and its
 /// accuracy are this project's own.
 pub fn compressions()
-    // each element is the slope at the rows before it, or the rows that are left
+    // each element is the slope at the sum of the elements before it, or what is left of f's sum if that is less
     ensures element { (accuracy : ℕ) (f : List ℕ) (r : ℕ) → r < length (compressed accuracy f)
         → slice_index (compressed accuracy f) r
         ≡ min (slope accuracy f (running_sum (compressed accuracy f) r)) (sum f - running_sum (compressed accuracy f) r) }
-    // the list goes on until its sum is that of the list, and no further
+    // elements are added only until their sum is f's sum
     ensures goes_on { (accuracy : ℕ) (f : List ℕ) (r : ℕ) → r < length (compressed accuracy f)
         → running_sum (compressed accuracy f) r < sum f }
     ensures sum { (accuracy : ℕ) (f : List ℕ) → IsFalling f → sum (compressed accuracy f) ≡ sum f }
@@ -68,7 +70,7 @@ pub fn compressions()
         → (digits : ℕ) → slice_index f 0 < 2 ^ digits → runs (compressed accuracy f) ≤ accuracy * digits + 1 }
 {}
 
-/// The running sums of a composition are those of the row weights, at the parent's running sums.
+/// A composition's running sum at r is the sum of the first row weights, as many as the parent's running sum at r says.
 pub fn compositions()
     ensures blocks { (parent : List ℕ) (children : List ChildLists) (r : ℕ)
         → running_sum (composed parent children) r ≡ running_sum (row_weights children (sum parent)) (running_sum parent r) }
@@ -76,7 +78,8 @@ pub fn compositions()
         → AllByRecursion (IsChildOf (sum parent)) children → IsFalling (composed parent children) }
 {}
 
-/// Saturating at each step and once at the end is the same, for sums and products and for what is made of them.
+/// Saturating at each step gives the same as saturating once at the end, for sums, products,
+/// rank-wise products, block sums and `trimmed`.
 pub fn saturations()
     ensures sums { (a b : ℕ) → saturated (saturated a + saturated b) ≡ saturated (a + b) }
     ensures products { (a b : ℕ) → saturated (saturated a * saturated b) ≡ saturated (a * b) }

@@ -1,10 +1,11 @@
-//! Falling lists of degrees: what a degree list is, when a list dominates keys, and what is made of such lists.
+//! Falling lists of degrees: what a degree list is, when a list dominates keys, and how such lists are combined.
 //!
-//! The bounds of a query rest on these definitions. Statistics are compressed lists of degrees. A bound is made from them by
-//! products rank by rank and by composition along a tree of joins. Degree lists and
-//! domination are those of SafeBound (SIGMOD 2023), products and composition those of Degree Sequence Bound
-//! (ICDT 2023), compression by heads is this project's own. Nothing here runs: the crate is
-//! definitions, their lemmas, and two modules of laws and examples, each the contract of an empty function.
+//! The bounds of a query rest on these definitions. Statistics are compressed lists of degrees. A
+//! bound is made from them by products rank by rank and by composition along a tree of joins. Degree
+//! lists and domination are those of SafeBound (SIGMOD 2023). Products and composition are those of
+//! Degree Sequence Bound (ICDT 2023). Compression by heads is this project's own. Nothing here runs:
+//! the crate has definitions, their lemmas, and two modules of laws and examples, each the contract
+//! of an empty function.
 //!
 //! Callers cite `degree_list`, `running_sum`, `DominatesKeys`, `DominatesWeights`, `rank_product`,
 //! `rank_sum`, `rank_maximum`, `lesser`, `cut_at`, `compressed`, `composed`, `root_total`, `runs` and `saturated`.

@@ -28,22 +28,22 @@ item_columns = codes "ORDER_ID" ∷ codes "PRODUCT" ∷ []
 abbrev pub product_of_item : ℕ → ℕ
 product_of_item i = if i % 2 == 0 then (i / 2) % 10 else (i / 2) % products
 
--- the order of an item is three on from that of the item before, beginning at the shop's number; behind the last
--- order comes the first
+-- each item's order is three after the order of the item before, and after the last order comes the first again:
+-- item i has the order 3 * i + the shop's number, modulo the number of orders
 abbrev pub item : ℕ → ℕ → List ℕ
 item number i = (3 * i + number) % orders ∷ product_of_item i ∷ []
 
 abbrev pub order_columns : List (List ℕ)
 order_columns = codes "ID" ∷ codes "CUSTOMER" ∷ codes "DAYNO" ∷ []
 
--- the customer of an order is seven on from that of the order before, beginning at the shop's number; days are
--- numbered from 0 to 99, in turn
+-- each order's customer is seven after the customer of the order before, and after the last customer comes the first again: order
+-- i has the customer 7 * i + the shop's number, modulo the number of customers. Days are numbered from 0 to 99, in turn
 abbrev pub order : ℕ → ℕ → List ℕ
 order number i = i ∷ (7 * i + number) % customers ∷ i % 100 ∷ []
 
 abbrev pub customer_columns : List (List ℕ)
 customer_columns = codes "ID" ∷ codes "REGION" ∷ []
 
--- customers live in ten regions, in turn, beginning at the shop's number
+-- customers live in ten regions, in turn: customer i lives in region i + the shop's number, modulo 10
 abbrev pub customer : ℕ → ℕ → List ℕ
 customer number i = i ∷ (i + number) % 10 ∷ []

@@ -1,4 +1,4 @@
-//! Laws of the shop's files. None of them does anything when it runs.
+//! Laws of the shop's files. Each function does nothing, and its contract is the law.
 ghost use Rattle.std.specs.Prelude.{◌≡◌, ◌-◌, ◌^◌, ◌∷◌, [], ℕ, Some, codes};
 ghost use Rattle.base_io.specs.Files.{told, Present};
 ghost use Rattle.csv.specs.Reading.{default_config, records, strip_bom};
@@ -7,7 +7,7 @@ ghost use Rattle.demo_files.specs.Files.{demo_files, file_text};
 ghost use Rattle.demo_files.specs.Shop.{customer, customer_columns, item, item_columns, order, order_columns, product, product_columns};
 ghost use Rattle.demo_files.specs.Texts.{query_text, schema_text};
 
-/// Theorems by computation: how the files begin, and their last records.
+/// How the files begin, and their last records, proved by computation.
 pub fn examples()
     ensures first_products { file_text (table_records product_columns product 2) ≡ codes "ID,KIND\r\n0,0\r\n1,1\r\n" }
     ensures first_items { file_text (table_records item_columns (item 7) 3) ≡ codes "ORDER_ID,PRODUCT\r\n7,0\r\n10,0\r\n13,1\r\n" }
@@ -34,7 +34,7 @@ pub fn files_by_name()
         → told (Some (demo_files number)) (codes "customer.csv") ≡ Present (file_text (customer_records number)) }
 {}
 
-/// Each table's file is read, as CSV, as its records.
+/// Reading each table's file as CSV gives the table's records.
 pub fn files_are_read_back()
     ensures products { records default_config (strip_bom (file_text product_records)) ≡ product_records }
     ensures items { (number : ℕ) → records default_config (strip_bom (file_text (item_records number))) ≡ item_records number }

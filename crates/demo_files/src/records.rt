@@ -1,4 +1,4 @@
-//! The records of the tables, each at the end of its file.
+//! Appends the records of the tables to their files.
 ghost use Rattle.std.specs.Prelude.{◌≡◌, ◌∷◌, ◌++◌, ◌<◌, [], codes, decimal, map, OnOk};
 ghost use Rattle.demo_files.specs.Files.{record_text};
 ghost use Rattle.demo_files.specs.Shop.{customer, item, order, product, product_of_item as product_of};
@@ -13,7 +13,7 @@ pub const ORDERS: u64 = 200_000;
 
 pub const CUSTOMERS: u64 = 50_000;
 
-// A number, and a comma behind it.
+// Appends a number and a comma.
 fn push_field(file: &mut Vec<u8>, number: u64) -> Result<(), NoMemory>
     ensures { OnOk result (file.new.items ≡ file.old.items ++ decimal number ++ 44 ∷ []) }
 {
@@ -23,7 +23,7 @@ fn push_field(file: &mut Vec<u8>, number: u64) -> Result<(), NoMemory>
     Ok(())
 }
 
-// A record's last number, and the end of the record.
+// Appends a record's last number and the end of the record.
 fn push_last(file: &mut Vec<u8>, number: u64) -> Result<(), NoMemory>
     ensures { OnOk result (file.new.items ≡ file.old.items ++ decimal number ++ codes "\r\n") }
 {

@@ -1,4 +1,4 @@
-//! The laws. Each call does nothing.
+//! Laws of the shop's files. Each function does nothing, and its contract is the law.
 ghost use Rattle.std.specs.Prelude.{◌≡◌, ℕ, Ok, codes};
 ghost use Rattle.limits.specs.Profile.{most_text};
 ghost use Rattle.schema_types.specs.declared.types.Schema.{Schema};
@@ -18,7 +18,8 @@ pub fn the_schema_is_read()
     ensures { schema_answer schema_text ≡ Ok shop_schema }
 {}
 
-/// The files of both texts are there, and so is the file of each table of a query over the shop's schema.
+/// The files of the schema text and of the query text are there, and so is the file of each table
+/// of a query over the shop's schema.
 pub fn no_file_is_absent()
     ensures schema { (number : ℕ) → read file.Schema most_text (codes "schema.sql") (demo_files number) ≡ Ok schema_text }
     ensures query { (number : ℕ) → read file.Query most_text (codes "query.sql") (demo_files number) ≡ Ok query_text }

@@ -1,7 +1,8 @@
-//! Every file that a query over the shop reads is one of the shop's: laws, over the files of demo_files.
+//! Laws over the files of `demo_files`: every file that a query over the shop's schema reads is one of them.
 //!
-//! The schema text of the shop declares four tables (`shop_schema` in `specs/ShopSchema.antt`), and there is a file for each. So neither the
-//! schema, nor the query, nor a table of any query over this schema is refused for the absence of its file.
+//! The schema text of the shop declares four tables (`shop_schema` in `specs/ShopSchema.antt`), and
+//! there is a file for each. So no file is absent: not the schema's, not the query's, and not that
+//! of a table of any query over this schema.
 #![tactic(auto)]
 
 mod laws;

@@ -1,8 +1,8 @@
--- Which entries a condition names, each as often as it names it.
+-- Tests of the entries that a condition names. A list of them has an entry as often as the condition names it.
 use Rattle.std.specs.Prelude.{ℕ, Bool, not, ◌&&◌, ◌==◌, List, [], ◌∷◌}
 use Rattle.std.specs.List.{list_all, list_any}
 
--- every entry that is named is one of these
+-- each named entry is one of the placed entries
 abbrev pub are_within : List ℕ → List ℕ → Bool
 are_within named placed = list_all (λ entry. list_any (λ e. entry == e) placed) named
 

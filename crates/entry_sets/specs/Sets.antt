@@ -1,4 +1,4 @@
--- Sets of FROM entries as the bits of a number: entry x is in the set where bit x is set. There are at most sixteen entries.
+-- Sets of FROM entries as the bits of a number: entry x is in the set if bit x is set. There are at most sixteen entries.
 use Rattle.std.specs.Prelude.{◌≡◌, ℕ, ◌+◌, ◌^◌, Bool, true, ◌&&◌, ◌==◌, nat_lt, List, [], ◌∷◌, filter}
 use Rattle.std.specs.List.{range_with_len}
 use Rattle.std.specs.Int.{bit_at}
@@ -7,11 +7,11 @@ use Rattle.std.specs.Int.{bit_at}
 abbrev pub has_entry : ℕ → ℕ → Bool
 has_entry set entry = nat_lt entry 16 && (bit_at set entry == 1)
 
--- each entry of the one set is in the other
+-- each entry of `set` is in `other`
 abbrev pub IsWithin : ℕ → ℕ → Type 0
 IsWithin set other = (entry : ℕ) → has_entry set entry ≡ true → has_entry other entry ≡ true
 
--- those of `count` entries from a first one on that are in the set, in FROM order
+-- the entries of the set among the `count` entries from `first` on, in FROM order
 abbrev pub entries_from : ℕ → ℕ → ℕ → List ℕ
 entries_from set first count = filter (λ entry. bit_at set entry == 1) (range_with_len first count)
 
@@ -19,7 +19,7 @@ entries_from set first count = filter (λ entry. bit_at set entry == 1) (range_w
 unfoldable pub entries_of_set : ℕ → List ℕ
 entries_of_set set = entries_from set 0 16
 
--- the set of different entries
+-- the set of these entries, if they are different
 abbrev pub set_of : List ℕ → ℕ
 set_of [] = 0
 set_of (entry ∷ entries) = 2 ^ entry + set_of entries

@@ -5,7 +5,7 @@ ghost use Rattle.entry_sets.specs.Sets.{IsWithin, entries_of_set, has_entry};
 use crate::iter::Entries;
 use std::marker::Model;
 
-/// A set of FROM entries, which contracts see as the number whose bits are the set: entry x is in it where bit x is set.
+/// A set of at most sixteen FROM entries. Contracts see it as a number: entry x is in the set if bit x is set.
 #[derive(Clone, Copy, Debug, PartialEq, Eq)]
 pub struct EntrySet {
     bits: u16,
@@ -34,14 +34,14 @@ impl EntrySet {
         EntrySet { bits: 0 }
     }
 
-    /// The set of these bits.
+    /// The set with these bits.
     pub const fn from_bits(bits: u16) -> EntrySet
         ensures { result ≡ bits }
     {
         EntrySet { bits }
     }
 
-    /// Its bits.
+    /// The set's bits.
     pub const fn bits(self) -> u16
         ensures { result ≡ self }
     {
@@ -56,7 +56,7 @@ impl EntrySet {
         entry < 16 && (self.bits >> entry) & 1 == 1
     }
 
-    /// The set and the entry.
+    /// The set with the entry added.
     pub fn with(self, entry: u8) -> EntrySet
         requires { entry < 16 }
         ensures entries { (other : ℕ) → has_entry result other ≡ (has_entry self other || (other == entry)) }
@@ -67,7 +67,7 @@ impl EntrySet {
         }
     }
 
-    /// The set but for the entry.
+    /// The set without the entry.
     pub fn without(self, entry: u8) -> EntrySet
         requires { entry < 16 }
         ensures entries { (other : ℕ) → has_entry result other ≡ (has_entry self other && not (other == entry)) }
@@ -78,14 +78,14 @@ impl EntrySet {
         }
     }
 
-    /// Whether each entry of the set is in the other one.
+    /// Whether each entry of the set is in the other set.
     pub fn is_within(self, other: EntrySet) -> bool
         ensures { IsTrue result ↔ IsWithin self other }
     {
         self.bits & other.bits == self.bits
     }
 
-    /// Its entries in FROM order.
+    /// The set's entries in FROM order.
     pub fn entries(self) -> Entries
         ensures { result ≡ entries_of_set self }
     {

@@ -1,5 +1,5 @@
-//! Worked examples of filters over the lists of small columns, from the cells to the list of the filtered entry: theorems by computation.
-//! The row bound of an entry is the sum of its list.
+//! Worked examples of filters over the lists of small columns, from the cells to the list of the
+//! filtered entry. All are proved by computation. The row bound of an entry is the sum of its list.
 #![tactic(auto)]
 
 ghost use Rattle.std.specs.Prelude.{◌≡◌, [], ◌∷◌, None, Some, replicate};
@@ -12,22 +12,22 @@ ghost use Rattle.filter_examples.specs.Columns.{lists_of};
 
 /// Columns that join and filter.
 pub fn small_columns()
-    // X = 99 over 1 to 40: a value that is nowhere has the rest list, since eight values remain
+    // X = 99 over 1 to 40: a value that is in no row has the rest list; eight values aren't frequent
     ensures absent_among_forty { list_where (lists_of (range_with_len 1 40)) (x_is op.Eq 99) ≡ 1 ∷ [] }
-    // over 1, 2, 3 none remains
+    // over 1, 2, 3 all values are frequent, so the rest list is empty
     ensures absent_among_three { list_where (lists_of (1 ∷ 2 ∷ 3 ∷ [])) (x_is op.Eq 99) ≡ [] }
     // X > 5 AND X < 2 over 1 to 32: the least node that holds the leaves of both ends has eight rows
     ensures crossed { list_where (lists_of (range_with_len 1 32)) (And (x_is op.Gt 5 ∷ x_is op.Lt 2 ∷ [])) ≡ replicate 8 1 }
-    // X = 1 OR X = 1 OR X = 1 over 1, 1, 1, 2, 2, 3: the sum 9 is cut by the list of all rows
+    // X = 1 OR X = 1 OR X = 1 over 1, 1, 1, 2, 2, 3: the lists sum to 9 rows, and the list of all rows cuts them to 6
     ensures thrice { list_where (lists_of (1 ∷ 1 ∷ 1 ∷ 2 ∷ 2 ∷ 3 ∷ [])) (Or (x_is op.Eq 1 ∷ x_is op.Eq 1 ∷ x_is op.Eq 1 ∷ []))
         ≡ 3 ∷ 3 ∷ [] }
-    // NOT (X IN (1, 3)): the sums 9 and 7, cut in the same way
+    // NOT (X IN (1, 3)): the lists sum to 9 and 7 rows, and their minima are cut in the same way
     ensures not_in { list_where (lists_of (1 ∷ 1 ∷ 1 ∷ 2 ∷ 2 ∷ 3 ∷ [])) (Not (Or (x_is op.Eq 1 ∷ x_is op.Eq 3 ∷ []))) ≡ 3 ∷ 3 ∷ [] }
-    // the two sums: X <> 1 is up to 1 (3 rows) or from 1 on (6), and X <> 3 up to 3 (6) or from 3 on (1)
+    // these two sums: X <> 1 is up to 1 (3 rows) or from 1 on (6), and X <> 3 is up to 3 (6) or from 3 on (1)
     ensures other_than_one { let lists = lists_of (1 ∷ 1 ∷ 1 ∷ 2 ∷ 2 ∷ 3 ∷ []) in
         sum (rank_sum (lists.range (range_x None (Some (value 1)))) (lists.range (range_x (Some (value 1)) None))) ≡ 9 }
     ensures other_than_three { let lists = lists_of (1 ∷ 1 ∷ 1 ∷ 2 ∷ 2 ∷ 3 ∷ []) in
         sum (rank_sum (lists.range (range_x None (Some (value 3)))) (lists.range (range_x (Some (value 3)) None))) ≡ 7 }
-    // X = X compares no literal: the list of all rows
+    // X = X compares with no literal, so it has the list of all rows
     ensures same { list_where (lists_of (1 ∷ 1 ∷ 1 ∷ 2 ∷ 2 ∷ 3 ∷ [])) (Compare op.Eq column_x column_x) ≡ 3 ∷ 3 ∷ [] }
 {}

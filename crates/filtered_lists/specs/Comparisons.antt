@@ -15,7 +15,7 @@ opposite op.Le = op.Gt
 opposite op.Gt = op.Le
 opposite op.Ge = op.Lt
 
--- the same comparison with its sides changed
+-- the same comparison with its sides swapped
 abbrev pub mirrored : Op → Op
 mirrored op.Eq = op.Eq
 mirrored op.Ne = op.Ne
@@ -30,7 +30,7 @@ pub record Comparison : Type 0 where
   pub column : ℕ
   pub literal : Value
 
--- the comparison of a column with a literal that stands on either side, if it is one
+-- the operands as a comparison of a column with a literal on its right, if one operand is a column and the other a literal
 abbrev pub comparison_of : Op → Operand → Operand → Option Comparison
 comparison_of op (operand.Column column) (operand.Int number) =
     Some (record { op = op; column = column.column; literal = Int number })

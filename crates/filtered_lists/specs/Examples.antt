@@ -9,7 +9,7 @@ use Rattle.query_types.specs.declared.types.Cond.{Cond, Compare}
 use Rattle.filtered_lists.specs.Lists.{ColumnLists, filtered_list}
 use Rattle.filtered_lists.specs.Ranges.{Range}
 
--- the list of entry 0 where this is its one conjunct
+-- the list of entry 0, if this is its only conjunct
 abbrev pub list_where : ColumnLists → Cond → List ℕ
 list_where lists cond = filtered_list lists 0 (cond ∷ [])
 
@@ -46,7 +46,7 @@ range_x low high = record { column = 0; low = low; high = high }
 abbrev pub range_y : Option Value → Option Value → Range
 range_y low high = record { column = 1; low = low; high = high }
 
--- ---- R(X) of 1, 1, 1, 2, 2, 3, which joins by X
+-- ---- R(X) with the rows 1, 1, 1, 2, 2, 3, joined by X
 
 -- the leaf of a number: the leaves of 1, 2 and 3 are 15, 26 and 31
 abbrev pub leaf : Value → ℕ

@@ -8,7 +8,7 @@ use Rattle.filtered_lists.specs.Filters.{ComparisonAnswers, filtered}
 use Rattle.filtered_lists.specs.Ranges.{Range}
 
 -- what statistics know of a joined column of an entry: a list for all rows, for the rows that have a value in a filter
--- column, and for those in a range of a filter column
+-- column, and for the rows in a range of a filter column
 pub record ColumnLists : Type 0 where
   pub whole : List ℕ
   pub equal : ℕ → Value → List ℕ
@@ -18,11 +18,11 @@ pub record ColumnLists : Type 0 where
 abbrev pub list_answers : ColumnLists → ComparisonAnswers (List ℕ)
 list_answers lists = record { whole = lists.whole; equal = lists.equal; range = lists.range; both = lesser; none = []; either = rank_sum }
 
--- the list of a joined column where an entry is filtered by its own conjuncts
+-- the list of a joined column of an entry that is filtered by its own conjuncts
 abbrev pub filtered_list : ColumnLists → ℕ → List Cond → List ℕ
 filtered_list lists entry conjuncts = filtered (list_answers lists) entry conjuncts
 
--- what statistics know of the number of an entry's rows, in the same way
+-- what statistics know of how many rows an entry has: in all, with a value in a filter column, and in a range of a filter column
 pub record RowCounts : Type 0 where
   pub whole : ℕ
   pub equal : ℕ → Value → ℕ

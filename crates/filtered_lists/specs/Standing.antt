@@ -1,4 +1,4 @@
--- When statistics stand for an entry's table, and which rows its own conjuncts leave.
+-- When statistics stand for an entry's table, so that nothing in them is too low; and which rows the entry's own conjuncts leave.
 use Rattle.std.specs.Prelude.{◌≡◌, ◌≤◌, ℕ, Bool, true, ◌&&◌, List, map, length, Option, None, Some}
 use Rattle.std.specs.List.{filter, range_with_len, sum}
 use Rattle.std.specs.Ordering.{is_eq, is_ge, is_le}
@@ -17,7 +17,7 @@ use Rattle.filtered_lists.specs.Ranges.{Range}
 abbrev pub value_in_row : Tables → ℕ → ℕ → ℕ → Value
 value_in_row tables entry column row = column_value tables (λ e. row) (record { from = entry; column = column })
 
--- it is at least the low end and at most the high end; either end may be missing
+-- whether a value is at least the low end, and whether it is at most the high end; either end may be missing
 abbrev pub is_from : Option Value → Value → Bool
 is_from None value = true
 is_from (Some low) value = is_ge (value_cmp value low)
@@ -34,18 +34,18 @@ abbrev pub is_in_range : Tables → ℕ → Range → ℕ → Bool
 is_in_range tables entry range row =
     is_from range.low (value_in_row tables entry range.column row) && is_up_to range.high (value_in_row tables entry range.column row)
 
--- the numbers of an entry's rows that pass a test
+-- the row numbers of an entry's rows that pass a test
 abbrev pub rows_where : Tables → ℕ → (ℕ → Bool) → List ℕ
 rows_where tables entry test = filter test (range_with_len 0 (row_counts tables entry))
 
--- the lists of a joined column stand for an entry's table, whose rows have these keys in that column
+-- the lists of a joined column stand for an entry's table: each dominates the keys of its rows. `key` gives each row's key in that column
 pub record ListsStandFor (lists : ColumnLists) (tables : Tables) (entry : ℕ) (key : ℕ → ℕ) : Type 0 where
   pub whole : DominatesKeys lists.whole (map key (range_with_len 0 (row_counts tables entry)))
   pub equal : (column : ℕ) (value : Value)
       → DominatesKeys (lists.equal column value) (map key (rows_where tables entry (has_value tables entry column value)))
   pub range : (range : Range) → DominatesKeys (lists.range range) (map key (rows_where tables entry (is_in_range tables entry range)))
 
--- the numbers of rows stand for an entry's table
+-- the numbers of rows stand for an entry's table: each is at least the number in the table
 pub record CountsStandFor (counts : RowCounts) (tables : Tables) (entry : ℕ) : Type 0 where
   pub whole : row_counts tables entry ≤ counts.whole
   pub equal : (column : ℕ) (value : Value)

@@ -1,4 +1,4 @@
-//! The definitions at small conditions: theorems by computation.
+//! The definitions, computed for small conditions.
 ghost use Rattle.std.specs.Prelude.{◌≡◌, ◌∷◌, [], codes, None, Some};
 ghost use Rattle.csv_tables.specs.Values.{Text};
 ghost use Rattle.degree_sequences.specs.ByRank.{rank_sum};
@@ -23,7 +23,7 @@ pub fn comparisons()
         ≡ lesser (lists.range (range_x None (Some (value 5)))) lists.whole }
     ensures text { (lists : ColumnLists) → list_where lists (Compare op.Gt column_x (operand.Text (codes "b")))
         ≡ lesser (lists.range (range_x (Some (Text (codes "b"))) None)) lists.whole }
-    // a comparison of two columns of the entry, and a conjunct over two entries
+    // a comparison of two columns of the entry, and a conjunct over two entries: both have the list of all rows
     ensures itself { (lists : ColumnLists) → list_where lists (Compare op.Eq column_x column_y) ≡ lesser lists.whole lists.whole }
     ensures joins { (lists : ColumnLists) → list_where lists (Compare op.Eq column_x column_of_other) ≡ lesser lists.whole lists.whole }
 {}
@@ -55,7 +55,7 @@ pub fn conditions()
 /// A table of six rows: X is 1, 1, 1, 2, 2, 3.
 pub fn tables()
     ensures thrice { list_where six_rows (Or (x_is op.Eq 1 ∷ x_is op.Eq 1 ∷ x_is op.Eq 1 ∷ [])) ≡ 3 ∷ 3 ∷ [] }
-    // NOT (X IN (1, 3)): the sums 9 and 7, cut by the list of all rows
+    // NOT (X IN (1, 3)): the lists sum to 9 and 7 rows, and the list of all rows cuts their minima
     ensures not_in { list_where six_rows (Not (Or (x_is op.Eq 1 ∷ x_is op.Eq 3 ∷ []))) ≡ 3 ∷ 3 ∷ [] }
     ensures once { list_where six_rows (x_is op.Eq 2) ≡ 2 ∷ [] }
 {}

@@ -1,4 +1,4 @@
-//! What the definitions mean: no law computes anything, and the contract is the law.
+//! Laws of the definitions. Each function does nothing, and its contract is the law.
 ghost use Rattle.std.specs.Prelude.{◌≡◌, ℕ, ◌<◌, ◌≤◌, List, [], length, map};
 ghost use Rattle.std.specs.List.{All, sum};
 ghost use Rattle.degree_sequences.specs.Domination.{DominatesKeys};
@@ -10,9 +10,10 @@ ghost use Rattle.filtered_lists.specs.Filters.{own_conjuncts};
 ghost use Rattle.filtered_lists.specs.Lists.{ColumnLists, RowCounts, filtered_list, row_bound};
 ghost use Rattle.filtered_lists.specs.Standing.{CountsStandFor, ListsFall, ListsStandFor, SumTo, scan_of};
 
-/// Never under: where statistics stand for an entry's table, the list of the filtered entry dominates the joined column
-/// over the rows that the entry's scan leaves, and its sum and the row bound are at least their number. `key` gives the
-/// key of each row in the joined column.
+/// No filtered list and no row bound is too low, if the statistics stand for the entry's table. The
+/// list of the filtered entry dominates the joined column over the rows that the entry's scan
+/// leaves. The sum of the list, and the row bound, are at least the number of these rows. `key`
+/// gives the key of each row in the joined column.
 pub fn filters_are_never_under()
     ensures list { (lists : ColumnLists) (tables : Tables) (entry : ℕ) (key : ℕ → ℕ) (conjuncts : List Cond)
         → ListsStandFor lists tables entry key
@@ -25,15 +26,17 @@ pub fn filters_are_never_under()
         → length (scan_of tables entry conjuncts) ≤ row_bound counts entry conjuncts }
 {}
 
-/// The row bound is the sum of the list, the same for every joined column whose lists sum to the same numbers of rows.
+/// The row bound is the sum of the filtered list. So it is the same for every joined column whose
+/// lists sum to the same numbers of rows. It is at most the number of all rows.
 pub fn row_bounds_are_sums()
     ensures sum { (lists : ColumnLists) (counts : RowCounts) (entry : ℕ) (conjuncts : List Cond)
         → SumTo lists counts → sum (filtered_list lists entry conjuncts) ≡ row_bound counts entry conjuncts }
     ensures rows { (counts : RowCounts) (entry : ℕ) (conjuncts : List Cond) → row_bound counts entry conjuncts ≤ counts.whole }
 {}
 
-/// The list of a filtered entry falls where its lists do, and at every rank its running sum is at most that of the list of
-/// all rows. Without a conjunct on the entry alone it is that list, and the row bound is the number of all rows.
+/// The filtered list falls if the lists fall. At every rank its running sum is at most that of the
+/// list of all rows. Without own conjuncts it is the list of all rows, if that has no zeros, and the
+/// row bound is the number of all rows.
 pub fn filters_stay_within_the_whole()
     ensures falls { (lists : ColumnLists) (entry : ℕ) (conjuncts : List Cond) → ListsFall lists
         → IsFalling (filtered_list lists entry conjuncts) }

@@ -1,10 +1,10 @@
-//! The list of a filtered entry, as mathematics: what an entry's own conjuncts make of the lists that statistics know, and
-//! why it dominates what the entry's scan leaves.
+//! The definition of a filtered entry's list: how the entry's own conjuncts combine the lists that statistics know, and
+//! why the result dominates the rows that the entry's scan leaves.
 //!
-//! In: conjuncts, and for a joined column of an entry a list for all rows, for the rows that have a value in a filter
-//! column, and for those in a range of a filter column (`ColumnLists`). Out: definitions and laws; predicate_bounds computes
-//! them. NOT is pushed down to the comparisons, and the comparisons of one column in an AND become one range. AND takes the
-//! minima of running sums, and OR the sum rank by rank. Last, the result is cut by the list of all rows.
+//! In: conjuncts, and lists for a joined column of an entry (`ColumnLists`): for all rows, for the rows that have a value
+//! in a filter column, and for the rows in a range of a filter column. Out: definitions and laws; `predicate_bounds`
+//! computes the lists. NOT is pushed down to the comparisons, and the ranges of one column in an AND become one range. AND
+//! takes the minima of running sums, and OR the sum rank by rank. Last, the result is cut by the list of all rows.
 //!
 //! Callers cite `filtered_list` and `row_bound`, `ListsStandFor` and `CountsStandFor`.
 #![tactic(auto)]

@@ -1,4 +1,4 @@
--- What is asked of an entry's table: columns that are joined, and columns that steps compare with literals.
+-- What is asked of an entry's table: its joined columns, and the columns that steps compare with literals.
 use Rattle.std.specs.Prelude.{◌≡◌, ℕ, Bool, true, false, ◌==◌, ◌<◌, ◌^◌, ◌&&◌, not, if◌then◌else◌, slice_index_or}
 use Rattle.std.specs.Prelude.{All, List, [], ◌∷◌, ◌++◌, map, length, Option, None, Some, IfSome}
 use Rattle.std.specs.List.{filter, list_any}
@@ -36,18 +36,18 @@ abbrev pub or_no_column : List ℕ → List ℕ
 or_no_column [] = no_column ∷ []
 or_no_column (column ∷ columns) = column ∷ columns
 
--- an entry that joins no column is asked for one that it hasn't: its row bound is the same over every column
+-- an entry's joined columns; if it joins no column, the missing column, over which its row bound is the same as over any other
 abbrev pub asked_columns : ℕ → List Edge → List ℕ
 asked_columns entry es = or_no_column (joined_columns entry es)
 
--- a place's column at the end of a list, where the place is of the entry and the column isn't there yet
+-- the columns, with the place's column added at the end if the place is of the entry and the column isn't there yet
 abbrev pub with_place : ℕ → List ℕ → Place → List ℕ
 with_place entry columns place = if place.entry == entry && not (list_any (λ column. place.column == column) columns)
     then columns ++ place.column ∷ [] else columns
 
 -- ---- filter columns
 
--- the column that a step compares with literals
+-- the column that a step compares with literals, if it compares one
 abbrev pub column_asked : Step → Option ℕ
 column_asked step.Whole = None
 column_asked (step.Equal column literal) = Some column
@@ -56,7 +56,7 @@ column_asked step.And = None
 column_asked step.Nothing = None
 column_asked step.Or = None
 
--- a step that is the list of all rows
+-- the step has the list of all rows
 abbrev pub is_whole : Step → Bool
 is_whole step.Whole = true
 is_whole (step.Equal column literal) = false
@@ -65,24 +65,24 @@ is_whole step.And = false
 is_whole step.Nothing = false
 is_whole step.Or = false
 
--- it is one of the table
+-- the column that a step asks for, if it asks for one, is one of the table's
 abbrev pub AsksWithin : Cells → Step → Type 0
 AsksWithin cells step = IfSome (column_asked step) (λ column. column < length cells.kinds)
 
 -- ---- the answer
 
--- the steps, each with its list among those of the column's keys
+-- what is gathered for a column has these steps, each with its list from the lists of the column's keys
 abbrev pub AreStepsOf : List (List ℕ) → Cells → ℕ → List Step → ColumnSteps → Type 0
 AreStepsOf texts cells accuracy steps gathered = (lists : ColumnLists)
     → HaveLists texts cells accuracy (keys_in cells gathered.column) lists → gathered.steps ≡ map (listed lists) steps
 
--- an entry has the steps of its own conjuncts for each column that is asked for
+-- for each column that is asked for, an entry's statistics have the steps of its own conjuncts; its table has fewer than 2^32 rows
 pub record IsGathered (query : Query) (db : Database) (accuracy entry : ℕ) (stats : EntryStats) : Type 0 where
   pub columns : map (λ gathered. gathered.column) stats.columns ≡ asked_columns entry (equalities_of query)
   pub steps : All (AreStepsOf db.pool (cells_of db entry) accuracy (steps_of entry query.conjuncts)) stats.columns
   pub rows : (cells_of db entry).rows < 2 ^ 32
 
--- the first so many entries of a query have theirs
+-- the statistics of the first `count` entries of a query are gathered
 pub record AreGathered (query : Query) (db : Database) (accuracy count : ℕ) (entries : List EntryStats) : Type 0 where
   pub as_many : length entries ≡ count
   pub each : (entry : ℕ) → entry < count → IsGathered query db accuracy entry (slice_index_or entries entry no_columns)

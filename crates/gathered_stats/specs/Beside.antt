@@ -1,4 +1,4 @@
--- Filter columns at rows, and what is gathered for columns that stand beside these rows.
+-- Filter columns at some rows of their table, and what is gathered for columns of other cells that stand beside these rows.
 use Rattle.std.specs.Prelude.{◌≡◌, ℕ, ◌==◌, ◌<◌, true, List, All, IfSome, length, map}
 use Rattle.std.specs.List.{list_any}
 use Rattle.csv_tables.specs.declared.types.Cells.{Cells}
@@ -18,7 +18,7 @@ use Rattle.gathered_stats.specs.Asked.{column_asked, joined_columns}
 use Rattle.gathered_stats.specs.Columns.{HaveLists, cells_in, kind_in}
 use Rattle.gathered_stats.specs.Seen.{cells_at, picked, seen}
 
--- a column of a table at rows
+-- `one` has the table's column with this number, with its cells at these rows
 pub record IsPicked (cells : Cells) (rows : List ℕ) (column : ℕ) (one : PickedColumn) : Type 0 where
   pub exists : column < length cells.kinds
   pub number : one.column ≡ column
@@ -28,21 +28,21 @@ pub record IsPicked (cells : Cells) (rows : List ℕ) (column : ℕ) (one : Pick
 abbrev pub ArePicked : Cells → List ℕ → List PickedColumn → Type 0
 ArePicked cells rows columns = All (λ one. IsPicked cells rows one.column one) columns
 
--- the column that a step asks for is there
+-- the column that a step asks for, if it asks for one, is among these columns
 abbrev pub ServeColumns : List PickedColumn → Step → Type 0
 ServeColumns columns step = IfSome (column_asked step) (λ column. list_any (λ other. other.column == column) columns ≡ true)
 
--- the steps over cells at rows, for a column of other cells at rows beside them: each with its list among those of the column's cells there
+-- the steps over `cells`, for a column of `beside` at `rows`: each step has its list from the lists of the column's cells at these rows
 abbrev pub AreStepsBeside : List (List ℕ) → Cells → ℕ → Cells → List ℕ → List Step → ColumnSteps → Type 0
 AreStepsBeside texts cells accuracy beside rows steps gathered = (lists : ColumnLists)
     → HaveLists texts cells accuracy (picked rows (cells_in beside gathered.column)) lists → gathered.steps ≡ map (listed lists) steps
 
--- for each of these columns, over the cells that a table shows
+-- the steps over the cells that the table shows are gathered for each of these columns
 pub record AreGatheredBeside (table : EntryTable) (beside : Cells) (rows : List ℕ) (steps : List Step) (columns : List ℕ) (stats : EntryStats) : Type 0 where
   pub columns_are : map (λ gathered. gathered.column) stats.columns ≡ columns
   pub steps_are : All (AreStepsBeside table.pool.now (seen table) table.accuracy beside rows steps) stats.columns
 
--- an entry's own steps over rows of its table, for each joined column of another entry at rows beside them
+-- an entry's own steps over `rows` of its table are gathered for each joined column of the entry `other` at `other_rows` beside them
 pub record IsGatheredBeside (query : Query) (db : Database) (accuracy entry : ℕ) (rows : List ℕ) (other : ℕ) (other_rows : List ℕ) (stats : EntryStats) : Type 0 where
   pub columns_are : map (λ gathered. gathered.column) stats.columns ≡ joined_columns other (equalities_of query)
   pub steps_are : All (AreStepsBeside db.pool (cells_at rows (cells_of db entry)) accuracy (cells_of db other) other_rows (steps_of entry query.conjuncts))

@@ -18,12 +18,12 @@ kind_in cells column = slice_index_or cells.kinds column kind.Int
 abbrev pub cells_in : Cells → ℕ → List ℕ
 cells_in cells column = slice_index_or cells.columns column []
 
--- the keys of a joined column: its cells, or one key for all rows where the table has no such column
+-- the keys of a joined column: its cells, or one key for all rows if the table has no such column
 abbrev pub keys_in : Cells → ℕ → List ℕ
 keys_in cells column = slice_index_or cells.columns column (replicate cells.rows 0)
 
 -- keys, one for each row of a table, have these lists: for all rows, for the rows that have a value in a column of the table,
--- and for those in a range of such a column
+-- and for the rows in a range of such a column
 pub record HaveLists (texts : List (List ℕ)) (cells : Cells) (accuracy : ℕ) (keys : List ℕ) (lists : ColumnLists) : Type 0 where
   pub whole : compressed_degrees accuracy keys ≡ lists.whole
   pub equal : (column : ℕ) (value : Value) (cell : Option ℕ) → column < length cells.kinds
@@ -33,6 +33,6 @@ pub record HaveLists (texts : List (List ℕ)) (cells : Cells) (accuracy : ℕ) 
       → list_between texts (kind_in cells range.column) accuracy (zip (cells_in cells range.column) keys) range.low range.high
       ≡ lists.range range
 
--- a column's keys have some
+-- a column's keys have lists
 abbrev pub KeysHaveLists : List (List ℕ) → Cells → ℕ → ℕ → Type 0
 KeysHaveLists texts cells accuracy column = (lists : ColumnLists) × HaveLists texts cells accuracy (keys_in cells column) lists

@@ -12,24 +12,24 @@ use Rattle.gathered_stats.specs.Asked.{column_asked}
 use Rattle.gathered_stats.specs.Columns.{HaveLists, cells_in, kind_in}
 use Rattle.gathered_stats.specs.Seen.{seen}
 
--- a sorted column is the one of a table with this number
+-- the sorted column is the table's column with this number
 pub record IsColumnIn (texts : List (List ℕ)) (cells : Cells) (column : ℕ) (sorted : CellColumn) : Type 0 where
   pub exists : column < length cells.kinds
   pub is : sorted ≡ record { texts = texts; kind = kind_in cells column; cells = cells_in cells column }
 
--- a filter column is one of the table's
+-- the filter is a column of the table, sorted
 abbrev pub IsFilterOf : List (List ℕ) → Cells → Filter → Type 0
 IsFilterOf texts cells filter = IsColumnIn texts cells filter.column filter.sorted
 
--- there is one for a column
+-- some filter is of this column
 abbrev pub is_sorted : List Filter → ℕ → Bool
 is_sorted filters column = list_any (λ filter. filter.column == column) filters
 
--- there is one for a step
+-- some filter is of the column that the step asks for, if it asks for one
 abbrev pub Serve : List Filter → Step → Type 0
 Serve filters step = IfSome (column_asked step) (λ column. is_sorted filters column ≡ true)
 
--- cells in order, and filter columns of this table
+-- each column has a cell of its kind for each row, there are fewer than 2^32 rows, and each filter is a column of the table
 pub record IsReady (table : EntryTable) : Type 0 where
   pub cells : AreCells table.pool.now (seen table)
   pub rows : (seen table).rows < 2 ^ 32

@@ -1,4 +1,4 @@
-//! The steps of an entry's own conjuncts over rows of its table, for columns of another entry that stand beside these rows.
+//! Gathers the steps of an entry's own conjuncts over rows of its table, for the columns of another entry whose rows stand beside these.
 ghost use Rattle.std.specs.Prelude.{◌≡◌, ℕ, ◌==◌, ◌<◌, ◌^◌, All, length, map, slice_index, true, false, IfOk, IfSome, OnOk};
 ghost use Rattle.std.specs.List.{list_any, range_with_len};
 ghost use Rattle.join_graph.specs.Conjuncts.{equalities_of, local_of};
@@ -30,7 +30,7 @@ use row_buf::RowBuf;
 use schema_types::Kind;
 use std::alloc::Global;
 
-/// A filter column at rows, by its number in its table.
+/// The cells of a filter column at some rows. `column` is the column's number in its table.
 #[derive(Drop)]
 pub(crate) struct PickedColumn {
     pub column: u32,
@@ -78,7 +78,7 @@ fn pick(
     })
 }
 
-// Adds the column of a step at these rows, if the step asks for one and it isn't there yet.
+// Adds the column that a step compares with literals, at these rows, if the step has such a column and it isn't there yet.
 fn add_picked(
     alloc: Global,
     pool: &Pool,
@@ -125,7 +125,7 @@ fn picked_columns(
     Ok(columns)
 }
 
-// The same, each sorted.
+// The picked columns, each sorted.
 fn sorted_columns<'a>(
     alloc: Global,
     pool: &'a Pool,
@@ -151,7 +151,8 @@ fn sorted_columns<'a>(
     Ok(filters)
 }
 
-/// Rows of an entry's table, and beside each a row of another entry's table, with what is gathered of all rows of that table.
+/// Rows of an entry's table, and beside each of them a row of another entry's table. `other_stats` has what was gathered over all rows of the
+/// other table.
 #[derive(Clone, Copy)]
 pub struct Beside<'a> {
     pub entry: u8,
@@ -161,7 +162,7 @@ pub struct Beside<'a> {
     pub other_stats: &'a EntryStats,
 }
 
-// Whether the rows are all rows of a table with so many, one after another.
+// Whether these are the numbers of all `count` rows of a table, in order.
 fn is_each_row(rows: &[u32], count: usize) -> bool
     ensures { result ≡ true → rows.now ≡ range_with_len 0 count }
 {
@@ -176,8 +177,8 @@ fn is_each_row(rows: &[u32], count: usize) -> bool
     true
 }
 
-// The steps of a joined column of the other entry. Its cells are copied, and a list of all its rows is made, only where some of its rows are
-// left out or that list isn't there yet.
+// The steps of a joined column of the other entry. If `rows` are all rows of its table in order, no cell is copied, and the list of all rows is
+// `whole` if that is given.
 fn gather_other(
     alloc: Global,
     table: &EntryTable<'_>,
@@ -239,10 +240,12 @@ fn gather_others(
     Ok(EntryStats { columns: gathered })
 }
 
-/// The steps of an entry's own conjuncts over rows of its table, each with its list, for each joined column of another entry, whose rows stand
-/// beside them (SafeBound, SIGMOD 2023: the statistics of a dimension's filters for the columns of a fact table). The parts are those of
-/// `split`. No row is copied but the cells of the columns that are asked for. Where the rows beside are all rows of their table, the lists of
-/// all rows are those of `other_stats`.
+/// Gathers the steps of an entry's own conjuncts over rows of its table, each step with its list, for each joined column of another entry. The
+/// other entry's rows stand beside these rows (SafeBound, SIGMOD 2023: the statistics of a dimension's filters for the columns of a fact
+/// table).
+///
+/// `parts` is what `split` gives for the query. Only cells of the columns that are asked for are copied. If the other entry's rows are all rows
+/// of its table in order, its lists of all rows are taken from `other_stats`, where it has them.
 pub fn gather_beside(
     alloc: Global,
     query: &Query,

@@ -1,4 +1,4 @@
-//! The columns of an entry that statistics are asked for.
+//! The columns of an entry for which statistics are gathered.
 ghost use Rattle.std.specs.Prelude.{◌≡◌, ◌==◌, IfOk, OnOk};
 ghost use Rattle.std.specs.List.{list_any};
 ghost use Rattle.gathered_stats.specs.Asked.{asked_columns, joined_columns, with_place};
@@ -8,14 +8,14 @@ use berge_tree::{Edge, Place};
 use limits::MOST_COLUMNS;
 use std::alloc::Global;
 
-// Whether a column is there.
+// Whether a column is among these.
 fn has(columns: &[u32], column: u32) -> bool
     ensures { result ≡ list_any (λ other. column == other) columns.now }
 {
     columns.iter().any(|other| column == *other)
 }
 
-// Puts a place's column at the end of a list, where the place is of the entry and the column isn't there yet.
+// Adds a place's column at the end of the list, if the place is in this entry and the column isn't there yet.
 fn add(columns: &mut Seq<u32>, place: Place, entry: u8) -> Result<(), NoMemory>
     ensures { OnOk result (columns.new ≡ with_place entry columns.old place) }
 {
@@ -37,8 +37,8 @@ pub fn joined_columns(alloc: Global, equalities: &[Edge], entry: u8) -> Result<S
     Ok(columns)
 }
 
-/// The columns of an entry that equalities name, each once. Where they name none it is a column that no table has: there all rows have one
-/// key, so that its list is made without a sort, and the row bound is the same over every column.
+/// The columns of an entry that equalities name, each once. If they name no column of the entry, the answer is one column that no table has.
+/// There all rows have the same key, so its list is made without a sort. The row bound is the same over every column.
 pub fn asked_columns(alloc: Global, equalities: &[Edge], entry: u8) -> Result<Seq<u32>, NoMemory>
     ensures { IfOk result (λ columns. columns ≡ asked_columns entry equalities.now) }
 {

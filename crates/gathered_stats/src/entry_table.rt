@@ -1,4 +1,4 @@
-//! An entry's table, with what its own conjuncts ask for.
+//! An entry's table, with the columns that the entry's own conjuncts ask for.
 ghost use Rattle.std.specs.Prelude.{◌≡◌, ◌<◌, length, slice_index};
 ghost use Rattle.sql_meaning.specs.Tables.{cells_of};
 
@@ -7,8 +7,8 @@ use base_io::Seq;
 use csv_tables::{Cells, Database, Pool};
 use limits::Accuracy;
 
-/// The table of a FROM entry, the columns that the entry's own conjuncts compare with literals, and the accuracy of lists. Of the table the
-/// whole is seen, or the rows of these numbers, one after another.
+/// The table of a FROM entry, the columns that the entry's own conjuncts compare with literals, and the accuracy of lists. If `whole` is true,
+/// the table shows all its rows. Otherwise it shows only those whose numbers are in `rows`, in that order.
 #[derive(Drop)]
 pub(crate) struct EntryTable<'a> {
     pub pool: &'a Pool,

@@ -12,14 +12,14 @@ use csv_tables::{Cells, Pool};
 use predicate_bounds::Step;
 use std::alloc::Global;
 
-/// A filter column by its number in its table.
+/// A sorted filter column. `column` is its number in its table.
 #[derive(Drop)]
 pub(crate) struct Filter<'a> {
     pub column: u32,
     pub sorted: FilterColumn<'a>,
 }
 
-/// The column that a step compares with literals.
+/// The column that a step compares with literals, if it compares one.
 pub fn column_asked(step: &Step) -> Option<u32>
     ensures { result ≡ column_asked step.now }
 {
@@ -30,7 +30,7 @@ pub fn column_asked(step: &Step) -> Option<u32>
     }
 }
 
-// Whether a column is there.
+// Whether one of these filter columns has this number.
 fn is_sorted(filters: &[Filter<'_>], column: u32) -> bool
     ensures { result ≡ is_sorted filters.now column }
 {
@@ -55,7 +55,7 @@ fn sorted<'a>(
     Ok(Filter { column, sorted })
 }
 
-// Adds the column of a step, if the step asks for one and it isn't there yet.
+// Adds the column that a step compares with literals, if the step has such a column and it isn't there yet.
 fn add_filter<'a>(
     alloc: Global,
     pool: &'a Pool,
@@ -79,7 +79,7 @@ fn add_filter<'a>(
     filters.push(sorted(alloc, pool, cells, column)?)
 }
 
-/// The columns that steps compare with literals.
+/// The columns that steps compare with literals, each sorted once.
 pub(crate) fn filters_of<'a>(
     alloc: Global,
     pool: &'a Pool,
@@ -98,7 +98,7 @@ pub(crate) fn filters_of<'a>(
     Ok(filters)
 }
 
-/// The sorted column of this number.
+/// The sorted column with this number, which has to be there.
 pub(crate) fn find<'a, 'b>(filters: &'b [Filter<'a>], column: u32) -> &'b FilterColumn<'a>
     requires { is_sorted filters.now column ≡ true }
     ensures { (texts : List (List ℕ)) (cells : Cells) → All (IsFilterOf texts cells) filters.now

@@ -1,4 +1,4 @@
-//! The list of each step, for the keys of one joined column.
+//! Makes the list of each step, for the keys of one joined column.
 ghost use Rattle.std.specs.Prelude.{◌≡◌, ◌^◌, ◌≤◌, All, length, map, true, IfOk, IsTrue, OnOk, option_map};
 ghost use Rattle.std.specs.List.{list_any, sum, zip};
 ghost use Rattle.cond_stats.specs.Lists.{compressed_degrees, list_of_value};
@@ -20,7 +20,7 @@ use piece_math::Pieces;
 use predicate_bounds::{ColumnSteps, ListStep, Literal, Range, Step};
 use std::alloc::Global;
 
-/// Whether a step is the list of all rows.
+/// Whether a step asks for the list of all rows.
 pub(crate) fn is_whole(step: &Step) -> bool
     ensures { result ≡ is_whole step.now }
 {
@@ -37,7 +37,7 @@ fn asks_for_whole(steps: &[Step]) -> bool
 }
 
 impl EntryTable<'_> {
-    // The rest list of a filter column: kept from its first need on, and copied from there.
+    // The rest list of a filter column. It is made when it is first needed, and kept in `rests`; the answer is a copy.
     fn rest_of(
         &self,
         keys: &[u64],
@@ -61,7 +61,7 @@ impl EntryTable<'_> {
         Ok(copy)
     }
 
-    // The list of a value of a filter column, by its cell.
+    // The list for the value of a filter column that has this cell: its own list if it is frequent, else the rest list.
     fn list_of_cell(
         &self,
         keys: &[u64],
@@ -84,7 +84,7 @@ impl EntryTable<'_> {
         self.rest_of(keys, column, sorted, rests)
     }
 
-    // The list of the rows that have a literal in a filter column.
+    // The list for the rows that have a literal's value in a filter column.
     fn list_of_literal(
         &self,
         keys: &[u64],
@@ -107,7 +107,7 @@ impl EntryTable<'_> {
         self.list_of_cell(keys, column, sorted, cell, rests)
     }
 
-    // The list of the rows in a range of a filter column.
+    // The list for the rows that have a value of a range in its filter column.
     fn list_within(&self, keys: &[u64], range: &Range) -> Result<Pieces, NoMemory>
         requires ready { IsReady self.now }
         requires keys { length keys.now ≡ (seen self.now).rows }
@@ -122,7 +122,7 @@ impl EntryTable<'_> {
         column.list_of_range(keys, low, high, self.accuracy)
     }
 
-    // The list of all rows where a step asks for it, else an empty one.
+    // The list of all rows if a step asks for it, else an empty list.
     fn whole_for(&self, alloc: Global, keys: &[u64], steps: &[Step]) -> Result<Pieces, NoMemory>
         requires ready { IsReady self.now }
         requires keys { length keys.now ≡ (seen self.now).rows }
@@ -186,7 +186,7 @@ impl EntryTable<'_> {
         self.list_steps_over(alloc, keys, &whole, column, steps)
     }
 
-    /// The same where the list of all rows is there already.
+    /// As `list_steps`, where the caller has the list of all rows, `whole`.
     pub(crate) fn list_steps_over(
         &self,
         alloc: Global,

@@ -1,4 +1,4 @@
-//! What stands for a literal in a column of cells: its cell, and its leaf.
+//! Finds the cell and the leaf of a literal in a column.
 ghost use Rattle.std.specs.Prelude.{◌≡◌, ◌<◌, ℕ, IfSome, option_map};
 ghost use Rattle.schema_types.specs.declared.types.Kind.TheVariants as kind;
 ghost use Rattle.csv_tables.specs.Values.{Int, Text};
@@ -11,7 +11,7 @@ use csv_tables::{Pool, cell_of};
 use predicate_bounds::Literal;
 use schema_types::Kind;
 
-// The cell of a number in a column of a kind. No text is a number.
+// The cell of a number in a column of this kind. A column of texts has no cell for it.
 fn cell_of_int(pool: &Pool, kind: Kind, number: i64) -> Option<u64>
     ensures { IsCellFor pool.now kind (Int number) result }
 {
@@ -21,7 +21,7 @@ fn cell_of_int(pool: &Pool, kind: Kind, number: i64) -> Option<u64>
     }
 }
 
-// The cell of a text in a column of texts, if the pool has it. The pool's length says that its texts are UTF-8.
+// The cell of a text in a column of texts, if the pool has it. `len` is called for its contract: the pool's texts are UTF-8.
 fn find_text(pool: &Pool, text: &str) -> Option<u64>
     ensures { (most : ℕ) → IsCellFor pool.now (kind.Text most) (Text text.now) result }
 {
@@ -32,7 +32,7 @@ fn find_text(pool: &Pool, text: &str) -> Option<u64>
     }
 }
 
-// The cell of a text in a column of a kind. No number is a text.
+// The cell of a text in a column of this kind, if the pool has it. A column of numbers has no cell for it.
 fn cell_of_text(pool: &Pool, kind: Kind, text: &str) -> Option<u64>
     ensures { IsCellFor pool.now kind (Text text.now) result }
 {
@@ -42,7 +42,7 @@ fn cell_of_text(pool: &Pool, kind: Kind, text: &str) -> Option<u64>
     }
 }
 
-/// The cell of a literal in a column of a kind, if one can have it.
+/// The cell of a literal in a column of this kind, if it has one.
 pub(crate) fn cell_of_literal(pool: &Pool, kind: Kind, literal: &Literal) -> Option<u64>
     ensures { IsCellFor pool.now kind (value_of literal.now) result }
 {
@@ -52,7 +52,7 @@ pub(crate) fn cell_of_literal(pool: &Pool, kind: Kind, literal: &Literal) -> Opt
     }
 }
 
-// The leaf of a literal.
+// The leaf in which a literal's value lies.
 fn leaf_of(column: &FilterColumn<'_>, literal: &Literal) -> u8
     ensures leaf { result ≡ leaf_of_value column.now.texts column.now.kind column.now.cells (value_of literal.now) }
     ensures below { result < 32 }
@@ -63,7 +63,7 @@ fn leaf_of(column: &FilterColumn<'_>, literal: &Literal) -> u8
     }
 }
 
-/// The leaf of an end of a range, if there is one.
+/// The leaf of an end of a range, if the range has this end.
 pub(crate) fn end_leaf(column: &FilterColumn<'_>, end: &Option<Literal>) -> Option<u8>
     ensures leaf { result ≡ option_map (leaf_of_value column.now.texts column.now.kind column.now.cells) (option_map value_of end.now) }
     ensures below { IfSome result (λ leaf. leaf < 32) }

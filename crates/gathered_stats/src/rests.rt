@@ -8,14 +8,14 @@ use base_io::NoMemory;
 use cond_stats::FilterColumn;
 use piece_math::Pieces;
 
-/// The rest list of a filter column, by the column's number in its table.
+/// The rest list of a filter column. `column` is the column's number in its table.
 #[derive(Drop)]
 pub(crate) struct RestList {
     pub column: u32,
     pub list: Pieces,
 }
 
-/// The rest list of a filter column, where it is kept.
+/// The rest list of a filter column, if it is kept.
 pub(crate) fn find_rest<'b>(rests: &'b [RestList], column: u32) -> Option<&'b Pieces>
     ensures there { is_some result ≡ is_kept rests.now column }
     ensures list { IfSome result (λ list. (table : EntryTable) (keys : List ℕ) → All (IsRestOf table keys) rests.now
@@ -29,14 +29,14 @@ pub(crate) fn find_rest<'b>(rests: &'b [RestList], column: u32) -> Option<&'b Pi
     None
 }
 
-// Whether a cell is there.
+// Whether a cell is among these.
 fn has(cells: &[u64], cell: u64) -> bool
     ensures { result ≡ list_any (λ other. other == cell) cells.now }
 {
     cells.iter().any(|other| *other == cell)
 }
 
-/// Whether a value, by its cell, is one of the frequent ones of a filter column. `None` stands for a text that the pool doesn't have.
+/// Whether the value with this cell is one of a filter column's frequent values. A value that has no cell (`None`) isn't frequent.
 pub(crate) fn among_frequent(sorted: &FilterColumn<'_>, cell: Option<u64>) -> Result<bool, NoMemory>
     ensures { IfOk result (λ frequent. frequent ≡ among_frequent sorted.now.cells cell) }
 {

@@ -1,4 +1,4 @@
-//! The list of all rows of a column, where it was made already among the steps of the column's entry.
+//! Finds the list of all rows of a column, if it was already made for a step of the column's entry.
 ghost use Rattle.std.specs.Prelude.{◌≡◌, ℕ, All, List, Some, map, slice_get, IfSome};
 ghost use Rattle.cond_stats.specs.Lists.{compressed_degrees};
 ghost use Rattle.csv_tables.specs.declared.types.Cells.{Cells};
@@ -25,7 +25,7 @@ fn list_at(gathered: &ColumnSteps, at: usize) -> Option<&Pieces>
     }
 }
 
-// The list of the first step for all rows.
+// The list of the first step that asks for all rows.
 fn whole_among<'a>(steps: &[Step], gathered: &'a ColumnSteps) -> Option<&'a Pieces>
     ensures { IfSome result (λ list. (lists : ColumnLists) → gathered.now.steps ≡ map (listed lists) steps.now → list.now ≡ lists.whole) }
 {
@@ -37,7 +37,7 @@ fn whole_among<'a>(steps: &[Step], gathered: &'a ColumnSteps) -> Option<&'a Piec
     None
 }
 
-/// The list of all rows of a column, where the steps of its entry have it.
+/// The list of all rows of a column, if the gathered steps of its entry have it.
 pub(crate) fn whole_of<'a>(steps: &[Step], own: &'a EntryStats, column: u32) -> Option<&'a Pieces>
     ensures { IfSome result (λ list. (texts : List (List ℕ)) (cells : Cells) (accuracy : ℕ) → KeysHaveLists texts cells accuracy column
         → All (AreStepsOf texts cells accuracy steps.now) own.now.columns → list.now ≡ compressed_degrees accuracy (keys_in cells column)) }

@@ -1,4 +1,4 @@
-//! A join of two tables over devices one of whose calls fails.
+//! Runs a join of two tables while one call of a device fails.
 use base_io::{MemSink, MemStore, Name, NoMemory, Seq, Sink, Store};
 use safebound_top::safebound;
 use slow_devices::{SlowSink, SlowStore};
@@ -23,11 +23,11 @@ const CUT: &[u8] = b"scan R 6\nscan S 5\nlevel 1 S 5\nlevel 2 R 12\nerror write 
 
 const UNSAID: &[u8] = b"error write notes\n";
 
-// What is answered as the store's calls fail one after another: the code, notes, a bar and out.
+// The answers while the store's calls fail one after another. Each answer is the code, the notes, a bar, and what `out` took.
 const READS: &[u8] =
     b"\x03error read schema.sql\n|\x03error read query.sql\n|\x03error read r.csv\n|\x03error read s.csv\n|\x00scan R 6\nscan S 5\nlevel 1 S 5\nlevel 2 R 12\n|X\r\n1\r\n1\r\n1\r\n1\r\n1\r\n1\r\n";
 
-// Which call of each device fails, counted from 1, or 0 for none.
+// Which call of each device fails, counted from 1. With 0 no call fails.
 #[derive(Clone, Copy)]
 struct Failing {
     store: u64,
@@ -102,7 +102,7 @@ fn run_whole(alloc: Global, failing: Failing) -> Result<Ran, NoMemory> {
     what_was_written(alloc, code, store.calls, &out, &notes)
 }
 
-// A run over devices that hand on one byte a call.
+// A run over devices that transfer one byte a call.
 fn run_slowly(alloc: Global, failing: Failing) -> Result<Ran, NoMemory> {
     let mut store = SlowStore::new(store(alloc, failing)?, 1);
     let mut out = SlowSink::new(sink(alloc, failing.out)?, 1);
@@ -128,8 +128,8 @@ fn answer(alloc: Global, ran: &Ran) -> Result<Vec<u8>, NoMemory> {
     Ok(answer)
 }
 
-// The answers as the store fails at its first call, at its second and so on, until a run is done. Of several in a row
-// that are the same one is told.
+// The answers while the store fails at its first call, then at its second, and so on, until a run is done. Of equal
+// answers in a row only the first is listed.
 fn read_answers(alloc: Global, slowly: bool) -> Result<Vec<u8>, NoMemory> {
     let mut told = Vec::new(alloc);
     let mut last = Vec::new(alloc);
@@ -147,7 +147,7 @@ fn read_answers(alloc: Global, slowly: bool) -> Result<Vec<u8>, NoMemory> {
     Ok(told)
 }
 
-// A file takes a call for each transfer, and one that finds its end. The four files have 148 bytes.
+// Each file takes one call for each transfer, and one more that finds its end. The four files have 148 bytes.
 #[test]
 fn each_file_is_read_once(rt: HostRuntime) -> Result<(), Fail> {
     for (slowly, calls) in [(false, 8), (true, 152)] {
@@ -170,13 +170,13 @@ fn is_done(ran: &Ran) -> bool {
     ran.code == 0 && ran.notes.as_slice() == PLAN && ran.out.as_slice() == ROWS
 }
 
-// The rows are cut where the k-th call failed, behind k - 1 bytes where each call takes one.
+// The rows end where the k-th call failed: after k - 1 bytes, if each call takes one byte.
 fn is_cut(ran: &Ran, slowly: bool, k: u64) -> bool {
     let place = !slowly || (ran.out.len() as u64).saturating_add(1) == k;
     ran.code == 10 && ran.notes.as_slice() == CUT && ROWS.starts_with(ran.out.as_slice()) && place
 }
 
-// A front of the plan stands, up to the k-th call, and then the line on the failure; no row is written.
+// The notes have the plan up to the k-th call, and then the line on the failure. No row is written.
 fn is_unsaid(ran: &Ran, slowly: bool, k: u64) -> bool {
     match ran.notes.as_slice().strip_suffix(UNSAID) {
         Some(front) => {
@@ -187,7 +187,8 @@ fn is_unsaid(ran: &Ran, slowly: bool, k: u64) -> bool {
     }
 }
 
-// Whether each run is cut while calls of `out` fail one after another, until one is done.
+// Calls of `out` fail one after another, until a run is done. Tells whether each run before that is cut, and whether there
+// is at least one.
 fn rows_are_cut(alloc: Global, slowly: bool) -> Result<bool, NoMemory> {
     for k in 1u64..1000 {
         let ran = run(alloc, slowly, Failing { out: k, ..SOUND })?;
@@ -201,7 +202,7 @@ fn rows_are_cut(alloc: Global, slowly: bool) -> Result<bool, NoMemory> {
     Ok(false)
 }
 
-// The same of `notes`.
+// As `rows_are_cut`, for calls of `notes`, which leave a front of the plan.
 fn plans_are_unsaid(alloc: Global, slowly: bool) -> Result<bool, NoMemory> {
     for k in 1u64..1000 {
         let ran = run(alloc, slowly, Failing { notes: k, ..SOUND })?;

@@ -1,7 +1,7 @@
 //! Tests: runs over devices that fail or cut every transfer. Nothing here is called.
 //!
-//! One join is run while each call of each device fails in turn, once over whole transfers and once over transfers of one byte. What
-//! broken texts are answered is in cases/.
+//! One join runs again and again, and each time another call of one device fails: once with whole transfers, and once with transfers of one
+//! byte. cases/ has the answers to broken texts.
 #![tactic(auto)]
 
 #[cfg(test)]

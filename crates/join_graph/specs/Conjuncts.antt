@@ -17,7 +17,7 @@ use Rattle.query_types.specs.declared.types.Query.{Query}
 
 -- ---- what stands in which part
 
--- the condition names this entry and no other one
+-- the condition names this entry and no other entry
 abbrev pub names_just : ℕ → Cond → Bool
 names_just entry cond = are_just (entries_named cond) entry
 
@@ -29,7 +29,7 @@ column_of (operand.Column column) = Some column
 column_of (operand.Int number) = None
 column_of (operand.Text text) = None
 
--- an equality of two columns, if their entries differ
+-- the equality of two columns, if both are there and their entries differ
 abbrev pub joining : Option ColumnRef → Option ColumnRef → Option Edge
 joining None right = None
 joining (Some left) None = None
@@ -50,16 +50,16 @@ equality_in (Cond-F.Or members) = None
 equality_in (Cond-F.Not member) = None
 equality_in (Cond-F.Compare op left right) = compared op (column_of left) (column_of right)
 
--- the equality that a condition is, if it is a comparison by = of columns of two different entries
+-- the condition as an equality, if it compares columns of two different entries by =
 abbrev pub equality_of : Cond → Option Edge
 equality_of cond = equality_in (out-Cond cond)
 
--- one entry, once or more often
+-- the list has one entry, once or more often
 abbrev pub are_one : List ℕ → Bool
 are_one [] = false
 are_one (entry ∷ entries) = list_all (λ e. e == entry) entries
 
--- a condition that is no such equality, and names no entry or more than one
+-- the condition isn't an equality of two entries, and it names no entry or several
 abbrev pub is_residual : Cond → Bool
 is_residual cond = is_none (equality_of cond) && not (are_one (entries_named cond))
 
@@ -68,18 +68,18 @@ is_residual cond = is_none (equality_of cond) && not (are_one (entries_named con
 abbrev pub once_if : Bool → ℕ
 once_if holds = if holds then 1 else 0
 
--- how often a condition stands in a part: as an equality, for each of so many FROM entries, and among the others
+-- in how many parts a condition is: the equalities, the part of each FROM entry (there are `entries` of them), and the others
 abbrev pub places_in_parts : ℕ → Cond → ℕ
 places_in_parts entries cond =
     once_if (is_some (equality_of cond)) + length (filter (λ entry. names_just entry cond) (range_with_len 0 entries))
     + once_if (is_residual cond)
 
--- the numbers, from a first one on, of the conditions that pass a test
+-- the numbers of the elements that pass the test, where the list's elements are numbered from `first` on
 abbrev pub numbers_where : {A : Type 0} → (A → Bool) → ℕ → List A → List ℕ
 numbers_where test first [] = []
 numbers_where test first (x ∷ xs) = if test x then first ∷ numbers_where test (first + 1) xs else numbers_where test (first + 1) xs
 
--- for each FROM entry, the numbers of the conjuncts that name it and no other one
+-- for each FROM entry, the numbers of the conjuncts that name it and no other entry
 abbrev pub local_of : Query → List (List ℕ)
 local_of query = map (λ entry. numbers_where (names_just entry) 0 query.conjuncts) (range_with_len 0 (length query.from))
 
@@ -87,6 +87,6 @@ local_of query = map (λ entry. numbers_where (names_just entry) 0 query.conjunc
 abbrev pub equalities_of : Query → List Edge
 equalities_of query = filter_map equality_of query.conjuncts
 
--- the numbers of all others
+-- the numbers of all other conjuncts
 abbrev pub residual_of : Query → List ℕ
 residual_of query = numbers_where is_residual 0 query.conjuncts

@@ -12,17 +12,17 @@ use Rattle.entry_sets.specs.Sets.{has_entry}
 abbrev pub joins_within : ℕ → Edge → Bool
 joins_within subset e = has_entry subset e.left.entry && has_entry subset e.right.entry
 
--- in text order
+-- the equalities that join two entries of the set, in text order
 abbrev pub equalities_within : ℕ → List Edge → List Edge
 equalities_within subset es = filter (joins_within subset) es
 
 -- ---- turns
 
--- one turn for each equality of the set, but sixteen at most and one at least
+-- how many turns the set has: one for each of its equalities, but at least 1 and at most 16
 abbrev pub turn_count : ℕ → List Edge → ℕ
 turn_count subset es = max (min (length (equalities_within subset es)) 16) 1
 
--- begun at element `turn` and gone round
+-- the elements from place `turn` on, and then those before it
 abbrev pub gone_round : ℕ → List Edge → List Edge
 gone_round turn es = drop turn es ++ take turn es
 
@@ -32,11 +32,11 @@ order_of_turn subset turn es = gone_round turn (equalities_within subset es)
 
 -- ---- kept equalities
 
--- however the entries fall into two sides so that each equality lies on one of them, a and b lie on one side
+-- whenever each entry is put on one of two sides, so that each equality has both entries on one side, a and b are on the same side
 abbrev pub AreConnected : List Edge → ℕ → ℕ → Type 0
 AreConnected es a b = (side : ℕ → Bool) → AllByRecursion (λ e. side e.left.entry ≡ side e.right.entry) es → side a ≡ side b
 
--- of equalities in an order, each is kept whose two entries aren't yet connected by kept ones: `kept` after those kept earlier
+-- from `es`, in order, `kept` takes each equality whose two entries aren't connected by the kept equalities before it, `earlier` included
 pub data KeepsAfter : List Edge → List Edge → List Edge → Type 0 where
   at_end : (earlier : List Edge) → KeepsAfter earlier [] []
   keeps : (earlier : List Edge) (e : Edge) (es kept : List Edge) → AreApart earlier e.left.entry e.right.entry
@@ -49,16 +49,16 @@ pub data KeepsAfter : List Edge → List Edge → List Edge → Type 0 where
 abbrev pub Keeps : List Edge → List Edge → Type 0
 Keeps es kept = KeepsAfter [] es kept
 
--- ---- the same, computed
+-- ---- kept equalities, computed
 
--- each entry has the name of its part, and an equality is kept where it joins two parts
+-- `name` gives each entry the name of its part. An equality is kept if it joins two parts, which are then one
 abbrev pub kept_by_names : (ℕ → ℕ) → List Edge → List Edge
 kept_by_names name [] = []
 kept_by_names name (e ∷ es) =
     if name e.left.entry == name e.right.entry then kept_by_names name es
     else (e ∷ kept_by_names (joined_parts name e.left.entry e.right.entry) es)
 
--- at first each entry is a part of its own
+-- what is kept of these equalities, in order, where at first each entry is a part of its own
 abbrev pub kept_in_order : List Edge → List Edge
 kept_in_order es = kept_by_names (λ entry. entry) es
 

@@ -1,4 +1,4 @@
--- What a list of entries names, in short.
+-- What a list of entries names: no entry, just one entry, or several.
 use Rattle.std.specs.Prelude.{ℕ, Bool, true, false, ◌==◌, if◌then◌else◌, List, [], ◌∷◌, Option, Some, None}
 use Rattle.berge_tree.specs.declared.edges.Edge.{Edge}
 use Rattle.query_types.specs.declared.types.Cond.{Cond}
@@ -31,7 +31,7 @@ part_from None named.Several = part.Residual
 abbrev pub part_of : Cond → Part
 part_of cond = part_from (equality_of cond) (named_of (entries_named cond))
 
--- both stand in the part of one entry, or both in the residual part
+-- both are the part of the same entry, or both are the residual part
 abbrev pub is_alike : Part → Part → Bool
 is_alike (part.Local a) (part.Local b) = b == a
 is_alike part.Residual part.Residual = true

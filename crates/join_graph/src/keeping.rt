@@ -1,4 +1,4 @@
-//! The equalities that a set of entries keeps.
+//! Finds the equalities that a set of entries keeps in a turn.
 ghost use Rattle.std.specs.Prelude.{◌≡◌, ◌<◌, ◌≤◌, ◌++◌, ◌∷◌, List, take, drop, length, slice_index, IfOk, ℕ};
 ghost use Rattle.berge_tree.specs.declared.edges.Edge.{Edge};
 ghost use Rattle.berge_tree.specs.Equalities.{AreWithin, ClosesNoCycle, HasNoCycle, class_of};
@@ -17,14 +17,14 @@ const ENTRIES: usize = 16;
 
 const MOST_TURNS: usize = 16;
 
-/// Whether an equality is one of two entries of a set. It takes no memory.
+/// Whether an equality joins two entries of a set. It takes no memory.
 pub fn joins_within(subset: EntrySet, edge: Edge) -> bool
     ensures { result ≡ joins_within subset edge }
 {
     subset.has(edge.left.entry) && subset.has(edge.right.entry)
 }
 
-/// How many equalities are of two entries of a set. It takes no memory.
+/// How many equalities join two entries of a set. It takes no memory.
 pub fn count_within(edges: &[Edge], subset: EntrySet) -> usize
     ensures { result ≡ length (equalities_within subset edges.now) }
 {
@@ -34,7 +34,7 @@ pub fn count_within(edges: &[Edge], subset: EntrySet) -> usize
         .count()
 }
 
-/// How many turns a set has: one for each equality of two of its entries, but 16 at most and 1 at least. It takes no memory.
+/// How many turns a set has: one for each equality that joins two of its entries, but at least 1 and at most 16. It takes no memory.
 pub fn turns(parts: &Parts, subset: EntrySet) -> u32
     ensures { result ≡ turn_count subset parts.now.equalities }
 {
@@ -42,7 +42,8 @@ pub fn turns(parts: &Parts, subset: EntrySet) -> u32
     count.min(MOST_TURNS).max(1) as u32
 }
 
-// Where among all equalities the set's element `turn` stands.
+// The place, among all equalities, of the set's equality number `turn`, counted from 0. If the set has no equality of this number, the answer is
+// the number of all equalities.
 fn first_of_turn(edges: &[Edge], subset: EntrySet, turn: u32) -> usize
     ensures place { result ≤ length edges.now }
     ensures before { equalities_within subset (take result edges.now) ≡ take turn (equalities_within subset edges.now) }
@@ -60,14 +61,14 @@ fn first_of_turn(edges: &[Edge], subset: EntrySet, turn: u32) -> usize
     edges.len()
 }
 
-// Each entry is a part of its own, and has its own number as the part's name.
+// The names before the first equality: each entry is a part of its own, and the part's name is the entry's number.
 fn own_names() -> [u8; ENTRIES]
     ensures { (x : ℕ) → x < 16 → slice_index result x ≡ x }
 {
     [0, 1, 2, 3, 4, 5, 6, 7, 8, 9, 10, 11, 12, 13, 14, 15]
 }
 
-// The part of one entry takes the name of the part of another.
+// Joins the parts of two entries: the right entry's part takes the name of the left entry's part.
 fn join_parts(names: &mut [u8], left: u8, right: u8)
     requires names { length names.old ≡ 16 }
     requires left { left < 16 }
@@ -83,7 +84,7 @@ fn join_parts(names: &mut [u8], left: u8, right: u8)
     }
 }
 
-// Keeps an equality that joins two parts.
+// Keeps an equality if it joins two parts, and joins these.
 fn consider(edge: Edge, names: &mut [u8], kept: &mut Seq<Edge>) -> Result<(), NoMemory>
     requires names { length names.old ≡ 16 }
     requires edge { IsNamed edge }
@@ -117,8 +118,8 @@ fn consider_all(
     Ok(())
 }
 
-/// The equalities that a set of entries keeps in a turn: of those of two of its entries, begun at element `turn` and gone round, each one
-/// whose two entries aren't yet connected by kept ones.
+/// The equalities that a set of entries keeps in a turn. The turn goes through the equalities that join two entries of the set: from number
+/// `turn` on, and then through those before it. It keeps each equality whose two entries aren't connected yet by kept ones.
 ///
 /// `rooted` may be called on the answer with this set.
 pub fn kept(

@@ -18,25 +18,26 @@ ghost use Rattle.query_types.specs.Named.{NamesItsEntries};
 ghost use Rattle.join_graph.specs.Examples.{first_side, pair, second_side, seventeen, third_side, triangle};
 ghost use Rattle.join_graph.specs.Kept.{AreConnected, Keeps, kept_in_order, kept_of, turn_count};
 
-/// What is kept of equalities in an order is one list, and it can be computed.
+/// Of equalities in a given order exactly one list is kept, and `kept_in_order` computes it.
 pub fn kept_equalities_are_one()
     ensures { (es kept : List Edge) → Keeps es kept ↔ (kept ≡ kept_in_order es) }
 {}
 
-/// In each turn, no class has two columns of one entry, and entries and classes make no cycle.
+/// What a set keeps in a turn joins only its entries, and closes no cycle. No class has two columns of one entry, and entries and classes make
+/// no cycle.
 pub fn kept_equalities_make_no_cycle()
     ensures within { (subset turn : ℕ) (es : List Edge) → AreWithin (entries_of_set subset) (kept_of subset turn es) }
     ensures entries { (subset turn : ℕ) (es : List Edge) → ClosesNoCycle (kept_of subset turn es) }
     ensures classes { (subset turn : ℕ) (es : List Edge) → HasNoCycle (class_of (kept_of subset turn es)) }
 {}
 
-/// Each conjunct stands in just one part, where all conjuncts name FROM entries alone. Those of a query over a schema do.
+/// Each conjunct is in exactly one part, if all conjuncts name only FROM entries. In a query over a schema they do.
 pub fn conjuncts_stand_in_one_part()
     ensures of_schema { (schema : Schema) (query : Query) → IsOf schema query → NamesItsEntries query }
     ensures one { (query : Query) → NamesItsEntries query → All (λ cond. places_in_parts (length query.from) cond ≡ 1) query.conjuncts }
 {}
 
-/// A list of numbers has just those at which a conjunct passes the test.
+/// `numbers_where`, from 0 on, lists exactly the places of the conjuncts that pass the test.
 pub fn numbers_are_places()
     ensures { (test : Cond → Bool) (conds : List Cond) (k : ℕ)
         → Contains (numbers_where test 0 conds) k ↔ IsSomeAnd (slice_get conds k) (λ cond. IsTrue (test cond)) }
@@ -48,7 +49,7 @@ pub fn entries_are_apart_or_connected()
     ensures not_both { (es : List Edge) (a b : ℕ) → AreApart es a b → AreConnected es a b → ⊥ }
 {}
 
-/// What the definitions give for a triangle, for a pair of equalities, and for seventeen.
+/// What the definitions give for a triangle, for a pair of equalities, and for seventeen equalities.
 pub fn examples()
     ensures triangle_first { kept_of 7 0 triangle ≡ first_side ∷ second_side ∷ [] }
     ensures triangle_second { kept_of 7 1 triangle ≡ second_side ∷ third_side ∷ [] }
@@ -63,7 +64,8 @@ pub fn examples()
     ensures seventeen_turns { turn_count 3 seventeen ≡ 16 }
 {}
 
-/// Nothing under AND, OR or NOT joins two entries, nor an equality with a literal, nor one of two columns of one entry.
+/// AND, OR and NOT don't join entries, and neither does = with a literal, or between two columns of one entry. Between columns of two entries,
+/// = joins them.
 pub fn what_joins_entries()
     ensures under_and { (members : List Cond) → equality_of (cond.And members) ≡ None }
     ensures under_or { (members : List Cond) → equality_of (cond.Or members) ≡ None }

@@ -42,7 +42,7 @@ fn with_entry(entry: u8, right: Named) -> Named
     }
 }
 
-/// The column that an operand is.
+/// The operand's column, if the operand is a column.
 pub(crate) fn column_of(operand: &Operand) -> Option<ColumnRef>
     ensures { result ≡ column_of operand.now }
 {

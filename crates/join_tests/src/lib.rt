@@ -1,7 +1,7 @@
 //! Tests of calls that the program doesn't make: the choices that a query means, the bounds of all sets, and join trees with their rows. All
 //! are over three tables that are joined in a triangle.
 //!
-//! They stand apart from what they test, so that no crate below is proved a second time for its tests.
+//! They are in a crate of their own, so that no crate that they test is proved a second time for its tests.
 #![tactic(auto)]
 
 #[cfg(test)]

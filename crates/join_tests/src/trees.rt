@@ -58,7 +58,7 @@ fn joined(alloc: Global, query: &Query, db: &Database) -> Result<JoinedTree, Fai
     Ok(JoinedTree { plan, done })
 }
 
-// The rows of a node, one after another: the row number of each entry, and 9 for one that the node hasn't.
+// The rows of a node, one after another. Each has the row number of each entry, and 9 for an entry that the node doesn't have.
 fn rows_of(alloc: Global, done: &BushyDone, node: u8, entries: usize) -> Result<Vec<u32>, Failed>
     requires node { node < length done.now.nodes }
     requires within { AllByRecursion (λ entry. entry < entries) (node_at done.now.nodes node).entries }

@@ -1,20 +1,20 @@
--- Joined tables as SQL-92 defines them (7.5), as lists of rows. Of a semi-join and an anti-join, which SQL writes with EXISTS and NOT EXISTS,
--- the rows are those of the left table.
+-- Joined tables as SQL-92 defines them (7.5), as lists of rows. A semi-join and an anti-join have rows of the left table alone. SQL writes
+-- them with EXISTS and NOT EXISTS.
 use Rattle.std.specs.Prelude.{ℕ, Bool, not, List, ◌++◌, map, replicate, Option, None}
 use Rattle.std.specs.List.{filter, flat_map, list_any}
 use Rattle.joined_tables.specs.declared.joins.Join.{Join}
 use Rattle.joined_tables.specs.declared.joins.Join.TheVariants.{Anti, Full, Left, Right, Semi}
 
--- a row has for each column a value, told by its number, or the null value
+-- a row has for each column the number of a value, or None for the null value
 abbrev pub RowWithNulls : Type 0
 RowWithNulls = List (Option ℕ)
 
--- a table: how many columns it has, and its rows, of which some may be equal
+-- a table: how many columns it has, and its rows. Some rows may be equal
 pub record Table : Type 0 where
   pub columns : ℕ
   pub rows : List RowWithNulls
 
--- a join condition: of which pairs of rows it is true. Where it is false or unknown it isn't true
+-- a join condition: whether it is true for a pair of rows. A condition that is false or unknown isn't true
 abbrev pub Condition : Type 0
 Condition = RowWithNulls → RowWithNulls → Bool
 
@@ -22,18 +22,18 @@ Condition = RowWithNulls → RowWithNulls → Bool
 abbrev pub nulls : ℕ → RowWithNulls
 nulls columns = replicate columns None
 
--- the inner join: the pairs of rows of which the condition is true
+-- the inner join: the pairs of rows for which the condition is true
 abbrev pub inner_join : Condition → Table → Table → List RowWithNulls
 inner_join is_true left right = flat_map (λ row. map (λ other. row ++ other) (filter (is_true row) right.rows)) left.rows
 
--- the rows of the left table that are in a pair of the inner join, and those that are in none
+-- the rows of the left table that are in a pair of the inner join, and those that are in no pair
 abbrev pub left_paired : Condition → Table → Table → List RowWithNulls
 left_paired is_true left right = filter (λ row. list_any (is_true row) right.rows) left.rows
 
 abbrev pub left_alone : Condition → Table → Table → List RowWithNulls
 left_alone is_true left right = filter (λ row. not (list_any (is_true row) right.rows)) left.rows
 
--- and of the right table those that are in none
+-- the rows of the right table that are in no pair
 abbrev pub right_alone : Condition → Table → Table → List RowWithNulls
 right_alone is_true left right = filter (λ other. not (list_any (λ row. is_true row other) left.rows)) right.rows
 
@@ -44,7 +44,7 @@ left_with_nulls is_true left right = map (λ row. row ++ nulls right.columns) (l
 abbrev pub right_with_nulls : Condition → Table → Table → List RowWithNulls
 right_with_nulls is_true left right = map (λ other. nulls left.columns ++ other) (right_alone is_true left right)
 
--- the rows of a joined table. The union keeps equal rows
+-- the rows of a joined table. Equal rows are all kept
 abbrev pub joined : Join → Condition → Table → Table → List RowWithNulls
 joined Left is_true left right = inner_join is_true left right ++ left_with_nulls is_true left right
 joined Right is_true left right = inner_join is_true left right ++ right_with_nulls is_true left right

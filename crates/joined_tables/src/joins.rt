@@ -1,4 +1,4 @@
-//! The rows of joined tables.
+//! Bounds the rows of joined tables.
 ghost use Rattle.std.specs.Prelude.{◌≡◌, length};
 ghost use Rattle.safebound_bounds.specs.Meaning.{in_64_bits};
 ghost use Rattle.joined_tables.specs.Bounds.{IsWithin, most_joined};

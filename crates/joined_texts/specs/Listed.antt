@@ -18,12 +18,12 @@ use Rattle.joined_texts.specs.declared.listed.Listed.TheVariants as listed
 abbrev pub root_of : Query → List Node → Node
 root_of query nodes = node_at nodes (2 * length query.from - 2)
 
--- the entries in the order in which their rows stand in a choice, and the choices: those of the last level of an order, or of a node
+-- the choices of an order's last level or of a node, and the entries in the order in which a choice has their rows
 abbrev pub choices_listed : Listed → Node
 choices_listed (listed.Last executed order) = record { entries = order.now; rows = rows_at executed.now (length order.now - 1) }
 choices_listed (listed.Node done node) = node_at done.now.nodes node
 
--- an order with a level for each of its entries
+-- the order has at least 1 and at most `most_entries` entries, and there is a level for each of them
 pub record HasLevels (executed : List Level) (order : List ℕ) : Type 0 where
   pub some : 1 ≤ length order
   pub few : length order ≤ most_entries
@@ -34,7 +34,7 @@ abbrev pub IsThere : Listed → Type 0
 IsThere (listed.Last executed order) = HasLevels executed.now order.now
 IsThere (listed.Node done node) = node < length done.now.nodes
 
--- the choices are of rows of each entry of a query over its database
+-- each listed choice has a row of each entry of the query, from the query's database
 pub record IsListed (query : Query) (db : Database) (it : Listed) : Type 0 where
   pub database : IsDatabaseOf query db
   pub entries : IsOrderOf query (choices_listed it).entries

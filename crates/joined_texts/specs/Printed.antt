@@ -10,15 +10,15 @@ use Rattle.sql_meaning.specs.Tables.{tables_of}
 use Rattle.hash_join.specs.Levels.{query_level}
 use Rattle.tree_rows.specs.Nodes.{Node}
 
--- the values of the outputs where the entries of the order have the rows of a choice
+-- the values of the query's outputs for a choice of rows for the entries of this order
 abbrev pub selected_in : Query → Database → List ℕ → List ℕ → Row
 selected_in query db order choice = selected query (tables_of db) (row_in order choice)
 
--- the outputs of each of these choices for the entries, in their order
+-- the values of the outputs for each of these choices, one after another
 abbrev pub selected_rows : Query → Database → List ℕ → List (List ℕ) → List Row
 selected_rows query db entries choices = map (λ choice. selected_in query db entries choice) choices
 
--- the rows that are printed along an order: those of its last level
+-- the rows that are printed for an order: the values of the outputs for the choices of its last level
 abbrev pub printed_rows : Query → Database → List ℕ → List Row
 printed_rows query db order = selected_rows query db order (query_level query db order (length order))
 

@@ -1,4 +1,4 @@
-//! The audit text.
+//! Writes the audit text of an order.
 ghost use Rattle.std.specs.Prelude.{ℕ, ◌≡◌, ◌<◌, ◌+◌, ◌==◌, length};
 ghost use Rattle.std.specs.List.{AllByRecursion, IsDistinct};
 ghost use Rattle.base_io.specs.Devices.{growth};
@@ -17,7 +17,7 @@ const SPACE: &[u8] = b" ";
 
 const LINE_END: &[u8] = b"\n";
 
-/// Writes what stands behind the bound of a level or a node: the number of its rows.
+/// Writes the number of rows of a level or a node after its bound, and ends the line.
 pub(crate) fn put_row_count<N: Sink>(
     rows: u32,
     buffer: &mut Buffer,
@@ -44,7 +44,7 @@ fn put_level<N: Sink>(
     put_row_count(rows, buffer, sink)
 }
 
-// A line for each level, along the order.
+// Writes a line for each level, in the order of the levels.
 fn put_levels<N: Sink>(
     executed: &RowForest,
     sources: &[Source],
@@ -69,9 +69,9 @@ fn put_levels<N: Sink>(
     Ok(())
 }
 
-/// Writes the audit text: for each level of the plan's order, from 1 on, its entry's name in the query, its bound
-/// and the number of rows that was listed, both in rows. `Failed` comes where the sink failed, and then a prefix
-/// of the text stands.
+/// Writes the audit text, which has a line for each level of the plan's order. The line has the level's number from 1
+/// on, its entry's name in the query, its bound, and the number of rows that were listed. If the sink fails, this
+/// returns `Failed`, and the sink has a prefix of the text.
 pub fn write_audit<N: Sink>(
     executed: &RowForest,
     plan: &Plan,

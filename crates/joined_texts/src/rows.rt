@@ -1,4 +1,4 @@
-//! The rows text of a query of any number of FROM entries.
+//! Writes the rows text of a query of any number of FROM entries.
 ghost use Rattle.std.specs.Prelude.{◌≡◌, ℕ, ◌+◌, ◌*◌, ◌<◌, [], All, length, slice_index_or};
 ghost use Rattle.std.specs.List.{flat_map};
 ghost use Rattle.link_index.specs.Forest.{rows_at};
@@ -22,7 +22,7 @@ use printed_texts::{Line, put_line};
 use query_types::Query;
 use tree_rows::BushyDone;
 
-// The record of a listed row.
+// Writes the record of a listed row.
 fn put_row<N: Sink>(
     query: &Query,
     db: &Database,
@@ -43,7 +43,7 @@ fn put_row<N: Sink>(
     put_line(outs, Line::Rows(&rows[..size]), db, buffer, sink)
 }
 
-// A record for each listed row.
+// Writes a record for each listed row.
 fn put_rows<N: Sink>(
     query: &Query,
     db: &Database,
@@ -61,7 +61,8 @@ fn put_rows<N: Sink>(
     Ok(())
 }
 
-// The rows text: a header of the outputs' names, and a record of the outputs for each listed row, in its order.
+// Writes the rows text: a header of the outputs' names, and a record of the outputs for each listed row, in the order in
+// which they are listed.
 fn write_listed<N: Sink>(
     query: &Query,
     db: &Database,
@@ -78,9 +79,9 @@ fn write_listed<N: Sink>(
     buffer.flush(sink)
 }
 
-/// Writes the rows text of a query that was executed in this order: a header of the outputs' names, and a record
-/// of the outputs for each row of the last level, in its order (RFC 4180). `Failed` comes where the sink failed,
-/// and then a prefix of the text stands.
+/// Writes the rows text (RFC 4180) of a query that was executed in this order. It has a header of the outputs' names, and
+/// a record of the outputs for each row of the last level, in the level's order. If the sink fails, this returns
+/// `Failed`, and the sink has a prefix of the text.
 pub fn write_rows<N: Sink>(
     executed: &RowForest,
     order: &[u8],
@@ -99,7 +100,8 @@ pub fn write_rows<N: Sink>(
     write_listed(query, db, &Listed::Last { executed, order }, sink)
 }
 
-/// Writes the rows text of a query whose entries were joined by a tree: the same of the rows of its root.
+/// Writes the rows text of a query whose entries were joined by a tree: the header of `write_rows`, and a record for each
+/// row of the tree's root.
 pub fn write_tree_rows<N: Sink>(
     done: &BushyDone,
     query: &Query,

@@ -1,4 +1,4 @@
-//! The audit text of a join tree.
+//! Writes the audit text of a join tree.
 ghost use Rattle.std.specs.Prelude.{◌≡◌, ◌≤◌, ◌+◌, length};
 ghost use Rattle.base_io.specs.Devices.{growth};
 ghost use Rattle.base_io.specs.Writes.{Put, Wrote};
@@ -25,7 +25,7 @@ fn put_node<N: Sink>(
     put_row_count(rows, buffer, sink)
 }
 
-// A line for each inner node; the first one has this number.
+// Writes a line for each inner node. The first inner node has the number `first`.
 fn put_nodes<N: Sink>(
     done: &BushyDone,
     first: u8,
@@ -45,9 +45,9 @@ fn put_nodes<N: Sink>(
     Ok(())
 }
 
-/// Writes the audit text of a join tree: for each inner node in the order of their numbers, the nodes that it joins, its bound and the
-/// number of rows that was listed, both in rows. Of one entry it is empty. `Failed` comes where the sink failed, and then a prefix of the
-/// text stands.
+/// Writes the audit text of a join tree, which has a line for each inner node, in the order of their numbers. The line has the node's
+/// number, the nodes that it joins, its bound, and the number of rows that were listed. For one entry the text is empty. If the sink
+/// fails, this returns `Failed`, and the sink has a prefix of the text.
 pub fn write_tree_audit<N: Sink>(
     done: &BushyDone,
     plan: &BushyPlan,

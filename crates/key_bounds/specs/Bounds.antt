@@ -1,4 +1,4 @@
--- What is known of a query's entries in a set of them, where conjuncts are carried along references to keys.
+-- The bounds of a query's entries in a set of entries, where conjuncts are carried along references to keys.
 use Rattle.std.specs.Prelude.{ℕ, min, nat_lt, if◌then◌else◌, List, [], ◌∷◌, length, map}
 use Rattle.degree_sequences.specs.RunningSums.{lesser}
 use Rattle.berge_tree.specs.declared.edges.Edge.{Edge}
@@ -13,7 +13,7 @@ use Rattle.gathered_stats.specs.Statistics.{statistics_of}
 use Rattle.key_carriers.specs.Carriers.{carriers, carriers_to}
 use Rattle.key_stats.specs.Lists.{carried_list, carried_rows}
 
--- the list whose running sums are the minima of those of all these
+-- the list whose running sums are the minima of those of `list` and of all `lists`
 abbrev pub least_list : List ℕ → List (List ℕ) → List ℕ
 least_list list [] = list
 least_list list (other ∷ lists) = least_list (lesser list other) lists
@@ -23,7 +23,7 @@ abbrev pub least_rows : ℕ → List ℕ → ℕ
 least_rows rows [] = rows
 least_rows rows (other ∷ others) = least_rows (min rows other) others
 
--- ---- of an entry to which conjuncts are carried along these equalities
+-- ---- the bounds of an entry to which conjuncts are carried along these equalities
 
 abbrev pub rows_by_keys : Query → Tables → ℕ → ℕ → List Edge → ℕ
 rows_by_keys query tables accuracy entry es =
@@ -35,7 +35,7 @@ list_by_keys query tables accuracy entry column es =
 
 -- ---- in a set
 
--- of each FROM entry its row bound, and of each joined column its list; 0 and no list for all others
+-- the row bound of each FROM entry, and the list of each joined column. All others have the bound 0 and the empty list
 abbrev pub bounds_by_keys : Schema → Query → Tables → ℕ → ℕ → EntryBounds
 bounds_by_keys schema query tables accuracy subset = record {
   rows = λ entry. if nat_lt entry (length query.from)
@@ -44,7 +44,7 @@ bounds_by_keys schema query tables accuracy subset = record {
       then list_by_keys query tables accuracy entry column (carriers_to (carriers schema query) subset entry) else [];
 }
 
--- the bound of each set of entries, at the number whose bits are the set
+-- the bound of each set of entries. Its place is the number whose bits are the set
 abbrev pub set_bounds_by_keys : Schema → Query → Tables → ℕ → List ℕ
 set_bounds_by_keys schema query tables accuracy =
     bounds_in_sets (bounds_by_keys schema query tables accuracy) (equalities_of query) (length query.from)

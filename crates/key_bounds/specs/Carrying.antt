@@ -1,4 +1,4 @@
--- What is asked of statistics of the widened table.
+-- What is required of an equality and of statistics of its widened table.
 use Rattle.std.specs.Prelude.{◌≡◌, ◌==◌, ◌<◌, All, length, map}
 use Rattle.std.specs.List.{Contains, IsDistinct, sum}
 use Rattle.berge_tree.specs.declared.edges.Edge.{Edge}
@@ -12,7 +12,7 @@ use Rattle.key_carriers.specs.Carriers.{both_ways}
 abbrev pub IsJoined : Query → Edge → Type 0
 IsJoined query e = Contains (both_ways (equalities_of query)) e
 
--- of the first entry some columns are told, each once, and all of their lists have as many rows as the row bound
+-- the statistics have lists of at least one column of the first entry, each column once. Each list sums to the entry's row bound
 pub record AddUp (stats : QueryStats) : Type 0 where
   pub there : 0 < length stats.entries
   pub some : 0 < length (columns_of stats 0)

@@ -12,11 +12,11 @@ use Rattle.sql_meaning.specs.Tables.{Tables}
 use Rattle.key_carriers.specs.Examples.{by_number, customers_with, number_column}
 use Rattle.planning.specs.ReducedExamples.{columns_equal, numbers, region_tables, source}
 
--- a column of an entry is a number
+-- column `column` of entry `entry` is equal to n
 abbrev pub is_number : ℕ → ℕ → ℕ → Cond
 is_number entry column n = Compare op.Eq (column_operand entry column) (operand.Int (pos n))
 
--- O(N, CID) with a sixth record, (6, 9), which refers to nothing
+-- `region_tables`, where O(N, CID) has one more row, (6, 9), which refers to nothing
 abbrev pub with_a_stray : Tables
 with_a_stray entry = region_tables entry ++ (if entry == 0 then numbers (6 ∷ 9 ∷ []) ∷ [] else [])
 
@@ -40,7 +40,7 @@ workers = record {
 abbrev pub worker_schema : Schema
 worker_schema = record { tables = workers ∷ [] }
 
--- 1 is their own boss and the boss of 2, and 2 is the boss of 3, 4 and 5; 1 alone is in region 3
+-- worker 1 is the boss of 1 and 2, and worker 2 is the boss of 3, 4 and 5. Only worker 1 is in region 3
 abbrev pub worker_tables : Tables
 worker_tables entry =
     map numbers ((1 ∷ 1 ∷ 3 ∷ []) ∷ (2 ∷ 1 ∷ 4 ∷ []) ∷ (3 ∷ 2 ∷ 4 ∷ []) ∷ (4 ∷ 2 ∷ 4 ∷ []) ∷ (5 ∷ 2 ∷ 4 ∷ []) ∷ [])
@@ -68,7 +68,7 @@ by_both = record {
   select = record { column = record { from = 0; column = 0 }; name = 78 ∷ [] } ∷ [];
 }
 
--- five trades between the customers 1, of region 3, and 2, of region 4
+-- five trades of two customers: customer 1 is in region 3, and customer 2 is in region 4
 abbrev pub trade_tables : Tables
 trade_tables entry =
     map numbers (if entry == 0 then (1 ∷ 1 ∷ 2 ∷ []) ∷ (2 ∷ 2 ∷ 1 ∷ []) ∷ (3 ∷ 2 ∷ 2 ∷ []) ∷ (4 ∷ 1 ∷ 1 ∷ []) ∷ (5 ∷ 2 ∷ 2 ∷ []) ∷ []

@@ -1,4 +1,4 @@
--- What is known of entries in a set, from what is known of them by themselves and what is carried to them.
+-- The bounds of entries in a set, from their own bounds and from the bounds that are carried to them.
 use Rattle.std.specs.Prelude.{◌≡◌, ℕ, Bool, ◌&&◌, ◌==◌, min, ◌<◌, ◌≤◌, ◌^◌, nat_lt, if◌then◌else◌, List, [], filter, map, All, None, Some, option_map, unwrap_or, IsSome}
 use Rattle.std.specs.List.{AllByRecursion}
 use Rattle.limits.specs.Profile.{most_entries}
@@ -27,14 +27,14 @@ rows_carried entry c = unwrap_or (rows_of c.lists entry) 0
 abbrev pub list_carried : ℕ → ℕ → Carried → List ℕ
 list_carried entry column c = unwrap_or (list_of c.lists entry column) []
 
--- the least of a row bound and of those that are carried to the entry, and the same of a list
+-- the least of a row bound and of those that are carried to the entry within the set, and then the same of a list
 abbrev pub rows_within : List Carried → ℕ → ℕ → ℕ → ℕ
 rows_within carried subset entry rows = least_rows rows (map (rows_carried entry) (carried_to carried subset entry))
 
 abbrev pub list_within : List Carried → ℕ → ℕ → ℕ → List ℕ → List ℕ
 list_within carried subset entry column list = least_list list (map (list_carried entry column) (carried_to carried subset entry))
 
--- ---- the same, one after another
+-- ---- the same in steps, one for each carried bound
 
 abbrev pub is_carried : ℕ → ℕ → Carried → Bool
 is_carried subset entry c = joins_within subset c.edge && c.edge.left.entry == entry
@@ -53,18 +53,18 @@ known_by_keys keys subset = record {
   list = λ entry column. unwrap_or (option_map (list_within keys.carried subset entry column) (list_of keys.own entry column)) [];
 }
 
--- ---- what a set needs of it
+-- ---- which lists have to be there for a set
 
--- where something is carried to the entry of a column, the list of this column is among it
+-- if `c` is carried to the entry of this place, it has a list of the place's column
 abbrev pub CarriesTo : Place → Carried → Type 0
 CarriesTo place c = c.edge.left.entry ≡ place.entry → IsSome (list_of c.lists place.entry place.column)
 
--- along an equality lists are carried for each column of the left entry that these equalities name
+-- `c` has a list of each column of its left entry that these equalities name
 abbrev pub CarriesLists : List Edge → Carried → Type 0
 CarriesLists es c = AllByRecursion (λ place. CarriesTo place c) (places_of es)
 
--- each of the entries has its row bound, each column that these equalities name its list, and so has what is carried; and the set is of
--- these entries
+-- the set has only entries below `keys.count`, which are at most `most_entries`. Each entry below it has a row bound, and each column that
+-- these equalities name has a list. What is carried to an entry has a list of each of its columns that they name
 pub record HaveKeyLists (keys : KeyLists) (es : List Edge) (subset : ℕ) : Type 0 where
   pub few : keys.count ≤ most_entries
   pub fits : subset < 2 ^ keys.count
@@ -73,9 +73,9 @@ pub record HaveKeyLists (keys : KeyLists) (es : List Edge) (subset : ℕ) : Type
   pub entries : EachNamedColumn (λ entry column. entry < keys.count) es
   pub carried : All (CarriesLists es) keys.carried
 
--- ---- as it is put together
+-- ---- bounds while they are put together
 
--- the row bound of each of the first so many entries is there, and no other one; and each list that is there is that of its column
+-- exactly the first `count` entries have row bounds in `lists`. These row bounds, and all lists that are there, are those of `bounds`
 pub record IsPartOf (bounds : EntryBounds) (count : ℕ) (lists : EntryLists) : Type 0 where
   pub rows : (entry : ℕ) → entry < count → rows_of lists entry ≡ Some (bounds.rows entry)
   pub past : (entry : ℕ) → count ≤ entry → rows_of lists entry ≡ None

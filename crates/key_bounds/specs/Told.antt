@@ -10,12 +10,12 @@ use Rattle.key_carriers.specs.Carriers.{carriers}
 use Rattle.key_stats.specs.declared.carried.Carried.{Carried}
 use Rattle.key_stats.specs.Carrying.{TellAlong}
 
--- the statistics of tables, and what is carried along the references of a schema
+-- `stats` are statistics of these tables, and `carried` has what is carried along the schema's references in these tables
 pub record TellByKeys (schema : Schema) (query : Query) (tables : Tables) (accuracy : ℕ) (stats : QueryStats) (carried : List Carried) : Type 0 where
   pub own : Tells query stats (statistics_of tables accuracy)
   pub along : TellAlong query tables accuracy (carriers schema query) carried
 
--- there are tables and a schema of which they tell
+-- there are a schema, tables and an accuracy of which they tell
 pub record AreTold (query : Query) (stats : QueryStats) (carried : List Carried) : Type 0 where
   pub schema : Schema
   pub tables : Tables

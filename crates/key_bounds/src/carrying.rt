@@ -1,4 +1,4 @@
-//! What is carried along the references of a schema, from a query's tables.
+//! Makes the bounds that are carried along the references of a schema, from a query's tables.
 ghost use Rattle.std.specs.Prelude.{◌≡◌, All, IfOk, Some, length};
 ghost use Rattle.bound_fold.specs.Lists.{list_of, rows_of};
 ghost use Rattle.join_graph.specs.Conjuncts.{equalities_of, local_of};
@@ -22,7 +22,7 @@ use predicate_bounds::QueryStats;
 use query_types::Query;
 use std::alloc::Global;
 
-// The row bound of an entry and its lists, as statistics tell them of their first entry.
+// Takes the row bound and the lists of the first entry of these statistics as those of `entry`.
 fn first_lists(alloc: Global, stats: &QueryStats, entry: u8) -> Result<EntryLists, NoMemory>
     requires { AddUp stats.now }
     ensures rows { IfOk result (λ made. rows_of made entry ≡ Some (row_bound_in_stats stats.now 0)) }
@@ -39,7 +39,7 @@ fn first_lists(alloc: Global, stats: &QueryStats, entry: u8) -> Result<EntryList
     Ok(made)
 }
 
-// What is carried along an equality: the right entry's own conjuncts say which rows of the widened table are left.
+// What is carried along an equality: bounds of the widened table's rows that the right entry's own conjuncts leave.
 fn carried_over(
     alloc: Global,
     query: &Query,
@@ -75,8 +75,8 @@ fn carried_over(
     Ok(Carried { edge, lists })
 }
 
-/// What is carried along each of these equalities, which are some of the query's, either way round. The parts are those of `split`, and the
-/// statistics those of `gather_query`.
+/// What is carried along each of these equalities. They are equalities of the query, some with their sides exchanged. `parts` is what `split`
+/// gives, and `own` is what `gather_query` gives.
 pub(crate) fn carried_along(
     alloc: Global,
     query: &Query,

@@ -1,4 +1,4 @@
-//! Who carries in small queries, and the widened table of small tables: theorems by computation.
+//! Which entries carry in small queries, and the widened table of small tables: theorems by computation.
 ghost use Rattle.std.specs.Prelude.{◌≡◌, ◌∷◌, []};
 ghost use Rattle.berge_tree.specs.Testing.{edge_of};
 ghost use Rattle.planning.specs.Bounds.{set_bounds_of};
@@ -9,7 +9,7 @@ ghost use Rattle.key_carriers.specs.Widened.{referred, referring};
 ghost use Rattle.key_bounds.specs.Bounds.{set_bounds_by_keys};
 ghost use Rattle.key_bounds.specs.Examples.{by_both, by_manager, trade_schema, trade_tables, with_a_stray, worker_schema, worker_tables};
 
-/// Who carries: C to O, where the schema declares the reference and the key, and in a set with both.
+/// An entry carries to another if the schema declares the reference and the key. Within a set, both entries have to be in it.
 pub fn who_carries()
     ensures declared { carriers shop_schema by_region ≡ edge_of 0 1 1 0 ∷ [] }
     ensures undeclared { carriers undeclared_schema by_region ≡ [] }
@@ -20,15 +20,15 @@ pub fn who_carries()
     ensures outside { carriers_to (edge_of 0 1 1 0 ∷ []) 1 0 ≡ [] }
 {}
 
-/// The widened table of O(N, CID) and C(ID, REG), also where the last order refers to nothing.
+/// The widened table of O(N, CID) and C(ID, REG), also with a last order that refers to nothing.
 pub fn widened_tables()
     ensures rows { referring region_tables (edge_of 0 1 1 0) ≡ 0 ∷ 1 ∷ 2 ∷ 3 ∷ 4 ∷ [] }
     ensures others { referred region_tables (edge_of 0 1 1 0) ≡ 0 ∷ 1 ∷ 1 ∷ 1 ∷ 1 ∷ [] }
     ensures without_the_stray { referring with_a_stray (edge_of 0 1 1 0) ≡ 0 ∷ 1 ∷ 2 ∷ 3 ∷ 4 ∷ [] }
 {}
 
-/// O and C, where C.REG = 3 for one customer with one order: 4 without carried conjuncts, and 1 with them, whether or not an order refers
-/// to nothing. Without the reference in the schema they change nothing.
+/// O and C, where C.REG = 3 for one customer, who has one order. The bound of both entries is 4 without carried conjuncts and 1 with them,
+/// whether or not another order refers to nothing. If the schema doesn't declare the reference, the bound stays 4.
 pub fn orders_of_a_region()
     ensures plain { set_bounds_of by_region region_tables 1 ≡ 1 ∷ 5 ∷ 1 ∷ 4 ∷ [] }
     ensures keyed { set_bounds_by_keys shop_schema by_region region_tables 1 ≡ 1 ∷ 5 ∷ 1 ∷ 1 ∷ [] }
@@ -36,14 +36,15 @@ pub fn orders_of_a_region()
     ensures undeclared { set_bounds_by_keys undeclared_schema by_region region_tables 1 ≡ 1 ∷ 5 ∷ 1 ∷ 4 ∷ [] }
 {}
 
-/// Workers and their bosses, who are workers too, where one boss of two workers is in region 3: 3 without carried conjuncts, and 2 with them.
+/// Workers and their bosses, who are workers too. One boss, of two workers, is in region 3. The bound of both entries is 3 without carried
+/// conjuncts and 2 with them.
 pub fn workers_of_a_region()
     ensures plain { set_bounds_of by_manager worker_tables 1 ≡ 1 ∷ 5 ∷ 1 ∷ 3 ∷ [] }
     ensures keyed { set_bounds_by_keys worker_schema by_manager worker_tables 1 ≡ 1 ∷ 5 ∷ 1 ∷ 2 ∷ [] }
 {}
 
-/// Trades of a buyer and a payer, two references to one table, where the one customer of region 3 buys twice and pays twice, and once does
-/// both: of these together there is 1.
+/// Trades have a buyer and a payer, which are two references to one table. The only customer of region 3 buys twice and pays twice, and does
+/// both in one trade. The bound of all three entries is 3 without carried conjuncts and 1 with them.
 pub fn trades_of_a_region()
     ensures plain { set_bounds_of by_both trade_tables 1 ≡ 1 ∷ 5 ∷ 1 ∷ 3 ∷ 1 ∷ 3 ∷ 1 ∷ 3 ∷ [] }
     ensures keyed { set_bounds_by_keys trade_schema by_both trade_tables 1 ≡ 1 ∷ 5 ∷ 1 ∷ 2 ∷ 1 ∷ 2 ∷ 1 ∷ 1 ∷ [] }

@@ -1,4 +1,4 @@
-//! What is known of the entries of a set: of what is known of each by itself, and of what is carried to it within the set, the least.
+//! The bounds of the entries of a set. They are the least of each entry's own bound and the bounds that are carried to it within the set.
 ghost use Rattle.std.specs.Prelude.{◌≡◌, ◌<◌, ◌≤◌, ◌^◌, ℕ, All, IfOk, IsSome, MatchBool, None, OnOk, Some};
 ghost use Rattle.std.specs.List.{sum};
 ghost use Rattle.bound_fold.specs.Lists.{list_of, rows_of};
@@ -27,7 +27,7 @@ fn is_carried(carried: &Carried, subset: EntrySet, entry: u8) -> bool
     carried.edge.left.entry == entry
 }
 
-// A row bound, narrowed by what is carried.
+// A row bound, or the carried one, if that is carried to the entry within the set and is less.
 fn fewer(rows: u64, one: &Carried, subset: EntrySet, entry: u8) -> u64
     ensures { result ≡ fewer_by subset entry one.now rows }
 {
@@ -37,7 +37,7 @@ fn fewer(rows: u64, one: &Carried, subset: EntrySet, entry: u8) -> u64
     rows
 }
 
-// The row bound of an entry in a set, where this is its own.
+// The row bound of an entry in a set. `own` is its bound by itself.
 fn least_rows(carried: &[Carried], subset: EntrySet, entry: u8, own: u64) -> u64
     ensures { result ≡ rows_within carried.now subset entry own }
 {
@@ -48,7 +48,7 @@ fn least_rows(carried: &[Carried], subset: EntrySet, entry: u8, own: u64) -> u64
     rows
 }
 
-// The list of a column that is there.
+// The list of a column, which has to be there.
 fn list_at(lists: &EntryLists, place: Place) -> &Pieces
     requires { IsSome (list_of lists.now place.entry place.column) }
     ensures list { list_of lists.now place.entry place.column ≡ Some result.now }
@@ -60,7 +60,7 @@ fn list_at(lists: &EntryLists, place: Place) -> &Pieces
     }
 }
 
-// A list, narrowed by what is carried.
+// A list, lowered to the carried list of its column if that is carried to the entry within the set.
 fn narrowed(list: Pieces, one: &Carried, subset: EntrySet, place: Place) -> Result<Pieces, NoMemory>
     requires small { sum list < 2 ^ 64 }
     requires carries { CarriesTo place one.now }
@@ -73,7 +73,7 @@ fn narrowed(list: Pieces, one: &Carried, subset: EntrySet, place: Place) -> Resu
     Ok(list)
 }
 
-// The list of a column in a set, where this is its own.
+// The list of a column in a set. `own` is its list by itself.
 fn least_list(
     own: &Pieces,
     carried: &[Carried],
@@ -108,7 +108,7 @@ fn with_rows(alloc: Global, keys: &KeyLists, subset: EntrySet) -> Result<EntryLi
     Ok(made)
 }
 
-// Adds the list of a column in a set, which isn't there yet.
+// Adds the list of a column in a set. It isn't there yet.
 fn add_new(
     keys: &KeyLists,
     subset: EntrySet,
@@ -157,7 +157,7 @@ fn add_list(
     add_new(keys, subset, place, made)
 }
 
-// What is known of the entries in a set: each row bound, and the list of each column that one of the equalities names.
+// The row bound of each entry in a set, and the list of each column that one of the equalities names.
 fn lists_in(
     alloc: Global,
     keys: &KeyLists,

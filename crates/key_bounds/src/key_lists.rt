@@ -1,10 +1,10 @@
-//! What is known of entries by themselves, and what is carried to them.
+//! The bounds of entries by themselves, and the bounds that are carried to them.
 use base_io::Seq;
 use bound_fold::EntryLists;
 use key_stats::Carried;
 
-/// For the first `count` entries a row bound, and for each of their joined columns a list; and what is carried to entries, which holds in the
-/// sets that have both entries.
+/// `own` has a row bound for each of the first `count` entries, and a list for each of their joined columns. `carried` has the bounds that are
+/// carried along equalities. Each of them counts only in sets that have both entries of its equality.
 #[derive(Drop)]
 pub struct KeyLists {
     pub count: u8,

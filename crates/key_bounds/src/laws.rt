@@ -1,4 +1,4 @@
-//! What holds of bounds and plans where conjuncts are carried along references to keys: no law computes anything, and the contract is the law.
+//! Laws of bounds and plans where conjuncts are carried along references to keys. No law computes anything; its contract is the law.
 ghost use Rattle.std.specs.Prelude.{◌≡◌, ◌≢◌, ◌^◌, ◌<◌, ◌≤◌, ℕ, Ok, Err, length, slice_index};
 ghost use Rattle.limits.specs.Profile.{most_budget, most_entries};
 ghost use Rattle.plans.specs.declared.left_deep.Plan.{Plan};
@@ -24,9 +24,9 @@ pub fn keys_only_lower()
         → slice_index (set_bounds_by_keys schema query tables accuracy) subset ≤ slice_index (set_bounds_of query tables accuracy) subset }
 {}
 
-/// Where the keys hold along which conjuncts are carried, no bound is too low: what is known in each set stands for the rows of its entries
-/// that may take part in a choice, no level over the scans of a set's entries has more rows than the bound of the set, and a plan by these
-/// bounds is one over the scans. A row that refers to nothing is no exception: it takes part in no choice.
+/// If the declared keys hold, no bound is too low. The bounds of entries in each set hold for the rows that may be in a choice for the set. No
+/// level over the scans of a set's entries has more rows than the bound of the set. A plan by these bounds is one over the scans, and
+/// `planned_by_keys` is never NoMemory. A row that refers to nothing is no exception, since it is in no choice with the other entry.
 pub fn keys_are_never_under()
     ensures stand { (schema : Schema) (query : Query) (tables : Tables) (accuracy : ℕ) → DeclaredKeysHold schema query tables
         → (key : Keys) × StandForLists query tables (scans_of query tables) key (bounds_by_keys schema query tables accuracy) }
@@ -39,8 +39,9 @@ pub fn keys_are_never_under()
         → planned_by_keys schema query tables accuracy budget ≢ Err error.NoMemory }
 {}
 
-/// What is known in a set doesn't look past the parts into which the set falls, where equalities name FROM entries alone: a carrier is
-/// joined with the entry to which it carries, so that both are in one part.
+/// Suppose that equalities name only FROM entries, and that a set falls into two parts that no equality joins. Then each part has the same
+/// bound by what is carried within the set as by what is carried within the part. A carrier is joined with the entry to which it carries, so
+/// both are in one part.
 pub fn keys_look_at_parts()
     ensures { (schema : Schema) (query : Query) (tables : Tables) (accuracy : ℕ)
         → EachNamedColumn (λ entry column. entry < length query.from) (equalities_of query)

@@ -1,4 +1,4 @@
-//! What is known of a query's entries by statistics of its tables and by carried conjuncts.
+//! Bounds of all sets of a query's entries, by statistics of its tables and by carried conjuncts.
 ghost use Rattle.std.specs.Prelude.{◌<◌, ◌≤◌, ◌≡◌, ℕ, IfOk, length};
 ghost use Rattle.limits.specs.Profile.{most_entries};
 ghost use Rattle.schema_types.specs.declared.types.Schema.{Schema as SchemaText};
@@ -27,8 +27,8 @@ use query_types::Query;
 use schema_types::Schema;
 use std::alloc::Global;
 
-/// From statistics of its entries, and what is carried along the references of a schema. A scan's bound is the row bound of its entry by
-/// itself. The parts are those of `split`.
+/// Makes the bounds of all sets from statistics of the query's entries, and from what is carried along the references of a schema. A scan's
+/// bound is the row bound of its entry by itself. `parts` is what `split` gives for the query.
 pub fn from_carried(
     alloc: Global,
     query: &Query,
@@ -56,13 +56,13 @@ pub fn from_carried(
     Ok(known)
 }
 
-/// From statistics of the query's tables, which are gathered once, and the own conjuncts that are carried along the references to keys that
-/// the schema declares (SafeBound, SIGMOD 2023). A scan's bound is that of its rows.
+/// Makes the bounds of all sets from statistics of the query's tables, which are gathered once. Own conjuncts are carried along the references
+/// to keys that the schema declares (SafeBound, SIGMOD 2023). A scan's bound is the row bound of its entry by itself.
 ///
-/// A row of the entry that is referred to is found once for each row of the other one, and no row is copied: time and memory are linear
-/// in the rows times the references and the columns that are joined, but for the sorting of columns and the bounds of all sets.
+/// For each row of a referring entry, the row that it refers to is looked up once, and no row is copied. Apart from sorting columns and from
+/// bounding all sets, time and memory are linear in the rows times the references and the joined columns.
 ///
-/// The accuracy is that of compressed lists.
+/// `accuracy` is that of the compressed lists.
 pub fn from_keys(
     alloc: Global,
     schema: &Schema,

@@ -18,7 +18,7 @@ no_table = record { name = []; columns = []; keys = []; references = [] }
 abbrev pub table_at : Schema → ℕ → Table
 table_at schema table = slice_index_or schema.tables table no_table
 
--- the list is of this column alone
+-- the list has this column alone
 abbrev pub is_just : ℕ → List ℕ → Bool
 is_just column [] = false
 is_just column (first ∷ []) = first == column
@@ -28,11 +28,11 @@ is_just column (first ∷ (second ∷ columns)) = false
 abbrev pub is_declared_key : Schema → ℕ → ℕ → Bool
 is_declared_key schema table column = list_any (is_just column) (table_at schema table).keys
 
--- a reference from this column alone to this column alone of a table
+-- the reference is from this column alone to column `target` alone of the table
 abbrev pub leads : ℕ → ℕ → ℕ → Reference → Bool
 leads column table target reference = is_just column reference.columns && (reference.table == table && is_just target reference.targets)
 
--- the schema declares a reference from the one table's column to the other's
+-- the schema declares a reference from this column of the table to column `target` of table `other`
 abbrev pub refers : Schema → ℕ → ℕ → ℕ → ℕ → Bool
 refers schema table column other target = list_any (leads column other target) (table_at schema table).references
 
@@ -45,13 +45,13 @@ no_source = record { table = 0; alias = [] }
 abbrev pub table_of : Query → ℕ → ℕ
 table_of query entry = (slice_index_or query.from entry no_source).table
 
--- the left column is declared to refer to the right one, which is a key
+-- the left column is declared to refer to the right column, which is declared a key
 abbrev pub refers_to_key : Schema → Query → Edge → Bool
 refers_to_key schema query e =
     refers schema (table_of query e.left.entry) e.left.column (table_of query e.right.entry) e.right.column
     && is_declared_key schema (table_of query e.right.entry) e.right.column
 
--- some conjunct names this entry and no other one
+-- some conjunct names this entry and no other entry
 abbrev pub has_own : Query → ℕ → Bool
 has_own query entry = list_any (names_just entry) query.conjuncts
 
@@ -63,7 +63,7 @@ carries schema query e = refers_to_key schema query e && has_own query e.right.e
 abbrev pub exchanged : Edge → Edge
 exchanged e = record { left = e.right; right = e.left }
 
--- each equality, and behind it the same with its sides exchanged
+-- each equality, and after it the same with its sides exchanged
 abbrev pub both_ways : List Edge → List Edge
 both_ways [] = []
 both_ways (e ∷ es) = e ∷ (exchanged e ∷ both_ways es)
@@ -72,6 +72,6 @@ both_ways (e ∷ es) = e ∷ (exchanged e ∷ both_ways es)
 abbrev pub carriers : Schema → Query → List Edge
 carriers schema query = filter (carries schema query) (both_ways (equalities_of query))
 
--- those that carry to an entry within a set of entries: both entries are in the set
+-- of these equalities, those along which conjuncts are carried to the entry within a set: both entries are in the set
 abbrev pub carriers_to : List Edge → ℕ → ℕ → List Edge
 carriers_to es subset entry = filter (λ e. e.left.entry == entry) (equalities_within subset es)

@@ -1,4 +1,4 @@
--- The widened table as it is found by cells.
+-- How the widened table is found by the cells of columns.
 use Rattle.std.specs.Prelude.{◌≡◌, ℕ, Bool, List, [], ◌∷◌, ◌++◌, map, Option, Some, None}
 use Rattle.std.specs.List.{filter_map, range_with_len}
 use Rattle.berge_tree.specs.declared.edges.Edge.{Edge}
@@ -11,31 +11,31 @@ use Rattle.key_carriers.specs.declared.key_rows.KeyRows.{KeyRows}
 use Rattle.key_carriers.specs.declared.key_rows.KeyRows.TheVariants as key
 use Rattle.key_carriers.specs.Widened.{widened_row}
 
--- a column of an equality, as queries name it
+-- a column of an equality, in the form in which conditions name it
 abbrev pub column_of : Place → ColumnRef
 column_of place = record { from = place.entry; column = place.column }
 
--- both columns of the equality are of the database, and of one kind
+-- both columns of the equality are in the database, and have the same kind
 pub record AreOfOneKind (db : Database) (e : Edge) : Type 0 where
   pub text : Bool
   pub left : IsColumnOfKind db (column_of e.left) text
   pub right : IsColumnOfKind db (column_of e.right) text
 
--- the cells of a column in which rows are found by them
+-- the cells of the column, row by row, by which rows are found
 abbrev pub cells_found : KeyRows → List ℕ
 cells_found (key.Ascending first rows) = range_with_len first rows
 cells_found (key.Chained chains) = chains.keys
 
--- a row at the end of a list, if something was found for it
+-- the rows, with `row` added at the end if another row was found for it
 abbrev pub with_found : List ℕ → ℕ → Option ℕ → List ℕ
 with_found rows row None = rows
 with_found rows row (Some other) = rows ++ row ∷ []
 
--- what was found at the end of a list, if something was
+-- the rows, with the found row added at the end if one was found
 abbrev pub with_other : List ℕ → Option ℕ → List ℕ
 with_other others None = others
 with_other others (Some other) = others ++ other ∷ []
 
--- the first so many rows, with the rows to which they refer
+-- of the left entry's first `count` rows, each that refers to a row, with that row
 abbrev pub widened_to : Tables → Edge → ℕ → List (ℕ × ℕ)
 widened_to tables e count = filter_map (widened_row tables e) (range_with_len 0 count)

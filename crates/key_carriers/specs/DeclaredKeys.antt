@@ -1,4 +1,4 @@
--- Tables whose declared keys hold, as those of files that were read do.
+-- Tables in which the declared keys hold. They hold in all tables that were read from files.
 use Rattle.std.specs.Prelude.{◌≡◌, ℕ, ◌<◌, true}
 use Rattle.std.specs.List.{AllByRecursion}
 use Rattle.std.specs.Ordering.{is_eq}
@@ -12,12 +12,12 @@ use Rattle.sql_meaning.specs.Tables.{Tables, row_counts}
 use Rattle.level_bounds.specs.Keys.{value_at}
 use Rattle.key_carriers.specs.Carriers.{is_declared_key, table_of}
 
--- no two rows of an entry's table have one value in a column
+-- no two rows of an entry's table have the same value in the column
 abbrev pub HaveUniqueValues : Tables → ℕ → ℕ → Type 0
 HaveUniqueValues tables entry column = (row other : ℕ) → row < row_counts tables entry → other < row_counts tables entry
     → is_eq (value_cmp (value_at tables entry column row) (value_at tables entry column other)) ≡ true → row ≡ other
 
--- this holds of each column that the query's equalities name and that alone is a key of its table
+-- values are unique in each column that the query's equalities name and that alone is declared a key of its table
 abbrev pub DeclaredKeysHold : Schema → Query → Tables → Type 0
 DeclaredKeysHold schema query tables =
     EachNamedColumn (λ entry column. is_declared_key schema (table_of query entry) column ≡ true → HaveUniqueValues tables entry column) (equalities_of query)

@@ -16,15 +16,15 @@ referred_row tables e row = position (are_equal_at tables e row) (range_with_len
 abbrev pub with_row : ℕ → ℕ → ℕ × ℕ
 with_row row other = (row, other)
 
--- a row with the row to which it refers
+-- a row with the row to which it refers, if there is one
 abbrev pub widened_row : Tables → Edge → ℕ → Option (ℕ × ℕ)
 widened_row tables e row = option_map (with_row row) (referred_row tables e row)
 
--- all of these rows in file order. A row that refers to nothing is left out
+-- each row of the left entry with the row to which it refers, in file order. A row that refers to nothing is left out
 abbrev pub widened : Tables → Edge → List (ℕ × ℕ)
 widened tables e = filter_map (widened_row tables e) (range_with_len 0 (row_counts tables e.left.entry))
 
--- their rows of the left entry, and those of the right one
+-- the widened table's rows of the left entry, and its rows of the right entry
 abbrev pub referring : Tables → Edge → List ℕ
 referring tables e = map (λ pair. pair.0) (widened tables e)
 
@@ -33,7 +33,7 @@ referred tables e = map (λ pair. pair.1) (widened tables e)
 
 -- ---- tables at rows
 
--- tables in which each entry has the rows of these numbers, one after another
+-- tables in which each entry has only the rows with these numbers, in this order
 abbrev pub tables_at : Tables → List ℕ → Tables
 tables_at tables rows entry = map (λ row. slice_index_or (tables entry) row []) rows
 
@@ -43,7 +43,7 @@ values_at tables entry column rows = map (value_at tables entry column) rows
 
 -- ---- rows that refer to a row of the other entry's scan
 
--- the row that was found, if one was, passes its entry's own conjuncts
+-- a row was found, and it passes its entry's own conjuncts
 abbrev pub is_scanned : Query → Tables → ℕ → Option ℕ → Bool
 is_scanned query tables entry None = false
 is_scanned query tables entry (Some row) = passes_own (conjuncts_of query tables) entry row
@@ -51,6 +51,6 @@ is_scanned query tables entry (Some row) = passes_own (conjuncts_of query tables
 abbrev pub refers_to_scanned : Query → Tables → Edge → ℕ → Bool
 refers_to_scanned query tables e row = is_scanned query tables e.right.entry (referred_row tables e row)
 
--- in file order
+-- the left entry's rows that refer to a row of the right entry's scan, in file order
 abbrev pub rows_referring : Query → Tables → Edge → List ℕ
 rows_referring query tables e = filter (refers_to_scanned query tables e) (range_with_len 0 (row_counts tables e.left.entry))

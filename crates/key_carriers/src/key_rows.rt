@@ -1,4 +1,4 @@
-//! The rows of a key column, by their cells.
+//! Finds the rows of a key column by their cells.
 ghost use Rattle.std.specs.Prelude.{◌≡◌, ◌≤◌, IfOk, length, true};
 ghost use Rattle.std.specs.List.{range_with_len};
 ghost use Rattle.limits.specs.Profile.{most_rows};
@@ -12,13 +12,13 @@ use std::alloc::Global;
 /// A column in which rows are found by their cells.
 #[derive(Drop)]
 pub(crate) enum KeyRows {
-    /// So many rows, whose cells ascend by one from the first one: a cell tells its row.
+    /// The first cell, and how many rows there are. From row to row the cell goes up by one, so a cell tells its row.
     Ascending(u64, u64),
-    /// Any rows.
+    /// Any cells, in a hash table.
     Chained(Chains),
 }
 
-// Whether the cells ascend by one from this one on.
+// Whether the cells start with this one and go up by one from row to row.
 fn ascend_from(first: u64, cells: &[u64]) -> bool
     ensures { result ≡ true → cells.now ≡ range_with_len first (length cells.now) }
 {
@@ -33,7 +33,7 @@ fn ascend_from(first: u64, cells: &[u64]) -> bool
     true
 }
 
-// The places of cells, by the cell.
+// A hash table of the places of these cells.
 fn chained(alloc: Global, cells: &[u64]) -> Result<Chains, NoMemory>
     requires few { length cells.now ≤ most_rows }
     ensures { IfOk result (λ chains. chains.keys ≡ cells.now) }
@@ -44,7 +44,7 @@ fn chained(alloc: Global, cells: &[u64]) -> Result<Chains, NoMemory>
     Ok(chains)
 }
 
-// The place of a cell among so many that ascend by one from the first one.
+// The place of a cell among `rows` cells that start with `first` and go up by one, if it is there.
 fn place_from(first: u64, rows: u64, cell: u64) -> Option<u32>
     requires few { rows ≤ most_rows }
     ensures { IsPlaceOf (range_with_len first rows) cell 0 result }
@@ -61,8 +61,8 @@ fn place_from(first: u64, rows: u64, cell: u64) -> Option<u32>
 }
 
 impl KeyRows {
-    /// Keys mostly ascend by one in their file, and then nothing is made to find them. Whether they do takes one pass and no memory to find
-    /// out.
+    /// Prepares to find rows by these cells. In most files keys go up by one from row to row, and then no hash table is made. One pass over
+    /// the cells, without memory, tells whether they do.
     pub(crate) fn new(alloc: Global, cells: &[u64]) -> Result<KeyRows, NoMemory>
         requires few { length cells.now ≤ most_rows }
         ensures { IfOk result (λ key. cells_found key ≡ cells.now) }
@@ -74,7 +74,7 @@ impl KeyRows {
         Ok(KeyRows::Chained(chained(alloc, cells)?))
     }
 
-    /// The first row that has the cell.
+    /// The first row that has the cell, if there is one.
     pub(crate) fn row_of(&self, cell: u64) -> Option<u32>
         requires few { length (cells_found self.now) ≤ most_rows }
         ensures { IsPlaceOf (cells_found self.now) cell 0 result }

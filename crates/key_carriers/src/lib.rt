@@ -1,11 +1,11 @@
-//! Which entries of a query carry their own conjuncts to others, along references to keys that the schema declares, and the rows that refer to
-//! a row of such an entry.
+//! Finds which entries of a query carry their own conjuncts to others, along references to keys that the schema declares. It also finds the rows
+//! that refer to a row of a carrying entry.
 //!
 //! In: a query in parts, its schema and its tables. Out: the equalities along which conjuncts are carried (`carriers`), and for each of them
 //! the widened table (`widened`). It has pairs of row numbers: a row that refers to a row of the other table, and that row. No row is copied.
-//! A row that refers to nothing is left out. So nothing here assumes that every reference has its row.
+//! A row that refers to nothing is left out, so nothing here assumes that every reference leads to a row.
 //!
-//! Callers cite `carriers` and `carriers_to` for who carries, `widened`, `referring` and `referred` for the widened table,
+//! Callers cite `carriers` and `carriers_to` for who carries, and `widened`, `referring` and `referred` for the widened table. They cite
 //! `rows_referring` for the rows that refer to a row of the carrier's scan, and `DeclaredKeysHold` for tables whose keys hold.
 #![tactic(auto)]
 

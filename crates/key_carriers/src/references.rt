@@ -1,4 +1,4 @@
-//! The equalities along which conjuncts are carried.
+//! Finds the equalities along which conjuncts are carried.
 ghost use Rattle.std.specs.Prelude.{◌≡◌, ◌++◌, ◌∷◌, [], ◌<◌, ℕ, IfOk, OnOk, filter, length};
 ghost use Rattle.std.specs.List.{list_any};
 ghost use Rattle.join_graph.specs.Conjuncts.{equalities_of, local_of};
@@ -12,7 +12,7 @@ use query_types::Query;
 use schema_types::{Reference, Schema};
 use std::alloc::Global;
 
-// Whether a list is of this column alone.
+// Whether a list has this column alone.
 fn is_just(column: u32, columns: &[u32]) -> bool
     ensures { result ≡ is_just column columns.now }
 {
@@ -22,7 +22,7 @@ fn is_just(column: u32, columns: &[u32]) -> bool
     }
 }
 
-// Whether a reference leads from this column alone to this column alone of a table.
+// Whether a reference is from this column alone to column `target` alone of the table.
 fn leads(column: u32, table: u32, target: u32, reference: &Reference) -> bool
     ensures { result ≡ leads column table target reference.now }
 {
@@ -57,7 +57,7 @@ fn some_is_just(column: u32, keys: &[Seq<u32>]) -> bool
     false
 }
 
-// Whether the schema declares a reference from a table's column to another table's.
+// Whether the schema declares a reference from this column of the table to column `target` of table `other`.
 fn refers(schema: &Schema, table: u32, column: u32, other: u32, target: u32) -> bool
     ensures { result ≡ refers schema.now table column other target }
 {
@@ -69,7 +69,7 @@ fn refers(schema: &Schema, table: u32, column: u32, other: u32, target: u32) -> 
     false
 }
 
-// Whether a column alone is a key of its table.
+// Whether a column alone is declared a key of its table.
 fn is_key(schema: &Schema, table: u32, column: u32) -> bool
     ensures { result ≡ is_declared_key schema.now table column }
 {
@@ -103,7 +103,7 @@ fn refers_to_key(schema: &Schema, query: &Query, edge: Edge) -> bool
     is_key(schema, other, edge.right.column)
 }
 
-// Whether some conjunct names this entry and no other one.
+// Whether some conjunct names this entry and no other entry.
 fn has_own(query: &Query, parts: &Parts, entry: u8) -> bool
     requires local { parts.now.local ≡ local_of query.now }
     requires entry { entry < length query.now.from }
@@ -112,7 +112,7 @@ fn has_own(query: &Query, parts: &Parts, entry: u8) -> bool
     parts.local.get(usize::from(entry)).len() > 0
 }
 
-// Puts an equality at the end, if conjuncts are carried along it.
+// Adds an equality at the end, if conjuncts are carried along it.
 fn add_carrier(
     schema: &Schema,
     query: &Query,
@@ -142,9 +142,9 @@ fn turned(edge: Edge) -> Edge
     }
 }
 
-/// The equalities along which entries carry their own conjuncts, in text order, each with the entry to which they are carried on its left: the
-/// schema declares a reference from the left column to the right one, which alone is a PRIMARY KEY or UNIQUE, and some conjunct names the
-/// right entry alone. The parts are those of `split`.
+/// The equalities along which conjuncts are carried, in text order. Each has the carrying entry on its right, and on its left the entry to which
+/// it carries its own conjuncts. The schema declares a reference from the left column to the right one, which alone is a PRIMARY KEY or UNIQUE.
+/// Some conjunct names the right entry alone. `parts` is what `split` gives for the query.
 pub fn carriers(
     alloc: Global,
     schema: &Schema,

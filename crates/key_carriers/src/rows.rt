@@ -14,7 +14,8 @@ use join_steps::{cells_of_column, texts_are_different};
 use query_types::ColumnRef;
 use std::alloc::Global;
 
-/// The rows of an entry that refer to a row of another one, in file order, and the rows to which they refer, one for each.
+/// `rows` has the rows of an entry that refer to a row of another entry, in file order. `others` has, for each of them, the row to which it
+/// refers.
 #[derive(Drop)]
 pub struct Widened {
     pub rows: Vec<u32>,
@@ -31,7 +32,7 @@ fn column_of(place: Place) -> ColumnRef
 }
 
 impl Widened {
-    // Adds a row with the row to which it refers, or nothing.
+    // Adds a row with the row to which it refers, if there is one.
     fn add(&mut self, row: u32, other: Option<u32>) -> Result<(), NoMemory>
         ensures rows { OnOk result (self.new.rows.items ≡ with_found self.old.rows.items row other) }
         ensures others { OnOk result (self.new.others.items ≡ with_other self.old.others.items other) }
@@ -44,8 +45,8 @@ impl Widened {
     }
 }
 
-/// The rows of the left entry of an equality that refer to a row of its right one, each with that row. A row of the right entry is found by the
-/// key's cell, once for each row of the left one: time and memory are linear in the rows of both.
+/// The rows of an equality's left entry that refer to a row of its right entry, each with that row. For each row of the left entry, the row that
+/// it refers to is looked up once, by its cell. Time and memory are linear in the rows of both entries.
 pub fn widened_rows(alloc: Global, db: &Database, edge: Edge) -> Result<Widened, NoMemory>
     requires tables { AreTables db.now }
     requires kinds { AreOfOneKind db.now edge }

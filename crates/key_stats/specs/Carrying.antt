@@ -9,14 +9,14 @@ use Rattle.sql_meaning.specs.Tables.{Tables}
 use Rattle.key_stats.specs.declared.carried.Carried.{Carried}
 use Rattle.key_stats.specs.Lists.{carried_list, carried_rows}
 
--- along its equality the row bound of the left entry, and the list of each of its columns that an equality of the query names
+-- `c` has the carried row bound of its left entry, and the carried list of each column of this entry that the query's equalities name
 pub record TellsCarried (query : Query) (tables : Tables) (accuracy : ℕ) (c : Carried) : Type 0 where
   pub rows : rows_of c.lists c.edge.left.entry ≡ Some (carried_rows query tables c.edge)
   pub lists : EachNamedColumn
       (λ entry column. entry ≡ c.edge.left.entry → list_of c.lists entry column ≡ Some (carried_list query tables accuracy c.edge column))
       (equalities_of query)
 
--- along each of these equalities
+-- `carried` has what is carried along each of these equalities, in their order
 pub record TellAlong (query : Query) (tables : Tables) (accuracy : ℕ) (es : List Edge) (carried : List Carried) : Type 0 where
   pub edges : map (λ c. c.edge) carried ≡ es
   pub tell : All (TellsCarried query tables accuracy) carried

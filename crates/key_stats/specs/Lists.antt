@@ -1,4 +1,4 @@
--- What a carrier's own conjuncts say of the rows that refer to it: the statistics of the widened table, filtered by them.
+-- The statistics of the widened table, filtered by the carrier's own conjuncts. They bound the rows that refer to the carrier's scan.
 use Rattle.std.specs.Prelude.{ℕ, List}
 use Rattle.berge_tree.specs.declared.edges.Edge.{Edge}
 use Rattle.query_types.specs.declared.types.Query.{Query}
@@ -8,12 +8,12 @@ use Rattle.table_stats.specs.Columns.{column_values}
 use Rattle.table_stats.specs.Statistics.{entry_counts, lists_over}
 use Rattle.key_carriers.specs.Widened.{referred, referring, tables_at, values_at}
 
--- of a joined column of the entry to which is carried, with the filter columns of the carrier, at an accuracy
+-- the lists of a joined column of the referring entry, by values in the carrier's filter columns, at an accuracy
 abbrev pub carried_lists : Tables → ℕ → Edge → ℕ → ColumnLists
 carried_lists tables accuracy e column =
     lists_over accuracy (column_values (tables_at tables (referred tables e)) e.right.entry) (values_at tables e.left.entry column (referring tables e))
 
--- and the numbers of rows
+-- the numbers of rows, by values in the carrier's filter columns
 abbrev pub carried_counts : Tables → Edge → RowCounts
 carried_counts tables e = entry_counts (tables_at tables (referred tables e)) e.right.entry
 

@@ -1,4 +1,4 @@
--- Keys: a number for each row in each column, that tells which values are equal.
+-- Keys: a number for each row in each column. Rows that an equality joins have the same key.
 use Rattle.std.specs.Prelude.{◌≡◌, ◌≢◌, ℕ, ◌<◌, Bool, true, List, [], AllPairs, slice_index, slice_index_or}
 use Rattle.std.specs.List.{AllByRecursion}
 use Rattle.std.specs.Ordering.{is_eq}
@@ -22,12 +22,12 @@ abbrev pub are_equal_at : Tables → Edge → ℕ → ℕ → Bool
 are_equal_at tables e left right =
     is_eq (value_cmp (value_at tables e.left.entry e.left.column left) (value_at tables e.right.entry e.right.column right))
 
--- rows that an equality joins have one key
+-- two rows that the equality joins have the same key in its columns
 abbrev pub JoinsEqualKeys : Tables → Keys → Edge → Type 0
 JoinsEqualKeys tables key e = (left right : ℕ) → left < row_counts tables e.left.entry → right < row_counts tables e.right.entry
     → are_equal_at tables e left right ≡ true → key e.left.entry e.left.column left ≡ key e.right.entry e.right.column right
 
--- so it is for each of these equalities
+-- rows that one of these equalities joins have the same key in its columns
 abbrev pub AreKeys : Tables → Keys → List Edge → Type 0
 AreKeys tables key es = AllByRecursion (JoinsEqualKeys tables key) es
 

@@ -3,7 +3,7 @@ use Rattle.std.specs.Prelude.{ℕ, ◌==◌, List, map}
 use Rattle.std.specs.List.{AllByRecursion, Contains, IsDistinct}
 use Rattle.sql_meaning.specs.Levels.{row_in}
 
--- the list has each entry of the set, once, and no other
+-- the list has each entry of the set exactly once, and no other entry
 pub record IsOrderOfSet (set order : List ℕ) : Type 0 where
   pub once : IsDistinct ◌==◌ order
   pub within : AllByRecursion (Contains set) order

@@ -1,4 +1,4 @@
--- The scans and the levels of a query, and what bounds of its entries know of the scans.
+-- The scans and the levels of a query, and bounds of its entries that hold for the scans.
 use Rattle.std.specs.Prelude.{ℕ, ◌≤◌, List, length, map}
 use Rattle.std.specs.List.{AllByRecursion, filter}
 use Rattle.degree_sequences.specs.Domination.{DominatesKeys}
@@ -24,7 +24,7 @@ query_scan query tables entry = scan (conjuncts_of query tables) (row_counts tab
 abbrev pub query_level : Query → Tables → List ℕ → List (List ℕ)
 query_level query tables order = level_of (conjuncts_of query tables) (row_counts tables) order
 
--- the conjuncts that name the entry and no other one
+-- the conjuncts that name the entry and no other entry
 abbrev pub filters_of : Query → ℕ → List Cond
 filters_of query entry = filter (names_just entry) query.conjuncts
 
@@ -32,23 +32,23 @@ filters_of query entry = filter (names_just entry) query.conjuncts
 abbrev pub equalities_in : Query → ℕ → List Edge
 equalities_in query subset = equalities_within subset (equalities_of query)
 
--- ---- what bounds of entries know of the scans
+-- ---- bounds of entries that hold for the scans
 
 -- the scan of an entry has at most as many rows as its row bound
 abbrev pub ScanFits : EntryBounds → Query → Tables → ℕ → Type 0
 ScanFits b query tables entry = length (query_scan query tables entry) ≤ b.rows entry
 
--- the list of a column dominates its keys over the scan
+-- the list of a column dominates the keys that the column has in the scan
 abbrev pub DominatesScan : EntryBounds → Query → Tables → Keys → ℕ → ℕ → Type 0
 DominatesScan b query tables key entry column = DominatesKeys (b.list entry column) (map (key entry column) (query_scan query tables entry))
 
--- every scan of the query fits, and each column that joins two entries has its list, which dominates the scan
+-- every scan of the query is within its row bound. Each column that an equality joins has a list, which dominates its keys in the scan
 pub record BoundsEachScan (b : EntryBounds) (query : Query) (tables : Tables) (key : Keys) : Type 0 where
   pub rows : AllByRecursion (ScanFits b query tables) (entries_of query)
   pub lists : EachNamedColumn (HasList b) (equalities_of query)
   pub columns : EachNamedColumn (DominatesScan b query tables key) (equalities_of query)
 
--- the same for the entries of a set, and the columns that join two of them
+-- the same for the entries of a set, and for the columns by which equalities join two of them
 pub record BoundsScans (b : EntryBounds) (query : Query) (tables : Tables) (key : Keys) (subset : ℕ) : Type 0 where
   pub rows : AllByRecursion (ScanFits b query tables) (entries_of_set subset)
   pub lists : SetHasLists b (equalities_of query) subset

@@ -3,14 +3,14 @@
 //! In: what a query means over its tables (`sql_meaning`), and the bound of a set of entries (`tree_bounds`). Out: laws;
 //! nothing here runs.
 //!
-//! - If the bounds of the entries are right for their scans, no level over the entries of a set has more rows than the
-//!   set's bound, in whatever order they are joined.
+//! - If no bound of an entry is too low for its scan, no level over the entries of a set has more rows than the set's
+//!   bound. This holds in whatever order they are joined.
 //! - The last level of any order of all entries is the answer of the query, as a multiset.
 //! - Without conjuncts on one entry alone, the bound of a set is near that of the whole tables' degree lists (SafeBound,
 //!   SIGMOD 2023).
 //!
-//! Callers cite `query_scan`, `query_level` and `BoundsEachScan`, `IsOrderOfSet` for a set in an order, and `AreCompressed`
-//! and `uncompressed` for what a bound is near.
+//! Callers cite `query_scan`, `query_level` and `BoundsEachScan`. They also cite `IsOrderOfSet` for a set in an order, and
+//! `AreCompressed` and `uncompressed` for the bounds of whole tables.
 #![tactic(auto)]
 
 pub mod examples;

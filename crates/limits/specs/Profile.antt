@@ -43,8 +43,8 @@ most_outputs = 1024
 
 -- ---- what is planned
 
--- the budget, which is the most rows that the bound of a level or node of a plan may say: the least, the greatest, and the one where none is
--- named
+-- a budget is the most rows that the bound of a level or node of a plan may say. These are the least budget, the greatest, and the default
+-- of the program
 abbrev pub least_budget : ℕ
 least_budget = 1
 
@@ -54,15 +54,15 @@ most_budget = 20000000
 abbrev pub usual_budget : ℕ
 usual_budget = 1000000
 
--- what the searches and the lists take, whatever a program allows: rows of a table, and the budget of a plan. The bounds of twelve joins
--- within such a budget have a sum of less than 2^63
+-- the most rows of a table that lists take, and the greatest budget that searches take, whatever a program allows. Twelve bounds within
+-- this budget have a sum below 2^63
 abbrev pub greatest_rows : ℕ
 greatest_rows = 2 ^ 48
 
 abbrev pub greatest_budget : ℕ
 greatest_budget = 2 ^ 59
 
--- the accuracy of compressed lists, and which one where none is named
+-- the least accuracy of compressed lists, the greatest, and the default
 abbrev pub least_accuracy : ℕ
 least_accuracy = 1
 
@@ -72,6 +72,6 @@ most_accuracy = 64
 abbrev pub usual_accuracy : ℕ
 usual_accuracy = 1
 
--- the bound that stands for this or more
+-- the greatest number of 128 bits. As a bound it means this number or more
 abbrev pub top_bound : ℕ
 top_bound = 2 ^ 128 - 1

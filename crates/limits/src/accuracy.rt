@@ -27,7 +27,7 @@ impl Model for Accuracy {
 }
 
 impl Accuracy {
-    /// The accuracy of this number.
+    /// The accuracy with this number.
     pub const fn of(value: u8) -> Accuracy
         requires { (0 < value) × (value ≤ most_accuracy) }
         ensures { result ≡ value }

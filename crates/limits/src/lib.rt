@@ -1,7 +1,6 @@
-//! The limits within which texts are read and queries are planned, each named once: here for the code, and in specs/Profile for contracts.
+//! The limits within which texts are read and queries are planned: constants for the code, and their names in specs/Profile for contracts.
 //!
-//! An accuracy has a type of its own, `Accuracy`, so that every value of it is within its limits. Contracts cite the names of
-//! specs/Profile, as `most_rows` for `MOST_ROWS`.
+//! A contract says `most_rows` where the code says `MOST_ROWS`. An accuracy has the type `Accuracy`, so that it is within its limits.
 #![tactic(auto)]
 
 ghost use Rattle.std.specs.Prelude.{◌≡◌};
@@ -11,7 +10,7 @@ mod accuracy;
 
 pub use accuracy::Accuracy;
 
-/// How many bytes a schema text has at most, and a query text.
+/// How many bytes a schema text or a query text has at most.
 pub const MOST_TEXT: u32 = 1_048_576;
 
 /// How many bytes a table's file has at most.
@@ -53,7 +52,7 @@ pub const GREATEST_ROWS: u64 = 1 << 48;
 /// The greatest budget that the searches take, in rows, whatever a program allows.
 pub const GREATEST_BUDGET: u64 = 1 << 59;
 
-/// The budget where none is named, in rows.
+/// The default budget, in rows.
 pub const USUAL_BUDGET: u64 = 1_000_000;
 
 /// The least accuracy of compressed lists.
@@ -62,13 +61,13 @@ pub const LEAST_ACCURACY: u8 = 1;
 /// The greatest accuracy of compressed lists.
 pub const MOST_ACCURACY: u8 = 64;
 
-/// The accuracy where none is named.
+/// The default accuracy.
 pub const USUAL_ACCURACY: u8 = 1;
 
-/// The bound that stands for all from there on.
+/// The greatest number of 128 bits. As a bound it means this number or more.
 pub const TOP_BOUND: u128 = u128::MAX;
 
-/// The limits are as they are named in specs/Profile. It does nothing.
+/// Each constant here equals the number of the same name in specs/Profile. It does nothing.
 pub fn limits_are_named()
     ensures texts { MOST_TEXT ≡ profile.most_text }
     ensures files { MOST_FILE ≡ profile.most_file }

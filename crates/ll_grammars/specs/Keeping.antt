@@ -1,11 +1,11 @@
--- What a value has of the tokens that spell it.
+-- Properties of a value that follow from properties of the tokens that spell it.
 use Rattle.std.specs.Prelude.{◌≡◌, true, All, List}
 use Rattle.ll_grammars.specs.declared.lexeme.Lexeme.{Lexeme}
 use Rattle.ll_grammars.specs.declared.terminal.Terminal.{Terminal}
 use Rattle.ll_grammars.specs.Terminals.{among}
 use Rattle.ll_grammars.specs.Language.{Language}
 
--- a text all of whose tokens have P has a value that has Q
+-- where all tokens of a text have P, its value has Q
 pub record Keeps {A : Type 0} (P : Lexeme → Type 0) (L : Language A) (Q : A → Type 0) : Type 0 where
   pub kept : (text : List Lexeme) (value : A) → L text value → All P text → Q value
 

@@ -1,17 +1,17 @@
--- Predictive parsers: a value, or none, and the tokens from the one on at which reading stopped. One token ahead decides.
+-- Predictive parsers. Each gives a value or no value, and the tokens from where reading stopped. It decides by the next token alone.
 use Rattle.std.specs.Prelude.{ℕ, zero, suc, Bool, false, if◌then◌else◌, Option, Some, None, List, [], ◌∷◌, ◌++◌, length}
 use Rattle.ll_grammars.specs.declared.lexeme.Lexeme.{Lexeme}
 use Rattle.ll_grammars.specs.declared.terminal.Terminal.{Terminal}
 use Rattle.ll_grammars.specs.Terminals.{among}
 
--- a value or none, and the tokens that are left
+-- a value or no value, and the tokens that are left
 abbrev pub Answer : Type 0 → Type 0
 Answer A = Option A × List Lexeme
 
 abbrev pub Parser : Type 0 → Type 0
 Parser A = List Lexeme → Answer A
 
--- goes on with a parser where there is a value
+-- where there is a value, goes on with the parser that `f` gives for it
 abbrev pub next : {A B : Type 0} → Option A → List Lexeme → (A → Parser B) → Answer B
 next None rest f = (None, rest)
 next (Some a) rest f = f a rest
@@ -25,12 +25,12 @@ abbrev pub starts : List Terminal → List Lexeme → Bool
 starts terminals [] = false
 starts terminals (token ∷ rest) = among terminals token.terminal
 
--- a token that is one of these; else nothing is read
+-- reads the first token if it is one of these terminals, else nothing
 abbrev pub read_one : List Terminal → Parser Lexeme
 read_one terminals [] = (None, [])
 read_one terminals (token ∷ rest) = if among terminals token.terminal then (Some token, rest) else (None, token ∷ rest)
 
--- nothing more is read
+-- gives the value and reads nothing
 abbrev pub give : {A : Type 0} → A → Parser A
 give a rest = (Some a, rest)
 
@@ -55,20 +55,20 @@ read_maybe first p text = if starts first text then (p text >>= λ a. give (Some
 abbrev pub read_others : {A : Type 0} → Parser (List A) → A → Parser (List A)
 read_others q a rest = q rest >>= λ others. give (a ∷ others)
 
--- at most so many
+-- at most this many items, while the first token is in the FIRST set of p
 abbrev pub read_up_to : {A : Type 0} → ℕ → List Terminal → Parser A → Parser (List A)
 read_up_to zero first p text = give [] text
 read_up_to (suc n) first p text = if starts first text then (p text >>= read_others (read_up_to n first p)) else give [] text
 
--- as long as the first token is in the FIRST set; each item takes a token, so the text's length is enough
+-- items while the first token is in the FIRST set. Each item takes a token, so there are at most as many items as tokens
 unfoldable pub read_many : {A : Type 0} → List Terminal → Parser A → Parser (List A)
 read_many first p text = read_up_to (length text) first p text
 
--- what was read before, and what is still read
+-- the answer, with the items that were read before in front of its own
 abbrev pub with_front : {A : Type 0} → List A → Answer (List A) → Answer (List A)
 with_front front answer = answer >>= λ others. give (front ++ others)
 
--- items behind separators, and maybe one more separator: the token behind a separator decides
+-- items, each after a separator, and maybe a last separator alone: the token after a separator decides whether an item follows
 abbrev pub read_tails_up_to : {A : Type 0} → ℕ → List Terminal → List Terminal → Parser A → Parser (List A)
 read_tails_up_to zero separators first p text = give [] text
 read_tails_up_to (suc n) separators first p [] = give [] []

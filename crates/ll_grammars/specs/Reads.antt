@@ -1,4 +1,4 @@
--- What a parser has to do with a language, so that it can be put together with others as an LL(1) grammar's rules are.
+-- What it means that a parser reads a language. Parsers that do so can be combined as the rules of an LL(1) grammar are.
 use Rattle.std.specs.Prelude.{◌≡◌, Bool, true, false, Option, Some, None, List, [], ◌∷◌, ◌++◌, ⊤}
 use Rattle.ll_grammars.specs.declared.lexeme.Lexeme.{Lexeme}
 use Rattle.ll_grammars.specs.declared.terminal.Terminal.{Terminal}
@@ -6,34 +6,34 @@ use Rattle.ll_grammars.specs.Terminals.{among}
 use Rattle.ll_grammars.specs.Language.{Language, IsViablePrefix}
 use Rattle.ll_grammars.specs.Reading.{Parser}
 
--- what LL(1) asks of a language and its parser: the FIRST set (the terminals with which its texts begin), whether it is
--- nullable (the empty list is a text), and the terminals with which the parser goes on behind a text
+-- what LL(1) asks of a language and its parser. `first` has the terminals with which its texts begin. `nullable` says
+-- whether the empty list is a text. `more` has the terminals with which the parser goes on after a text
 pub record FirstAndFollow : Type 0 where
   pub first : List Terminal
   pub nullable : Bool
   pub more : List Terminal
 
--- a text begins in the FIRST set, or is empty where the language is nullable
+-- a text begins with a terminal of the FIRST set, or it is empty and the language is nullable
 abbrev pub BeginsIn : FirstAndFollow → List Lexeme → Type 0
 BeginsIn s [] = s.nullable ≡ true
 BeginsIn s (token ∷ rest) = among s.first token.terminal ≡ true
 
--- what follows does not begin with these terminals
+-- what follows doesn't begin with any of these terminals
 abbrev pub Stops : List Terminal → List Lexeme → Type 0
 Stops more [] = ⊤
 Stops more (token ∷ rest) = among more token.terminal ≡ false
 
--- no token, or the same first one
+-- both lists are empty, or both have the same first token
 pub data SameHead : List Lexeme → List Lexeme → Type 0 where
   nothing : SameHead [] []
   token : (t : Lexeme) (xs ys : List Lexeme) → SameHead (t ∷ xs) (t ∷ ys)
 
--- what was read up to where it stopped: a text of the value, or a viable prefix if there is none
+-- what was read spells the value, or is a viable prefix if there is no value
 abbrev pub Spelled : {A : Type 0} → Language A → List Lexeme → Option A → Type 0
 Spelled L front None = IsViablePrefix L front
 Spelled L front (Some value) = L front value
 
--- what was read and what is left are the text
+-- the text is what was read, `front`, and then what is left
 pub record Splits {A : Type 0} (L : Language A) (text : List Lexeme) (value : Option A) (rest : List Lexeme) : Type 0 where
   pub front : List Lexeme
   pub whole : text ≡ front ++ rest
@@ -43,11 +43,11 @@ pub record Splits {A : Type 0} (L : Language A) (text : List Lexeme) (value : Op
 pub record Reads {A : Type 0} (L : Language A) (s : FirstAndFollow) (p : Parser A) : Type 0 where
   -- the language has a text
   pub some : IsViablePrefix L []
-  -- the shape is the language's
+  -- each text of the language begins as `s` says
   pub begins : (text : List Lexeme) (value : A) → L text value → BeginsIn s text
-  -- nothing is read that begins no text
+  -- what is read spells the value, or is a viable prefix if there is no value
   pub splits : (text : List Lexeme) → Splits L text (p text).0 (p text).1
-  -- each text is found, whatever follows with which the parser doesn't go on
+  -- each text is read to its end, if the token after it isn't one with which the parser goes on
   pub complete : (front rest : List Lexeme) (value : A) → L front value → Stops s.more rest → p (front ++ rest) ≡ (Some value, rest)
   -- it looks at no token past the one at which it stops
   pub looks : (front rest other : List Lexeme) → SameHead rest other → (p (front ++ rest)).1 ≡ rest

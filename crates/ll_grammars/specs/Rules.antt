@@ -1,4 +1,4 @@
--- Forms of rules that grammars share, and the same read from left to right.
+-- Forms of rules that grammars share, and parsers of some of them.
 use Rattle.std.specs.Prelude.{◌≡◌, ℕ, Bool, true, false, ⊤, List, [], ◌∷◌, Some, None, Result, Ok, Err}
 use Rattle.ll_grammars.specs.declared.lexeme.Lexeme.{Lexeme}
 use Rattle.ll_grammars.specs.declared.terminal.Terminal.{Terminal}
@@ -42,13 +42,13 @@ read_word t = read_one (t ∷ [])
 abbrev pub read_in_parentheses : {A : Type 0} → Parser A → Parser A
 read_in_parentheses p = read_made middle (read_then (read_word terminal.Open) (read_then p (read_word terminal.Close)))
 
--- what a function gave, and the tokens that it left, is what reading gives, unless memory was wanting
+-- what a function gave and the tokens that it left are the parser's answer, unless memory ran out
 abbrev pub IsReadAs : {A : Type 0} → Result A Stop → List Lexeme → Answer A → Type 0
 IsReadAs (Ok a) rest answer = answer ≡ (Some a, rest)
 IsReadAs (Err stop.Syntax) rest answer = answer ≡ (None, rest)
 IsReadAs (Err stop.NoMemory) rest answer = ⊤
 
--- the start of the next token, or the text's end
+-- the start of the next token, or the text's end where no token is left
 abbrev pub place : List Lexeme → ℕ → ℕ
 place [] end = end
 place (token ∷ rest) end = token.start

@@ -61,7 +61,7 @@ code terminal.Star = 52
 code terminal.Plus = 53
 code terminal.Minus = 54
 
--- whether t is in a set of terminals, which is a list of them
+-- whether t is in a set of terminals, which is given as a list
 abbrev pub among : List Terminal → Terminal → Bool
 among [] t = false
 among (s ∷ rest) t = (code s == code t) || among rest t

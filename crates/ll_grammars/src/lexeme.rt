@@ -1,4 +1,4 @@
-//! What grammars read: tokens as terminals.
+//! The tokens that grammars read.
 use crate::Terminal;
 
 /// A token of a text, as a grammar sees it: its terminal symbol, and where it lies in the text, from the byte

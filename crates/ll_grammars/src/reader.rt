@@ -50,8 +50,8 @@ impl<'a> Reader<'a> {
         }
     }
 
-    /// Reads the next token, which has to be one of these terminals. Where it isn't, that is `Stop::Syntax`,
-    /// and nothing is read.
+    /// Reads the next token, which has to be one of these terminals. Else it gives `Stop::Syntax` and reads
+    /// nothing.
     pub fn one(&mut self, terminals: &[Terminal]) -> Result<Lexeme, Stop>
         ensures { IsReadAs result self.new (read_one terminals.now self.old) }
     {

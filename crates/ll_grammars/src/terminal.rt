@@ -3,7 +3,7 @@ ghost use Rattle.std.specs.Prelude.{◌≡◌};
 ghost use Rattle.ll_grammars.specs.Terminals.{among, code};
 
 /// A terminal symbol of the grammars of schema and query texts. A reserved word of SQL that no rule
-/// reads is `Reserved`, and a number that is zero is `Zero`, since it is no length.
+/// reads is `Reserved`. The number zero is `Zero`, since it can't be a length.
 #[derive(Clone, Copy, Debug)]
 pub enum Terminal {
     Name,
@@ -63,7 +63,7 @@ pub enum Terminal {
     Minus,
 }
 
-/// The terminals of names: KEY, NO, ACTION and CASCADE are words only in their places, and names elsewhere.
+/// The terminals that a name may have: KEY, NO, ACTION and CASCADE are keywords only where a rule asks for them.
 pub const NAME: &[Terminal] = &[
     Terminal::Name,
     Terminal::Key,

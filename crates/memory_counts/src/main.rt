@@ -1,8 +1,8 @@
 //! Reserves the buffers of two small plans, an order and a join tree, while tools/memory-bytes counts the requests for memory.
 //!
 //! With the word `take-order` the program reserves for the order, and with `take-trees` for the tree. With `tell-plans`, a word of the same
-//! length, it reserves for neither. So whatever the first two request beyond the third is the reservation. In each case the program prints
-//! how many bytes each plan is to take.
+//! length, it reserves for neither. So what one of the first two runs requests beyond the third is the reservation. Each run prints how
+//! many bytes each plan takes by its formula.
 #![tactic(auto)]
 
 ghost use Rattle.std.specs.Prelude.{IfOk, length};
@@ -64,7 +64,7 @@ fn is_asked(rt: &HostRuntime, word: &str) -> io::Result<bool> {
     Ok(env::args(rt)?.any(|other| other.as_str() == word))
 }
 
-// Tells the bytes of both plans, and reserves the one that is asked for.
+// Prints the bytes of both plans, and reserves for the plan that is asked for.
 fn tell(rt: &HostRuntime, plan: &BushyPlan) -> io::Result<()>
     requires plan { IsTreePlan (length plan.now.scans) plan.now }
     requires small { BoundsAreWithin most_rows plan.now }

@@ -1,9 +1,9 @@
-//! Runs over devices in memory, whose requests for memory are refused one after another from outside: tools/memory does it.
+//! Runs over devices in memory, while tools/memory refuses their requests for memory one after another.
 //!
-//! A word names the run; without one each is run. A run that is done, with its bytes, is told and leaves the status 0. Where
-//! the call answers want of memory, with the one line and no row, the status is 11, and where memory was wanting for the
-//! files and devices that the run is given, 12; then nothing is told. Every other answer is told with the status 0, which
-//! tools/memory takes for a failure.
+//! An argument names a run; without an argument each is run. A run that ends with the expected bytes prints `done`, and its
+//! status is 0. Where the call answers that memory ran out, in one line and without a row, the status is 11. Where memory
+//! ran out for the files and devices that the run is given, it is 12. In both cases nothing is printed. For any other
+//! answer the run prints `another answer` with the status 0, which tools/memory takes for a failure.
 #![tactic(auto)]
 
 mod runs;
@@ -101,7 +101,7 @@ fn status_of(rt: &HostRuntime, run: &Run) -> io::Result<u8> {
     Ok(outcome.status())
 }
 
-// The word after the program's name.
+// The first argument.
 fn asked(rt: &HostRuntime) -> io::Result<Option<String>> {
     for (i, word) in env::args(rt)?.enumerate() {
         if i == 1 {
@@ -118,7 +118,7 @@ fn is_asked(word: &Option<String>, name: &str) -> bool {
     }
 }
 
-// The first status that isn't 0, of the runs that are asked for.
+// Makes the runs that are asked for, up to the first whose status isn't 0, and gives that status.
 fn status_of_all(rt: &HostRuntime, runs: &[Run], word: &Option<String>) -> io::Result<u8> {
     for run in runs {
         if is_asked(word, run.name) {

@@ -1,15 +1,15 @@
-//! The runs: their files, and what they have to write.
+//! The runs: their words and files, and what they have to write.
 use base_io::NoMemory;
 use std::alloc::Global;
 
-/// A text as it is, or a column X of one number so many times.
+/// A text as it is, or a CSV file of a column X, in which one record stands `count` times.
 #[derive(Clone, Copy)]
 pub enum Text<'a> {
     Whole(&'a [u8]),
     Column { record: &'a [u8], count: u32 },
 }
 
-/// A run by its name: its words, its files, the plan text and the rows text.
+/// A run: its name, its words, its files, and what it has to write to `notes` and to `out`.
 #[derive(Clone, Copy)]
 pub struct Run<'a> {
     pub name: &'a str,
@@ -43,12 +43,12 @@ const THREE: Text<'static> = Text::Whole(b"CREATE TABLE K (X INTEGER NOT NULL)")
 
 const ONE_OF_THREE: Text<'static> = Text::Whole(b"SELECT X FROM K WHERE X = 2");
 
-// The statistics file of one column of 1, 2, 3, which is also its filter column: 32 leaves over three values.
+// The statistics file of a table whose only column has 1, 2 and 3. It is the filter column too, with 32 leaves over three values.
 const FILE_OF_THREE: Text<'static> = Text::Whole(
     b"safebound-stats 1 1\ntable x4b 3\npair x58 x58\nwhole 1*3\nfrequent 1 1*1\nfrequent 2 1*1\nfrequent 3 1*1\nrest -\ncut 1\ncut 1\ncut 1\ncut 1\ncut 1\ncut 1\ncut 1\ncut 1\ncut 1\ncut 1\ncut 1\ncut 2\ncut 2\ncut 2\ncut 2\ncut 2\ncut 2\ncut 2\ncut 2\ncut 2\ncut 2\ncut 2\ncut 3\ncut 3\ncut 3\ncut 3\ncut 3\ncut 3\ncut 3\ncut 3\ncut 3\ncut 3\nnode -\nnode -\nnode -\nnode -\nnode -\nnode -\nnode -\nnode -\nnode -\nnode -\nnode 1*1\nnode -\nnode -\nnode -\nnode -\nnode -\nnode -\nnode -\nnode -\nnode -\nnode -\nnode 1*1\nnode -\nnode -\nnode -\nnode -\nnode -\nnode -\nnode -\nnode -\nnode -\nnode 1*1\nnode -\nnode -\nnode -\nnode -\nnode -\nnode 1*1\nnode -\nnode -\nnode -\nnode -\nnode 1*1\nnode -\nnode -\nnode -\nnode -\nnode 1*1\nnode -\nnode -\nnode 1*1\nnode -\nnode -\nnode 1*1\nnode -\nnode 1*1\nnode -\nnode 1*1\nnode 1*1\nnode 1*1\nnode 1*1\nnode 1*2\nnode 1*3\nend\n",
 );
 
-// The same with a further row of 99, which is none of the frequent values.
+// The same file after a row with 99 is appended, which isn't among the frequent values.
 const FILE_OF_FOUR: Text<'static> = Text::Whole(
     b"safebound-stats 1 1\ntable x4b 4\npair x58 x58\nwhole 2*1 1*2\nfrequent 1 1*1\nfrequent 2 1*1\nfrequent 3 1*1\nrest 1*1\ncut 1\ncut 1\ncut 1\ncut 1\ncut 1\ncut 1\ncut 1\ncut 1\ncut 1\ncut 1\ncut 1\ncut 2\ncut 2\ncut 2\ncut 2\ncut 2\ncut 2\ncut 2\ncut 2\ncut 2\ncut 2\ncut 2\ncut 3\ncut 3\ncut 3\ncut 3\ncut 3\ncut 3\ncut 3\ncut 3\ncut 3\ncut 3\nnode -\nnode -\nnode -\nnode -\nnode -\nnode -\nnode -\nnode -\nnode -\nnode -\nnode 1*1\nnode -\nnode -\nnode -\nnode -\nnode -\nnode -\nnode -\nnode -\nnode -\nnode -\nnode 1*1\nnode -\nnode -\nnode -\nnode -\nnode -\nnode -\nnode -\nnode -\nnode -\nnode 2*1\nnode -\nnode -\nnode -\nnode -\nnode -\nnode 1*1\nnode -\nnode -\nnode -\nnode -\nnode 1*1\nnode -\nnode -\nnode -\nnode -\nnode 2*1\nnode -\nnode -\nnode 1*1\nnode -\nnode -\nnode 1*1\nnode -\nnode 2*1\nnode -\nnode 1*1\nnode 1*1\nnode 2*1\nnode 1*1\nnode 2*1 1*1\nnode 2*1 1*2\nend\n",
 );
@@ -63,9 +63,9 @@ const SIX_ONES: Text<'static> = Text::Column {
     count: 6,
 };
 
-/// A join of two tables, the same over reduced scans, as a tree, and both; a condition that is carried through a key; a table of texts, the
-/// triangle, two pairs of tables with the same bounds and other answers; the statistics file of a table, a plan from it, and the file with
-/// a further row.
+/// A join of two tables, in four ways: plain, over reduced scans, as a tree, and as a tree over reduced scans. Then a condition that is
+/// carried through a key, a table of texts, a triangle, and two pairs of tables with the same bounds and different answers. Last the
+/// statistics file of a table, a plan from it, and the file after a row is appended.
 pub const RUNS: [Run<'static>; 12] = [
     Run {
         name: "join",

@@ -18,21 +18,21 @@ abbrev pub greatest : List ℕ → ℕ
 greatest [] = 0
 greatest (x ∷ xs) = max x (greatest xs)
 
--- the largest of these bounds
+-- the cost of an order: the largest bound of its levels
 abbrev pub cost : List ℕ → List ℕ → ℕ
 cost bounds order = greatest (levels bounds order)
 
--- their sum
+-- the sum of the bounds of its levels
 abbrev pub total : List ℕ → List ℕ → ℕ
 total bounds order = sum (levels bounds order)
 
--- the one list is the other, or comes before it in lexicographic order
+-- the first list equals the second, or comes before it in lexicographic order
 abbrev pub IsNotAfter : List ℕ → List ℕ → Type 0
 IsNotAfter [] ys = ⊤
 IsNotAfter (x ∷ xs) [] = ⊥
 IsNotAfter (x ∷ xs) (y ∷ ys) = (x < y) ⊎ ((x ≡ y) × IsNotAfter xs ys)
 
--- the order has the least cost, among those of least cost the least sum, and comes first among those of this sum
+-- `best` has the least cost of all orders, the least sum among orders of that cost, and comes first among orders of that sum
 pub record IsBest (bounds : List ℕ) (n : ℕ) (best : List ℕ) : Type 0 where
   pub is_order : IsOrder n best
   pub none_cheaper : (other : List ℕ) → IsOrder n other → cost bounds best ≤ cost bounds other
@@ -40,7 +40,7 @@ pub record IsBest (bounds : List ℕ) (n : ℕ) (best : List ℕ) : Type 0 where
   pub none_earlier : (other : List ℕ) → IsOrder n other → cost bounds other ≡ cost bounds best → total bounds other ≡ total bounds best
       → IsNotAfter best other
 
--- an order has this cost, and none has a lower one
+-- an order has this cost, and no order has a lower cost
 pub record IsLeastCost (bounds : List ℕ) (n least : ℕ) : Type 0 where
   pub order : List ℕ
   pub is_order : IsOrder n order

@@ -1,4 +1,4 @@
--- How an order goes on from a set of entries that are left, and what that weighs. The search's own words; no public clause cites them.
+-- The ways in which an order goes on with the entries that are left, and the weight of each way. No public contract speaks of them.
 use Rattle.std.specs.Prelude.{◌≡◌, ℕ, ◌+◌, ◌-◌, ◌^◌, ◌<◌, ◌≤◌, max, min, List, [], ◌∷◌, slice_index, nat_le, if◌then◌else◌}
 use Rattle.std.specs.Int.{bit_at}
 use Rattle.limits.specs.Profile.{top_bound}
@@ -6,34 +6,34 @@ use Rattle.order_search.specs.Orders.{IsNotAfter}
 use Rattle.order_search.specs.declared.weight.Weight.{Weight}
 use Rattle.order_search.specs.declared.weight.Weight.TheVariants as weight
 
--- the way has each entry of the set, and once
+-- the way has each entry of the set once, and no others
 abbrev pub IsWay : ℕ → List ℕ → Type 0
 IsWay left [] = left ≡ 0
 IsWay left (entry ∷ entries) = (bit_at left entry ≡ 1) × IsWay (left - 2 ^ entry) entries
 
--- a bound and the weight of what comes behind it. Where the bound is above what a sum may have, nothing is heavier
+-- the weight of a bound together with the rest of the way. In a sum, a bound above `most` makes it `top_bound`, the greatest weight
 abbrev pub combined : Weight → ℕ → ℕ → ℕ
 combined weight.Greatest bound behind = max bound behind
 combined (weight.SumWithin most) bound behind = if nat_le bound most then (min (bound + behind) top_bound) else top_bound
 
--- the bound of the set that is placed, all but those left, when the entry comes next
+-- the bound of the set that is placed after the entry comes next: all entries but those that are left then
 abbrev pub bound_with : List ℕ → ℕ → ℕ → ℕ → ℕ
 bound_with bounds all left entry = slice_index bounds (all - (left - 2 ^ entry))
 
--- the weight of a way: the bounds of the sets on it, joined
+-- the weight of a way: the bounds of the sets on it, combined
 abbrev pub weight_of : Weight → List ℕ → ℕ → ℕ → List ℕ → ℕ
 weight_of w bounds all left [] = 0
 weight_of w bounds all left (entry ∷ entries) = combined w (bound_with bounds all left entry)
     (weight_of w bounds all (left - 2 ^ entry) entries)
 
--- a way has this weight, and none is lighter
+-- a way has this weight, and no way is lighter
 pub record IsLeastWeight (w : Weight) (bounds : List ℕ) (all left least : ℕ) : Type 0 where
   pub way : List ℕ
   pub is_way : IsWay left way
   pub weighs : weight_of w bounds all left way ≡ least
   pub none_lighter : (other : List ℕ) → IsWay left other → least ≤ weight_of w bounds all left other
 
--- the table has the least weight for each set of a smaller number
+-- the table has the least weight for each set whose number is below `end`
 abbrev pub IsTable : Weight → List ℕ → ℕ → List ℕ → ℕ → Type 0
 IsTable w bounds all table end = (left : ℕ) → left < end → IsLeastWeight w bounds all left (slice_index table left)
 
@@ -46,7 +46,7 @@ pub record BeginsLightest (w : Weight) (bounds table : List ℕ) (all left entry
   pub is_left : bit_at left entry ≡ 1
   pub is_least : weight_through w bounds table all left entry ≡ slice_index table left
 
--- no way is lighter, and of the lightest it comes first
+-- no way is lighter, and of the lightest ways this one comes first
 pub record IsFirstLightest (w : Weight) (bounds : List ℕ) (all left : ℕ) (way : List ℕ) : Type 0 where
   pub is_way : IsWay left way
   pub none_lighter : (other : List ℕ) → IsWay left other → weight_of w bounds all left way ≤ weight_of w bounds all left other

@@ -10,7 +10,7 @@ ghost use Rattle.entry_sets.specs.Sets.{set_of};
 ghost use Rattle.order_search.specs.declared.refusal.PlanError.{PlanError};
 ghost use Rattle.order_search.specs.declared.refusal.PlanError.TheVariants as error;
 
-/// The number of a set of different entries has their bits and no others.
+/// The number of a set of different entries has exactly the bits of these entries.
 pub fn sets_have_their_bits()
     ensures { (entries : List ℕ) (entry : ℕ) → IsDistinct ◌==◌ entries → (bit_at (set_of entries) entry ≡ 1) ↔ Contains entries entry }
 {}
@@ -21,8 +21,8 @@ pub fn one_best_order()
     ensures one { (bounds : List ℕ) (n : ℕ) (a b : List ℕ) → IsBest bounds n a → IsBest bounds n b → a ≡ b }
 {}
 
-/// Where the best order costs no more than the budget, no refusal has a cause but want of memory; and besides that one refusal at most has
-/// one.
+/// Where the best order costs no more than the budget, no refusal but `NoMemory` has a cause. In any case at most one refusal other than
+/// `NoMemory` has a cause.
 pub fn one_answer()
     ensures accepted { (bounds : List ℕ) (n budget : ℕ) (best : List ℕ) (e : PlanError) → budget ≤ greatest_budget
         → IsBest bounds n best → cost bounds best ≤ budget → IsCause bounds n budget e → e ≡ error.NoMemory }

@@ -1,10 +1,10 @@
 //! The best order. From the bound of every set of entries to the left-deep order in which they are joined.
 //!
-//! In: a bound for each set of the FROM entries, at the number whose bits are the set, and the bound of each entry's scan. The cost of an order
-//! is the greatest bound among its prefixes. Out: the order of least cost, with the bounds of its prefixes. If the least cost is above the
-//! budget, it is answered in place of an order.
+//! In: a bound for each set of the FROM entries, at the number whose bits are the set, and the bound of each entry's scan. The cost of an
+//! order is the greatest bound among its prefixes. Out: the order of least cost, with the bounds of its prefixes. If the least cost is
+//! above the budget, the answer is that cost in place of an order, or that it is past 128 bits.
 //!
-//! Callers cite `IsBest`, `levels` and `cost` for a plan, `IsPlan` of plans, and `IsCause` for a refusal.
+//! Callers cite `IsBest`, `levels`, `cost` and `IsPlan` (from the crate plans) for a plan, and `IsCause` for a refusal.
 //!
 //! ```text
 //! let plan = choose(alloc, &bounds, &scans, budget)?;

@@ -8,11 +8,11 @@ use std::alloc::AllocError;
 /// Why there is no plan.
 #[derive(Clone, Copy, Debug, PartialEq, Eq)]
 pub enum PlanError {
-    /// The least cost of a plan, in rows, is above the budget, and 128 bits tell it.
+    /// The least cost of a plan, in rows, is above the budget and at most 2^128 - 2.
     Budget { least: u128 },
-    /// The least cost is above 2^128 - 2. The bound 2^128 - 1 stands for every number from there on.
+    /// The least cost is above 2^128 - 2. A bound of 2^128 - 1 means that many rows or more.
     PastBits,
-    /// Memory was wanting.
+    /// Memory ran out.
     NoMemory,
 }
 

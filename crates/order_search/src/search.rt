@@ -1,4 +1,4 @@
-//! Searches the best order: least cost first, then the least sum among the orders of that cost.
+//! Searches for the best order: least cost first, then the least sum among the orders of that cost.
 ghost use Rattle.std.specs.Prelude.{◌≡◌, ◌≤◌, ◌<◌, ◌^◌, length, IfErr, IfOk};
 ghost use Rattle.limits.specs.Profile.{greatest_budget, most_entries};
 ghost use Rattle.order_search.specs.Causes.{IsCause};
@@ -15,13 +15,14 @@ use limits::TOP_BOUND;
 use plans::Plan;
 use std::alloc::Global;
 
-/// The best order of n entries, n from 1 to 12, over a bound for each of the 2^n sets. The cost of an order is the greatest bound of its first k
-/// entries, k from 1 to n. The best order has the least cost; among those of this cost the least sum of these bounds; and among those of this
-/// sum it is the first in lexicographic order.
+/// The best order of n entries, n from 1 to 12, over a bound for each of the 2^n sets. The cost of an order is the greatest bound of its
+/// first k entries, k from 1 to n. The best order has the least cost. Among the orders of this cost it has the least sum of these bounds,
+/// and among those of this sum it comes first in lexicographic order.
 ///
-/// All bounds and the budget are in rows. A bound of 2^128 - 1 stands for every number from there on. It fills two tables of 2^n numbers, one
-/// after the other, in n 2^n steps each: first the least cost of each set, then the least sum of orders within that cost. Tables over sets for
-/// left-deep orders are from *Access Path Selection in a Relational Database Management System* (Selinger and others, SIGMOD 1979).
+/// All bounds and the budget are in rows. A bound of 2^128 - 1 means that many rows or more. The search fills two tables of 2^n numbers,
+/// one after the other, in n 2^n steps each. For each set of entries that are left, the first table has the least cost of going on with
+/// them. The second has the least sum of going on without a bound above the least cost of an order. Tables over sets for left-deep orders
+/// are from *Access Path Selection in a Relational Database Management System* (Selinger and others, SIGMOD 1979).
 ///
 /// It answers `Budget` and `PastBits` exactly where `IsCause` says, and `NoMemory` if there is too little memory.
 pub fn choose(

@@ -28,7 +28,7 @@ pub(crate) fn weight_through(
     weight.joined(bounds[bounds.len() - 1 - behind], table[behind])
 }
 
-// The least weight of a way through the set, by those through the sets before it.
+// The least weight of a way through the set, by the table of the sets with smaller numbers.
 fn least_weight(weight: Weight, count: u8, bounds: &[u128], table: &[u128], left: EntrySet) -> u128
     requires count { count ≤ most_entries }
     requires bounds { length bounds.now ≡ 2 ^ count }

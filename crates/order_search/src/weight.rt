@@ -1,4 +1,4 @@
-//! Weights: what the search makes least, the greatest bound on a way or the sum of its bounds.
+//! Weights of ways, which the search minimizes: the greatest bound on a way, or the sum of its bounds.
 ghost use Rattle.std.specs.Prelude.{◌≡◌};
 ghost use Rattle.order_search.specs.Ways.{combined as joined_of};
 
@@ -14,7 +14,7 @@ pub(crate) enum Weight {
 }
 
 impl Weight {
-    // Puts a bound together with the weight of the rest of the way.
+    // Combines a bound with the weight of the rest of the way.
     pub(crate) fn joined(self, bound: u128, behind: u128) -> u128
         ensures { result ≡ joined_of self bound behind }
     {

@@ -15,7 +15,7 @@ abbrev pub ◌>>=◌ : {A B : Type 0} → Result A Refusal → (A → Result B R
 (Ok x) >>= f = f x
 (Err r) >>= f = Err r
 
--- an answer of a reader, with its errors as refusals
+-- an answer of a reader, with its error turned into a refusal
 abbrev pub told : {A E : Type 0} → (E → Refusal) → Result A E → Result A Refusal
 told refusal_of (Ok x) = Ok x
 told refusal_of (Err e) = Err (refusal_of e)
@@ -25,7 +25,7 @@ abbrev pub seen : {A B E : Type 0} → (A → B) → Result A E → Result B E
 seen view (Ok x) = Ok (view x)
 seen view (Err e) = Err e
 
--- the stage refuses no file because it is absent
+-- the stage doesn't refuse because a file is absent
 abbrev pub MissesNothing : {A : Type 0} → Result A Refusal → Type 0
 MissesNothing stage = (file : FileId) → stage ≢ Err (refusal.Missing file)
 
@@ -33,18 +33,18 @@ MissesNothing stage = (file : FileId) → stage ≢ Err (refusal.Missing file)
 abbrev pub IsOfWhatIsThere : Refusal → Type 0
 IsOfWhatIsThere r = (file : FileId) → r ≢ refusal.Missing file
 
--- why a step ended that reads no file: by the stage's own refusal, which isn't about the words; or for want of memory
+-- why a step that reads no file ended: the stage refuses, but not about the words or an absent file; or memory ran out
 abbrev pub StopsBy : {A : Type 0} → Result A Refusal → Ending → Type 0
 StopsBy stage (ending.Refused r) = (stage ≡ Err r) × IsOfWhatIsThere r × (r ≢ refusal.Usage)
 StopsBy stage (ending.Fault file) = ⊥
 StopsBy stage ending.NoMemory = ⊤
 
--- a step that reads one file reads this one alone
+-- `other` is the one file that a step reads, `file`
 abbrev pub AtFile : FileId → Files → FileId → Type 0
 AtFile file files other = other ≡ file
 
--- Why a reading ended. There are three causes. The stage itself refuses; this isn't about the words, and a store that tells no files never
--- refuses one as absent. Or a read of a file that the stage reads has failed, and was counted. Or there was too little memory.
+-- Why a reading ended. Refused: the stage refuses, but not about the words, nor about an absent file where the store tells no files.
+-- Fault: a read of a file that the stage reads has failed, and was counted. NoMemory: memory ran out.
 abbrev pub Ends : {A : Type 0} → Reading → (Files → Result A Refusal) → (Files → FileId → Type 0) → Ending → Type 0
 Ends store stage ComesTo (ending.Refused r) =
     ((files : Files) → store.files ≡ Some files → stage files ≡ Err r) × (store.files ≡ None → IsOfWhatIsThere r) × (r ≢ refusal.Usage)
@@ -52,12 +52,12 @@ Ends store stage ComesTo (ending.Fault file) =
     Rose store.faults_before store.faults_after × ((files : Files) → store.files ≡ Some files → ComesTo files file)
 Ends store stage ComesTo ending.NoMemory = ⊤
 
--- if the store tells its files, a value is the one that the stage gives over them
+-- if the store tells its files, a value is the one that the stage gives over them. Where there is no value, `Ends` says why
 abbrev pub Gives : {A : Type 0} → Reading → (Files → Result A Refusal) → (Files → FileId → Type 0) → Result A Ending → Type 0
 Gives store stage ComesTo (Ok x) = (files : Files) → store.files ≡ Some files → stage files ≡ Ok x
 Gives store stage ComesTo (Err e) = Ends store stage ComesTo e
 
--- The whole promise of a step that reads. Its answer has its cause, the count of faults doesn't fall, and no name is invented.
+-- All that a reading step promises: a true answer, no fewer faults, the same files, and no new miss where the stage misses no file.
 pub record Reads {A : Type 0} (store : Reading) (stage : Files → Result A Refusal) (ComesTo : Files → FileId → Type 0)
     (answer : Result A Ending) : Type 0 where
   pub gives : Gives store stage ComesTo answer

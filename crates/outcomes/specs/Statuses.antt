@@ -13,7 +13,7 @@ ended (ending.Refused r) = status.Refused r
 ended (ending.Fault file) = status.ReadFault file
 ended ending.NoMemory = status.NoMemory
 
--- an absent file has the exit status of a read that failed
+-- the exit status of a refusal. An absent file has the exit status of a failed read
 abbrev pub code_of_refusal : Refusal → ℕ
 code_of_refusal refusal.Usage = 2
 code_of_refusal (refusal.Missing file) = 3

@@ -1,4 +1,4 @@
-//! How a reading ends before its end.
+//! Why a reading stops early.
 ghost use Rattle.std.specs.Prelude.{◌≡◌};
 ghost use Rattle.outcomes.specs.Errors.{plan_ending, query_ending, schema_ending, stats_ending, table_ending as ending_of};
 ghost use Rattle.outcomes.specs.declared.ending.Ending.TheVariants as ending;
@@ -19,7 +19,7 @@ pub enum Ending {
     Refused(Refusal),
     /// A read of this file failed, and the store has counted a fault.
     Fault { file: FileId },
-    /// Memory was wanting.
+    /// Memory ran out.
     NoMemory,
 }
 
@@ -135,7 +135,7 @@ impl From<StatsError> for Ending {
     }
 }
 
-/// How reading a table's file ends. The table is given by its place in the schema.
+/// How the reading of a table's file ends with this error. The table is given by its place in the schema.
 pub fn table_ending(table: u32, error: TableError) -> Ending
     ensures { result ≡ ending_of table error }
 {

@@ -1,12 +1,12 @@
-//! How a run and its steps may end: refusals of the input, ends of a reading, statuses over them; and what
-//! each step promises that reads.
+//! How a run and its steps may end: refusals of the input, early ends of a reading, and statuses. Also what
+//! a step that reads promises.
 //!
 //! A `Refusal` says what is wrong with the words or a file; it follows from these alone. A step that reads may stop
 //! with an `Ending`: a refusal, a failed read with its file, or too little memory. A `Status` is what a run answers.
 //!
-//! Callers cite `ended` and `code_of` (in `specs/Statuses.antt`), and `Reads` (in `specs/Reads.antt`), which says what a
-//! step answers that reads from a store. The law `then_reads` puts two such steps one after the other. For steps that
-//! write there are `Wrote` and `Put` of base_io.
+//! Callers cite `ended` and `code_of` (in `specs/Statuses.antt`), and `Reads` (in `specs/Reads.antt`), the promise of a
+//! step that reads from a store. The law `then_reads` chains two steps that read. For steps that write there are `Wrote`
+//! and `Put` of base_io.
 #![tactic(auto)]
 
 mod ending;

@@ -21,8 +21,8 @@ pub enum QueryCause {
     Kind,
 }
 
-/// What is wrong with a table file. Records are numbered from 0, the header; columns are declared columns,
-/// numbered from 0.
+/// What is wrong with a table's file. Records are numbered from 0, which is the header. Columns are those of the
+/// schema, numbered from 0.
 #[derive(Clone, Copy, Debug, PartialEq, Eq)]
 pub enum TableCause {
     Utf8 { at: u32 },
@@ -32,8 +32,8 @@ pub enum TableCause {
     Key { row: u32, earlier: u32 },
 }
 
-/// What is wrong with a file of statistics: a line isn't in the grammar, or breaks a rule on values; or something that a FROM entry needs is
-/// missing.
+/// What is wrong with a file of statistics: a line isn't in the grammar, a line breaks a rule on values, or something that a FROM entry
+/// needs is missing.
 #[derive(Clone, Copy, Debug, PartialEq, Eq)]
 pub enum StatsCause {
     Syntax,
@@ -65,12 +65,12 @@ pub enum Refusal {
         table: u32,
         cause: TableCause,
     },
-    /// The file of statistics is refused at this line, counted from 1, or for what this FROM entry needs.
+    /// The file of statistics is refused. `at` is the line, counted from 1. If something is missing, it is the FROM entry, counted from 0.
     Stats {
         cause: StatsCause,
         at: u32,
     },
-    /// The file has more of something than its limit. This is how many it has.
+    /// The file has more of something than the limit allows. `found` is how many it has.
     Limit {
         which: LimitKind,
         file: FileId,
@@ -84,12 +84,12 @@ pub enum Refusal {
     MemoryLimit {
         bytes: u128,
     },
-    /// The least cost of an order is 2^128 - 1, the top bound. It stands for every number from there on.
+    /// The least cost of an order is 2^128 - 1 or more.
     PastBits,
 }
 
 impl Refusal {
-    /// The exit status of a process. An absent file ends it like a read that failed.
+    /// The exit status of a process. It is the same for an absent file and for a failed read.
     pub(crate) fn code(&self) -> u8
         ensures { result ≡ code_of_refusal self.now }
     {

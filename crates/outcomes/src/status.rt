@@ -22,7 +22,7 @@ pub enum Status {
     ReadFault { file: FileId },
     /// A write failed.
     WriteFault { sink: SinkId },
-    /// Memory was wanting before the first byte of the plan text.
+    /// Memory ran out before the first byte of the plan text.
     NoMemory,
 }
 

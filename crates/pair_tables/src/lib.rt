@@ -1,7 +1,7 @@
 //! Tables of a filter column and a joined column, for tests and measurements of statistics.
 //!
-//! What comes in are cells, a pool and the filter column's kind; what goes out is a table (`table_of`, in `specs/Tables.antt`), of whose
-//! columns 0 and 1 callers cite `HasColumn` of column_stats.
+//! In: cells, a pool and the filter column's kind. Out: a table (`table_of`, in `specs/Tables.antt`). Callers cite `HasColumn` of
+//! column_stats for its columns 0 and 1.
 #![tactic(auto)]
 
 ghost use Rattle.std.specs.Prelude.{◌≡◌, ◌↔◌, All, IfOk, IsTrue};
@@ -15,7 +15,7 @@ use limits::MOST_ROWS;
 use schema_types::Kind;
 use std::alloc::Global;
 
-/// Whether each is a cell of the kind.
+/// Whether each number is a cell of the kind.
 pub fn are_cells(pool: &Pool, kind: Kind, cells: &[u64]) -> bool
     ensures { IsTrue result ↔ All (IsCell pool.now kind) cells.now }
 {
@@ -26,8 +26,8 @@ pub fn are_cells(pool: &Pool, kind: Kind, cells: &[u64]) -> bool
     }
 }
 
-/// The table of two columns of as many rows, 4,000,000 at most: a filter column of a kind and a joined column of numbers. What is no such
-/// table is answered as want of memory.
+/// The table of two columns: a filter column of a kind and a joined column of numbers. It also answers `NoMemory` if the columns have
+/// different lengths or more than 4,000,000 rows, or if a number of the filter column isn't a cell.
 pub fn table_of_pair(
     alloc: Global,
     pool: &Pool,

@@ -1,13 +1,13 @@
-//! Compression: from a degree list to a list of few pieces that dominates the same keys.
+//! Compression: from a degree list to a list of few pieces, which dominates the same keys.
 //!
 //! In: the degree list of a column, or of some of its rows. It can be as long as the column has different keys.
-//! Out: a list of few pieces, which statistics keep and bounds are made from. At accuracy K each element of it exceeds the
-//! degree at the same rank by at most one K-th, and its sum is the same. Compression by heads is this project's own;
-//! domination is that of SafeBound (SIGMOD 2023).
+//! Out: a list of few pieces. Statistics keep it, and bounds are made from it. At accuracy K each element of it exceeds the
+//! degree at the same rank by at most one K-th, and its sum is the same. Compression by heads is this project's own.
+//! Domination is that of SafeBound (SIGMOD 2023).
 //!
 //! Callers cite `compressed` of crate `degree_sequences` and `most_pieces`:
-//! `let list = compress(alloc, counts.as_slice(), Accuracy::of(1))?;` gives `list ≡ compressed 1 counts`, and so does `compress_runs`
-//! where the counts are kept as runs.
+//! `let list = compress(alloc, counts.as_slice(), Accuracy::of(1))?;` gives `list ≡ compressed 1 counts`. `compress_runs` gives the same
+//! list from counts that are kept as runs.
 #![tactic(auto)]
 
 ghost use Rattle.std.specs.Prelude.{◌≡◌, ℕ, ◌+◌, ◌-◌, ◌*◌, ◌^◌, ◌<◌, ◌≤◌, List, slice_index, IfOk, length, replicate, ◌++◌, OnOk};
@@ -25,7 +25,7 @@ use limits::Accuracy;
 use piece_math::Pieces;
 use std::alloc::Global;
 
-/// The most pieces that a compressed list can have whose first degree is `first`.
+/// The most pieces that the compression of a list with the first degree `first` can have.
 pub fn pieces_at_most(first: u64, accuracy: Accuracy) -> u32
     ensures { result ≡ most_pieces first accuracy }
 {
@@ -54,7 +54,7 @@ pub fn compress(alloc: Global, falling: &[u64], accuracy: Accuracy) -> Result<Pi
     compress_runs(alloc, &falling, accuracy)
 }
 
-/// A degree list that is kept as runs, compressed with an accuracy. The cost is in the number of runs, however many keys they have.
+/// A degree list that is kept as runs, compressed with an accuracy. The time depends on the number of runs, not on the number of keys.
 pub fn compress_runs(
     alloc: Global,
     falling: &Pieces,
@@ -106,6 +106,7 @@ fn first_degree(falling: &Pieces) -> u64
 }
 
 // A degree that lies far enough below the head is the next head.
+// At accuracy K it is far enough if K + 1 times the degree is below K times the head.
 fn head_after(head: u64, degree: u64, accuracy: Accuracy) -> u64
     requires head { head ≤ greatest_rows }
     requires degree { degree ≤ head }
@@ -119,7 +120,7 @@ fn head_after(head: u64, degree: u64, accuracy: Accuracy) -> u64
     }
 }
 
-// The run with so many more elements. Where these have another value, the run goes to the pieces first.
+// The run with `times` more elements of a value. If the run has another value, it goes to the pieces, and a new run begins.
 fn extended(pieces: &mut Pieces, run: Run, value: u64, times: u64) -> Result<Run, NoMemory>
     requires positive { 0 < value }
     requires lower { value ≤ run.value }
@@ -146,7 +147,7 @@ fn extended(pieces: &mut Pieces, run: Run, value: u64, times: u64) -> Result<Run
     })
 }
 
-// Ends the answer with the run, whose last element has so many rows too many.
+// Ends the answer with the run, and lowers its last element by `excess`.
 fn finish(pieces: &mut Pieces, run: Run, excess: u64) -> Result<(), NoMemory>
     requires some { 0 < run.count }
     requires excess { excess < run.value }

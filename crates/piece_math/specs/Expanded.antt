@@ -1,14 +1,14 @@
--- A falling list kept as pieces, each of which stands for equal elements.
+-- A falling list kept as pieces. Each piece stands for equal elements.
 use Rattle.std.specs.Prelude.{◌≡◌, ℕ, ◌+◌, ◌^◌, ◌<◌, ◌≤◌, ⊤, List, [], ◌∷◌, ◌++◌, replicate, length}
 use Rattle.degree_sequences.specs.Runs.{runs}
 use Rattle.piece_math.specs.declared.pieces.Piece.{Piece}
 
--- the list that pieces stand for: each piece is so many elements of its value
+-- the list that pieces stand for: for each piece, `count` elements of its value
 abbrev pub expanded : List Piece → List ℕ
 expanded [] = []
 expanded (p ∷ ps) = replicate p.count p.value ++ expanded ps
 
--- the value of the first piece, or 0
+-- the value of the first piece, or 0 if there is no piece
 abbrev pub first_value : List Piece → ℕ
 first_value [] = 0
 first_value (p ∷ ps) = p.value
@@ -23,7 +23,7 @@ pub record ArePieces (ps : List Piece) : Type 0 where
   pub falls : AreRuns ps
   pub fits : length (expanded ps) < 2 ^ 64
 
--- a list with so many more elements of a value, unless they are zeros
+-- `new` is `old` with `count` more elements of this value, or `old` itself if the value is 0. It has at most one run more
 pub record IsAppended (old new : List ℕ) (value count : ℕ) : Type 0 where
   pub some : 0 < value → new ≡ old ++ replicate count value
   pub zeros : value ≡ 0 → new ≡ old

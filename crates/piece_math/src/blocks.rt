@@ -23,7 +23,7 @@ struct Block {
     next: Place,
 }
 
-// One block of so many rows, over as many pieces as it takes.
+// Sums one block of `rows` rows, over as many pieces as it takes.
 fn block_from(weights: &[Piece], start: Place, rows: u128) -> Block
     requires weights { ArePieces weights.now }
     requires start { IsPlace weights.now start }
@@ -46,8 +46,8 @@ fn block_from(weights: &[Piece], start: Place, rows: u128) -> Block
     Block { sum, next }
 }
 
-// The weights are summed by blocks. Whole blocks inside one piece of weights make one piece together, and a block that
-// meets the end of a piece makes one of its own.
+// Sums the weights by blocks. Whole blocks inside one piece of weights make one piece together. A block that crosses the
+// end of a piece makes a piece of its own.
 fn grouped(parent: &Pieces, weights: &Pieces) -> Result<Pieces, NoMemory>
     ensures falls { IsFalling parent.now }
     ensures positive { All (λ x. 0 < x) parent.now }

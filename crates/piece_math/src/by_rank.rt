@@ -9,7 +9,7 @@ use crate::pieces::Pieces;
 use crate::walk::{Places, START, next_turn};
 use base_io::NoMemory;
 
-// What becomes of the two numbers of a rank.
+// How the two numbers of a rank are combined.
 #[derive(Clone, Copy)]
 enum Combination {
     Product,
@@ -29,7 +29,7 @@ impl Combination {
     }
 }
 
-// Both lists are walked together, one turn for each stretch of ranks on which neither changes.
+// Walks along both lists together, with one turn for each stretch of ranks on which neither list changes.
 fn combine(how: Combination, left: &Pieces, right: &Pieces) -> Result<Pieces, NoMemory>
     ensures value { IfOk result (λ list. list ≡ map saturated (combined_by_rank how left.now right.now)) }
     ensures few_pieces { IfOk result (λ list. runs list ≤ runs left.now + runs right.now) }

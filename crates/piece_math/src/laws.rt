@@ -1,8 +1,8 @@
 //! Why bounds are safe: five laws of falling lists.
 //!
-//! Lists are of whole numbers without a limit, and past its end a list is 0; each law says which of them have to
-//! fall. The different keys of a domination are taken in any order. No law computes anything: the bodies are
-//! empty, and the contract is the law (Degree Sequence Bound, ICDT 2023, for products and compositions of dominating lists).
+//! Lists have natural numbers of any size, and a list is 0 past its end. Each law says which lists have to fall.
+//! A domination holds of any different keys, in any order. No law computes anything: the bodies are empty, and the
+//! contract is the law. Products and compositions of dominating lists are from Degree Sequence Bound (ICDT 2023).
 ghost use Rattle.std.specs.Prelude.{◌≡◌, ℕ, ◌+◌, ◌*◌, ◌≤◌, List, [], ◌∷◌, length, map};
 ghost use Rattle.std.specs.List.{AllByRecursion, AllZip, sum, sum_by, range_with_len};
 ghost use Rattle.degree_sequences.specs.ByRank.{rank_product, rank_product_of};
@@ -14,7 +14,7 @@ ghost use Rattle.degree_sequences.specs.Families.{IsChildOf, ColumnFalls, ChildI
 ghost use Rattle.degree_sequences.specs.KeyedRows.{ChildKeys, DominatesChild, weight_of_row, weight_of_key};
 ghost use Rattle.degree_sequences.specs.RunningSums.{IsAbove};
 
-/// Product dominates: lists that dominate two weights of the same keys have a rank-wise product that dominates the
+/// Product dominates: if two lists dominate two weights of the same keys, their product by rank dominates the
 /// weights multiplied key by key. One of the two lists has to fall.
 pub fn product_dominates()
     ensures { (s t : List ℕ) (v w : ℕ → ℕ) → IsFalling t
@@ -22,28 +22,28 @@ pub fn product_dominates()
 {}
 
 /// Composition dominates, for rows that have a parent key and a key for each child. Its lists dominate the parent
-/// keys, the keys of each child, and the class weights of these. The lists of keys need not share one sum: each then
-/// has a sum of at least the number of rows.
+/// keys, the keys of each child, and the class weights of each child's keys. The lists of keys may have different
+/// sums: each sum is at least the number of rows, because the list dominates.
 pub fn compose_dominates()
     // the composition dominates the weights that the rows give to the parent keys
     ensures keys { (parent parent_keys : List ℕ) (lists : List ChildLists) (children : List ChildKeys)
         → DominatesKeys parent parent_keys → AllZip (DominatesChild (length parent_keys)) lists children
         → DominatesWeights (composed parent lists) (weight_of_key parent_keys children) }
-    // the row weights by rank sum to at least the weights of the rows
+    // the sum of the row weights by rank is at least the sum of the weights of the rows
     ensures rows { (total rows : ℕ) (lists : List ChildLists) (children : List ChildKeys)
         → rows ≤ total → AllZip (DominatesChild rows) lists children
         → sum_by (weight_of_row children) (range_with_len 0 rows) ≤ root_total lists total }
 {}
 
-/// Product is monotone: lists that are above others, one by one, have a product that is above theirs. Above means
-/// at least in the running sum of every rank.
+/// Product is monotone: if each list of one family is above its match in another, so is their product. All lists
+/// have to fall. A list is above another if its running sum at every rank is at least the other's.
 pub fn product_is_monotone()
     ensures { (lists lower : List (List ℕ)) → AllByRecursion IsFalling lists → AllByRecursion IsFalling lower
         → AllZip IsAbove lists lower → IsAbove (rank_product_of lists) (rank_product_of lower) }
 {}
 
-/// Composition is monotone in the same way. In each family the parent list and the columns share one sum; that of
-/// the family above is then at least the other's. Of the columns only those of the family below need to fall.
+/// Composition is monotone in the same way. In each family the parent list and the columns have the same sum, and
+/// the upper family's sum is at least the lower's. Only the columns of the lower family need to fall.
 pub fn compose_is_monotone()
     ensures { (parent lower_parent : List ℕ) (children lower : List ChildLists)
         → AllByRecursion (IsChildOf (sum parent)) children → AllByRecursion (IsChildOf (sum lower_parent)) lower
@@ -51,9 +51,10 @@ pub fn compose_is_monotone()
         → IsAbove (composed parent children) (composed lower_parent lower) }
 {}
 
-/// Composition scales: how far lists lie apart multiplies up to how far their compositions do. Parent and columns
-/// are within K and K + 1 of the exact ones, each class list within two numbers of its own. Of the columns only
-/// those that are near need to fall.
+/// Composition scales. Suppose that K times each running sum of the near parent list is at most K + 1 times that of
+/// the exact one, and the same for the columns. For each class list two other numbers take the place of K and K + 1.
+/// Then the same holds of the compositions: with the product of K and the first numbers of all class lists, and with
+/// the product of K + 1 and their second numbers. Only the near columns need to fall.
 pub fn compose_scales()
     ensures { (accuracy : ℕ) (parent exact_parent : List ℕ) (children : List MatchedChild)
         → SumsAreWithin accuracy (accuracy + 1) parent exact_parent → AllByRecursion (IsNear accuracy) children
@@ -99,7 +100,7 @@ pub fn instances()
         × IsAbove (3 ∷ 3 ∷ []) (3 ∷ 2 ∷ 1 ∷ [])
         × AllZip ChildIsAbove children lower
         × IsAbove (composed (3 ∷ 3 ∷ []) children) (composed (3 ∷ 2 ∷ 1 ∷ []) lower) }
-    // accuracy 1; twice the class list 6, 1 against three times 4, 1
+    // accuracy 1; twice the class list 6, 1 is within three times 4, 1
     ensures compose_scales { let near : ChildLists = record { column = 3 ∷ 3 ∷ []; class = 6 ∷ 1 ∷ [] } in
         let exact : ChildLists = record { column = 3 ∷ 2 ∷ 1 ∷ []; class = 4 ∷ 1 ∷ [] } in
         let child : MatchedChild = record { near = near; exact = exact; scale = 2; factor = 3 } in

@@ -1,11 +1,11 @@
 //! Falling lists of positive numbers kept as pieces of equal elements, and the operations that bounds are made of.
 //!
-//! Each operation answers the list that `degree_sequences` defines; a number that 128 bits don't hold is saturated. The
+//! Each operation gives the list that `degree_sequences` defines, in which a number past 128 bits becomes 2^128 - 1. The
 //! time of an operation depends on the number of pieces and never on the number of ranks (Degree Sequence Bound, ICDT 2023;
 //! SafeBound, SIGMOD 2023). Statistics are pieces, and the bounds that are made of them are totals.
 //!
-//! Callers cite a `Pieces` as the list that it stands for, `expanded` for the list of a slice of pieces, and
-//! `runs` for the number of pieces of a list.
+//! Contracts see a `Pieces` as the list that it stands for. Callers cite `expanded` for the list of a slice of
+//! pieces, and `runs` for the number of pieces of a list.
 //!
 //! ```text
 //! let degrees = Pieces::from_list(alloc, &[4, 4, 1])?;        // pieces (4, 2), (1, 1)

@@ -16,7 +16,7 @@ struct Line {
     step: u128,
 }
 
-// The elements by which the lower of two lines rises.
+// The steps by which the lower of two lines rises: before they cross, at the crossing, and after it.
 #[derive(Clone, Copy)]
 struct Bend {
     before: Piece,
@@ -24,7 +24,7 @@ struct Bend {
     after: Piece,
 }
 
-// Where the steeper line begins below, the two may cross once, within one rank.
+// The lower of two lines, where `low` doesn't begin above `high`. If `low` is steeper, they may cross once, within one rank.
 fn crossing(low: Line, high: Line, count: u64) -> Bend
     requires { low.sum ≤ high.sum }
     ensures { IsBend low high count result }

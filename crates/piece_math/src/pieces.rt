@@ -1,4 +1,4 @@
-//! The type `Pieces`: how a list is made, filled and asked.
+//! The type `Pieces`: how a list is made, filled and read.
 ghost use Rattle.std.specs.Prelude.{◌≡◌, ◌+◌, ◌^◌, ◌<◌, ◌≤◌, [], ◌++◌, replicate, length, IfOk, OnOk, OnErr};
 ghost use Rattle.std.specs.List.{All, sum};
 ghost use Rattle.degree_sequences.specs.Falling.{IsFalling};
@@ -79,7 +79,7 @@ impl Pieces {
         Ok(())
     }
 
-    // Appends so many elements, unless they are zeros.
+    // Appends `count` elements of a value, unless the value is 0.
     pub(crate) fn put(&mut self, value: u128, count: u64) -> Result<(), NoMemory>
         requires falls { 0 < value → 0 < count → All (λ x. value ≤ x) self.old }
         requires room { 0 < value → 0 < count → length self.old + count < 2 ^ 64 }
@@ -91,12 +91,12 @@ impl Pieces {
         Ok(())
     }
 
-    // Where its memory comes from.
+    // The allocator of the list.
     pub(crate) fn alloc(&self) -> Global {
         *self.parts.allocator()
     }
 
-    /// A list as it is given.
+    /// The given list, as pieces.
     pub fn from_list(alloc: Global, list: &[u64]) -> Result<Pieces, NoMemory>
         requires falls { IsFalling list.now }
         requires positive { All (λ x. 0 < x) list.now }
@@ -109,7 +109,7 @@ impl Pieces {
         Ok(pieces)
     }
 
-    /// The same list.
+    /// A copy of the list.
     pub fn copy(&self) -> Result<Pieces, NoMemory>
         ensures { IfOk result (λ copy. copy ≡ self.now) }
     {

@@ -19,7 +19,7 @@ pub struct Places {
     pub right: Place,
 }
 
-/// As many ranks as both lists stay the same, their elements there, and the places after them.
+/// The next ranks on which neither list changes: their number, the element of each list there, and the places after them.
 #[derive(Clone, Copy)]
 pub struct Turn {
     pub left: u128,
@@ -28,7 +28,7 @@ pub struct Turn {
     pub next: Places,
 }
 
-/// The start of each list.
+/// The start of any list.
 pub const START: Place = Place { at: 0, used: 0 };
 
 /// The equal elements at a place.
@@ -50,7 +50,7 @@ pub fn ahead(pieces: &[Piece], place: Place) -> Piece
     }
 }
 
-/// The place after so many of the equal elements at a place.
+/// The place after `count` of the equal elements at a place.
 pub fn passed(pieces: &[Piece], place: Place, count: u64) -> Place
     requires pieces { ArePieces pieces.now }
     requires place { IsPlace pieces.now place }
@@ -76,7 +76,7 @@ pub fn passed(pieces: &[Piece], place: Place, count: u64) -> Place
     }
 }
 
-/// The turn that two lists take from places that aren't both at the end.
+/// The next turn of a walk along two lists, from places that aren't both at the end.
 pub fn next_turn(a: &[Piece], b: &[Piece], places: Places) -> Turn
     requires a { ArePieces a.now }
     requires b { ArePieces b.now }

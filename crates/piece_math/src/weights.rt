@@ -43,7 +43,7 @@ fn spread(child: &Child) -> Result<Pieces, NoMemory>
     Ok(list)
 }
 
-// The weights of that many rows: the product of the weights that each child gives them.
+// The weights of `rows` rows: for each row the product of the weights that the children give it.
 pub fn row_weights(alloc: Global, children: &[Child], rows: u64) -> Result<Pieces, NoMemory>
     requires columns { All (λ child. sum child.column ≡ rows) children.now }
     ensures value { IfOk result (λ weights. weights ≡ map saturated (trimmed (weights_of (map lists_of children.now) rows))) }
@@ -58,7 +58,7 @@ pub fn row_weights(alloc: Global, children: &[Child], rows: u64) -> Result<Piece
     Ok(weights)
 }
 
-/// The sum of the weights of that many rows, for a table without a parent, or `u128::MAX` where it is larger.
+/// The sum of the weights of `rows` rows of a table without a parent, or `u128::MAX` where the sum is larger.
 pub fn root_total(alloc: Global, children: &[Child], rows: u64) -> Result<u128, NoMemory>
     requires columns { All (λ child. sum child.column ≡ rows) children.now }
     ensures { IfOk result (λ total. total ≡ saturated (total_of (map lists_of children.now) rows)) }

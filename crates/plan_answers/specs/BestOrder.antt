@@ -1,9 +1,9 @@
--- The best order, by computation: of all orders the first that is no worse than any.
+-- The best order, by computation: the first order that is no worse than any order.
 use Rattle.std.specs.Prelude.{ℕ, zero, suc, Bool, not, ◌&&◌, ◌||◌, ◌==◌, nat_lt, nat_le, List, [], ◌∷◌, map, filter, find, flat_map, unwrap_or}
 use Rattle.std.specs.List.{list_all, range_with_len}
 use Rattle.order_search.specs.Orders.{cost, total}
 
--- the orders of so many entries: each of them in turn, and behind it each order of the others
+-- the orders of `count` of these entries: each entry in turn, followed by each order of `count - 1` of the others
 abbrev pub orders_of : ℕ → List ℕ → List (List ℕ)
 orders_of zero entries = [] ∷ []
 orders_of (suc count) entries =
@@ -19,6 +19,6 @@ is_no_worse bounds order other =
     nat_lt (cost bounds order) (cost bounds other)
     || ((cost bounds order == cost bounds other) && nat_le (total bounds order) (total bounds other))
 
--- the first order that is no worse than any
+-- the first order that is no worse than any order
 unfoldable pub best_order : List ℕ → ℕ → List ℕ
 best_order bounds n = unwrap_or (find (λ order. list_all (λ other. is_no_worse bounds order other) (all_orders n)) (all_orders n)) []

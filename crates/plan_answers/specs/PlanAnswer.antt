@@ -1,4 +1,4 @@
--- The one answer of a choice, by computation: the plan of the best order, or why there is none.
+-- The answer of a choice among orders, by computation: the plan of the best order, or why there is no plan.
 use Rattle.std.specs.Prelude.{ℕ, ◌-◌, ◌^◌, nat_lt, if◌then◌else◌, List, length, Result, Ok, Err}
 use Rattle.plans.specs.declared.left_deep.Plan.{Plan}
 use Rattle.order_search.specs.declared.refusal.PlanError.{PlanError}
@@ -10,13 +10,13 @@ use Rattle.plan_answers.specs.BestOrder.{best_order}
 abbrev pub plan_along : List ℕ → List ℕ → List ℕ → Plan
 plan_along bounds scans order = record { order = order; scans = scans; levels = levels bounds order }
 
--- an order is refused where 128 bits don't tell its cost, and then where that is above the budget
+-- the answer for an order: it is refused if its cost is above 2 ^ 128 - 2, and else if its cost is above the budget
 abbrev pub answer_along : List ℕ → List ℕ → ℕ → List ℕ → Result Plan PlanError
 answer_along bounds scans budget order =
     if nat_lt (2 ^ 128 - 2) (cost bounds order) then Err error.PastBits
     else if nat_lt budget (cost bounds order) then Err (error.Budget (cost bounds order))
     else Ok (plan_along bounds scans order)
 
--- the answer over a bound for each set of entries and one for each scan
+-- the answer by a bound for each set of entries, and with a bound for each scan
 unfoldable pub plan_answer : List ℕ → List ℕ → ℕ → Result Plan PlanError
 plan_answer bounds scans budget = answer_along bounds scans budget (best_order bounds (length scans))

@@ -1,4 +1,4 @@
-//! Laws of the answers of choices. None of them does anything when it runs.
+//! Laws of the answers of choices. Each call does nothing.
 ghost use Rattle.std.specs.Prelude.{◌≡◌, ◌≢◌, ◌≤◌, ◌<◌, ◌^◌, ◌⊎◌, ℕ, List, length, min, slice_index, Result, Ok, Err};
 ghost use Rattle.limits.specs.Profile.{most_budget, top_bound};
 ghost use Rattle.plans.specs.declared.left_deep.Plan.{Plan};
@@ -17,9 +17,9 @@ pub fn best_orders()
     ensures only { (bounds : List ℕ) (n : ℕ) (order : List ℕ) → IsBest bounds n order → order ≡ best_order bounds n }
 {}
 
-/// What `choose` promises is true of one answer, `plan_answer`, besides that memory is wanting. At each of
-/// its exits: a best order within the budget, with its levels, is the plan, and a refusal with a cause is
-/// the refusal.
+/// What `choose` promises is true of `plan_answer`, and of no other answer but `NoMemory`. So at each exit of
+/// `choose`, a plan of a best order within the budget, with its levels, is the plan of `plan_answer`. A refusal
+/// that has a cause and isn't `NoMemory` is the refusal of `plan_answer`.
 pub fn choices()
     ensures allowed { (bounds scans : List ℕ) (budget : ℕ) → IsPromised bounds scans budget (plan_answer bounds scans budget) }
     ensures only { (bounds scans : List ℕ) (budget : ℕ) (answer : Result Plan PlanError) → budget ≤ most_budget
@@ -32,7 +32,7 @@ pub fn choices()
         → IsCause bounds (length scans) budget e → plan_answer bounds scans budget ≡ Err e }
 {}
 
-/// A list with the bound of each set, through the top bound, is the one that is made from the function.
+/// `bounds_of_sets` is the only list that has each set's bound, or the top bound where the bound is greater.
 pub fn bounds_of_all_sets()
     ensures one { (n : ℕ) (bound : ℕ → ℕ) (bounds : List ℕ) → length bounds ≡ 2 ^ n
         → ((set : ℕ) → set < 2 ^ n → slice_index bounds set ≡ min (bound set) top_bound) → bounds ≡ bounds_of_sets n bound }

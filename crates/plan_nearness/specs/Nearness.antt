@@ -1,4 +1,4 @@
--- When the bounds that a plan prints are near those without compression.
+-- When the bounds of a plan are near the bounds without compression.
 use Rattle.std.specs.Prelude.{◌≡◌, ℕ, ◌+◌, ◌*◌, ◌^◌, ◌<◌, ◌≤◌, List, [], length, slice_get, slice_index, take, Some}
 use Rattle.entry_sets.specs.Sets.{set_of}
 use Rattle.plans.specs.declared.left_deep.Plan.{Plan}
@@ -20,17 +20,17 @@ FiltersNoEntry query = (entry : ℕ) → own_conjuncts entry query.conjuncts ≡
 abbrev pub uncompressed_bound : Query → Tables → List ℕ → ℕ
 uncompressed_bound query tables entries = bound_of_set (whole_columns tables) (equalities_of query) (set_of entries)
 
--- at accuracy K, a bound of n entries: K^n times it is at most (K + 1)^n times the uncompressed one
+-- a bound of n entries is near at accuracy K: K^n times the bound is at most (K + 1)^n times the uncompressed bound
 abbrev pub IsNear : Query → Tables → ℕ → List ℕ → ℕ → Type 0
 IsNear query tables accuracy entries bound =
     accuracy ^ length entries * bound ≤ (accuracy + 1) ^ length entries * uncompressed_bound query tables entries
 
--- so is the bound of each level of the plan's order, of its first entries
+-- the bound of each level of the plan is near, as a bound of the first entries of the plan's order
 abbrev pub LevelsAreNear : Query → Tables → ℕ → Plan → Type 0
 LevelsAreNear query tables accuracy plan =
     (k : ℕ) → k < length query.from → IsNear query tables accuracy (take (k + 1) plan.order) (slice_index plan.levels k)
 
--- so is the bound of each inner node of the plan's tree, of the entries at its leaves
+-- the bound of each inner node of the plan's tree is near, as a bound of the entries at the leaves below it
 abbrev pub NodesAreNear : Query → Tables → ℕ → BushyPlan → Type 0
 NodesAreNear query tables accuracy plan =
     (k : ℕ) (join : Join) → slice_get plan.joins k ≡ Some join

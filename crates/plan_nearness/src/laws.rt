@@ -10,14 +10,14 @@ ghost use Rattle.planning.specs.Bounds.{scan_bounds_of, set_bounds_of};
 ghost use Rattle.planning.specs.Plans.{planned};
 ghost use Rattle.plan_nearness.specs.Nearness.{FiltersNoEntry, LevelsAreNear, NodesAreNear, uncompressed_bound};
 
-/// Where no conjunct names one entry alone: the levels of a plan from statistics of whole columns have bounds near the uncompressed ones.
+/// If no conjunct names one entry alone, the levels of a plan from statistics of whole columns have bounds near the uncompressed ones.
 pub fn levels_are_near()
     ensures { (query : Query) (tables : Tables) (accuracy budget : ℕ) (plan : Plan)
         → FiltersNoEntry query → length query.from ≤ most_entries
         → planned query tables accuracy budget ≡ Ok plan → LevelsAreNear query tables accuracy plan }
 {}
 
-/// At the usual accuracy the bound of a level of n entries is at most 2^n times the uncompressed one.
+/// If no conjunct names one entry alone, at the usual accuracy the bound of a level of n entries is at most 2^n times the uncompressed one.
 pub fn usual_levels_are_near()
     ensures { (query : Query) (tables : Tables) (budget : ℕ) (plan : Plan) (k : ℕ)
         → FiltersNoEntry query → length query.from ≤ most_entries
@@ -25,7 +25,7 @@ pub fn usual_levels_are_near()
         → slice_index plan.levels k ≤ 2 ^ (k + 1) * uncompressed_bound query tables (take (k + 1) plan.order) }
 {}
 
-/// Where no conjunct names one entry alone: the inner nodes of the best tree from statistics of whole columns have bounds near the
+/// If no conjunct names one entry alone, the inner nodes of the best tree from statistics of whole columns have bounds near the
 /// uncompressed ones.
 pub fn nodes_are_near()
     ensures { (query : Query) (tables : Tables) (accuracy budget : ℕ) (plan : BushyPlan)

@@ -49,7 +49,7 @@ const CHOICES: [Choice<'static>; 5] = [
         joins: &[(0, 1, 12)],
         cost: 12,
     },
-    // the first of three equal triangles
+    // three trees are equally good; the first has entry 0 on the left
     Choice {
         count: 3,
         bounds: &[1, 3, 3, 5, 3, 5, 5, 9],
@@ -64,10 +64,12 @@ const CHOICES: [Choice<'static>; 5] = [
         joins: &[],
         cost: 7,
     },
-    // The sizes of all sets of the entries of SELECT C.N FROM C, P, Q, R, S WHERE C.A = P.X AND C.B = Q.X AND C.D = R.X AND C.E = S.X.
-    // Each of P, Q, R and S has X = 7 three times and X = 8 once. C has a row of 8s, and four rows that have 7 in all but one column,
-    // another one each, and there a value that P, Q, R and S don't have. So all five have one row, but C with three others has 28: each
-    // left-deep order passes a set of four entries, and the tree (((C, P), Q), (R, S)) passes none.
+    // The sizes of all sets of entries of a query:
+    // SELECT C.N FROM C, P, Q, R, S WHERE C.A = P.X AND C.B = Q.X AND C.D = R.X AND C.E = S.X.
+    // Each of P, Q, R and S has X = 7 three times and X = 8 once. C has a row with 8 in all four joined columns. It has four more rows, one
+    // for each of these columns: in its column the row has a value that P, Q, R and S don't have, and 7 in the others. So all five entries
+    // have one row, but C with three others has 28. Each left-deep order passes a set of four entries, and the tree (((C, P), Q), (R, S))
+    // doesn't.
     Choice {
         count: 5,
         bounds: &[
@@ -78,8 +80,8 @@ const CHOICES: [Choice<'static>; 5] = [
         joins: &[(0, 1, 10), (5, 2, 19), (3, 4, 16), (6, 7, 1)],
         cost: 19,
     },
-    // All least trees have cost 3 and sum 8. Behind entry 0 the left set of entry 1 alone is least, though the tree that begins with the
-    // entries 1 and 2 has a right side of cost 2.
+    // All least trees have cost 3 and sum 8. Of the splits of the entries 1 to 4, the one with entry 1 alone on the left comes first. Its
+    // right side costs 3, and with the entries 1 and 2 on the left the right side would cost 2.
     Choice {
         count: 5,
         bounds: &[
@@ -100,7 +102,7 @@ fn the_best_trees(rt: HostRuntime) -> Result<(), Fail> {
     Ok(())
 }
 
-// Why nothing is chosen over these bounds and a last one, within six rows.
+// Why no tree is chosen over these bounds, followed by `last`, with a budget of six rows.
 fn refusal(
     alloc: Global,
     count: usize,

@@ -1,4 +1,4 @@
--- Which buffers are ready for the levels of an order over lists of rows.
+-- When buffers are ready for the levels of an order over lists of rows.
 use Rattle.std.specs.Prelude.{ℕ, ◌<◌, ◌≤◌, List}
 use Rattle.limits.specs.Profile.{most_rows}
 use Rattle.query_types.specs.declared.types.Query.{Query}

@@ -16,7 +16,7 @@ scan_bounds_of query tables accuracy = scan_bounds query (statistics_of tables a
 abbrev pub set_bounds_of : Query → Tables → ℕ → List ℕ
 set_bounds_of query tables accuracy = set_bounds query (statistics_of tables accuracy)
 
--- what whole tables tell without any compression: the number of rows of each, and the degree list of each column
+-- bounds of entries from whole tables without compression: the number of rows of each table, and the degree list of each column
 abbrev pub whole_columns : Tables → EntryBounds
 whole_columns tables = record {
   rows = row_counts tables;

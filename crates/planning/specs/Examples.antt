@@ -10,6 +10,6 @@ r_column = 1 ∷ 1 ∷ 1 ∷ 2 ∷ 2 ∷ 3 ∷ []
 abbrev pub s_column : List ℕ
 s_column = 1 ∷ 1 ∷ 4 ∷ 5 ∷ 6 ∷ []
 
--- as plain rows, R being entry 0
+-- the tables as plain rows: entry 0 is R, and any other entry is S
 abbrev pub small_tables : Tables
 small_tables entry = map (λ n. Int (pos n) ∷ []) (if entry == 0 then r_column else s_column)

@@ -7,12 +7,12 @@ use Rattle.sql_meaning.specs.Tables.{tables_of}
 use Rattle.join_steps.specs.Lists.{rows_listed}
 use Rattle.planning.specs.ListedBounds.{entry_bounds_over}
 
--- the row bound of each of the first so many entries is there, and no other one
+-- each of the first `count` entries has the number of its listed rows as its row bound, and no other entry has a row bound
 pub record HasRows (lists : List (List ℕ)) (count : ℕ) (known : EntryLists) : Type 0 where
   pub there : (entry : ℕ) → entry < count → rows_of known entry ≡ Some (rows_listed lists entry)
   pub past : (entry : ℕ) → count ≤ entry → rows_of known entry ≡ None
 
--- the row bound of each entry is there, and each list of a column that is there is the one over the rows of its entry
+-- each entry has its row bound, and each list of a column that is known is the one over the listed rows of its entry
 pub record IsKnown (db : Database) (lists : List (List ℕ)) (accuracy : ℕ) (known : EntryLists) : Type 0 where
   pub rows : HasRows lists (length lists) known
   pub columns : (entry column : ℕ) (list : List ℕ) → list_of known entry column ≡ Some list

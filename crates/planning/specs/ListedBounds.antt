@@ -15,7 +15,7 @@ use Rattle.join_steps.specs.Lists.{list_at, rows_listed}
 abbrev pub listed_values : Tables → List (List ℕ) → ℕ → ℕ → List Value
 listed_values tables lists entry column = map (value_in_row tables entry column) (list_at lists entry)
 
--- of each entry the number of its rows, and of each column its degree sequence over these rows, compressed at an accuracy
+-- for each entry the number of its listed rows, and for each column its degree sequence over these rows, compressed at an accuracy
 abbrev pub entry_bounds_over : Tables → List (List ℕ) → ℕ → EntryBounds
 entry_bounds_over tables lists accuracy = record {
   rows = rows_listed lists;

@@ -15,7 +15,7 @@ use Rattle.sql_meaning.specs.Tables.{Tables}
 abbrev pub numbers : List ℕ → Row
 numbers row = map (λ n. Int (pos n)) row
 
--- a table of an alias of one letter, by its number
+-- a table, given by its number, with an alias of one letter
 abbrev pub source : ℕ → ℕ → Source
 source table letter = record { table = table; alias = letter ∷ [] }
 
@@ -52,7 +52,7 @@ chain_tables entry =
     else if entry == 1 then (1 ∷ 1 ∷ []) ∷ (2 ∷ 2 ∷ []) ∷ (3 ∷ 9 ∷ []) ∷ []
     else (1 ∷ []) ∷ [])
 
--- SELECT R.X FROM R, S, U WHERE R.X = S.X, where no row is in R, and U is joined with none
+-- SELECT R.X FROM R, S, U WHERE R.X = S.X. R has no row, and U isn't joined with another entry
 abbrev pub with_another : Query
 with_another = record { from = pair.from ++ source 2 85 ∷ []; conjuncts = pair.conjuncts; select = pair.select }
 

@@ -1,4 +1,4 @@
--- When bounds of entries stand for lists of rows, and when bounds of scans and of sets are never under these.
+-- When bounds of entries stand for lists of rows, and when bounds of scans and of sets are never too low for such lists.
 use Rattle.std.specs.Prelude.{◌≡◌, ◌⊎◌, ℕ, ◌^◌, ◌<◌, ◌≤◌, List, length, map, slice_index}
 use Rattle.limits.specs.Profile.{top_bound}
 use Rattle.degree_sequences.specs.Domination.{DominatesKeys}
@@ -19,9 +19,9 @@ use Rattle.level_bounds.specs.Orders.{IsOrderOfSet}
 
 -- ---- what is known of entries
 
--- the listed rows that may take part in a choice for a set: no choice of the set's level is lost. What is known of the entries stands for
--- these: each entry of the set has at most as many of them as its row bound, and the degree sequence of each column that joins two of its
--- entries dominates the degrees of their keys
+-- `taking` has listed rows that may take part in a choice for a set: without the others no choice of the set's level is lost. What is known
+-- of the entries stands for these rows. Each entry of the set has at most as many of them as its row bound. The degree sequence of each
+-- column that joins two entries of the set dominates the degrees of these rows' keys
 pub record StandInSet (query : Query) (tables : Tables) (lists : List (List ℕ)) (key : Keys) (bounds : EntryBounds) (subset : ℕ) : Type 0 where
   pub taking : List (List ℕ)
   pub are : AreOfScans query tables taking
@@ -30,7 +30,7 @@ pub record StandInSet (query : Query) (tables : Tables) (lists : List (List ℕ)
   pub have_lists : SetHasLists bounds (equalities_of query) subset
   pub dominate : SetDominates bounds (scanned (list_at taking) key) (equalities_of query) subset
 
--- rows that an equality joins have one key, and what is known of the entries in each set stands for listed rows
+-- rows that an equality joins have the same key, and what is known of the entries in each set stands for the listed rows
 pub record StandForLists (query : Query) (tables : Tables) (lists : List (List ℕ)) (key : Keys) (bounds : ℕ → EntryBounds) : Type 0 where
   pub keys : AreKeys tables key (equalities_of query)
   pub each_set : (subset : ℕ) → subset < 2 ^ length query.from → StandInSet query tables lists key (bounds subset) subset
@@ -47,8 +47,8 @@ pub record ColumnStands (lists : List (List ℕ)) (key : Keys) (bounds : EntryBo
   pub has : HasList bounds entry column
   pub dominates : DominatesKeys (bounds.list entry column) (map (key entry column) (list_at lists entry))
 
--- rows that an equality joins have one key; the row bound of each FROM entry is at least the number of its listed rows, and each of its
--- columns that an equality joins has such a degree sequence
+-- rows that an equality joins have the same key. The row bound of each FROM entry is at least the number of its listed rows, and for each
+-- of its columns that an equality joins `ColumnStands` holds
 pub record EntriesStand (query : Query) (tables : Tables) (lists : List (List ℕ)) (key : Keys) (bounds : EntryBounds) : Type 0 where
   pub keys : AreKeys tables key (equalities_of query)
   pub rows : (entry : ℕ) → entry < length query.from → rows_listed lists entry ≤ bounds.rows entry
@@ -62,8 +62,8 @@ pub record BoundLists (query : Query) (tables : Tables) (lists : List (List ℕ)
   pub fit : (entry : ℕ) → entry < length query.from → rows_listed lists entry ≤ slice_index scans entry
   pub within : (entry : ℕ) → entry < length query.from → slice_index scans entry ≤ row_counts tables entry
 
--- no level over the lists of the entries of a set has more rows than the bound of the set, in whatever order they stand. The top bound
--- stands for all from there on
+-- no level over the lists of a set's entries has more rows than the bound of the set, in whatever order the entries stand. Of a set whose
+-- bound is `top_bound` nothing is said
 abbrev pub BoundLevels : Query → Tables → List (List ℕ) → List ℕ → Type 0
 BoundLevels query tables lists sets = (subset : ℕ) (order : List ℕ) → subset < 2 ^ length query.from → IsOrderOfSet (entries_of_set subset) order
     → (length (level_over (conjuncts_of query tables) (list_at lists) order) ≤ slice_index sets subset) ⊎ (slice_index sets subset ≡ top_bound)

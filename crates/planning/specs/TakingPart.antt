@@ -1,4 +1,4 @@
--- Rows that take part in a choice for all entries that equalities connect with theirs.
+-- Rows that take part in a choice for all entries that equalities connect with the row's own entry.
 use Rattle.std.specs.Prelude.{◌≡◌, ◌⊎◌, ℕ, true, List, [], ◌∷◌, Some}
 use Rattle.std.specs.List.{Contains}
 use Rattle.berge_tree.specs.declared.edges.Edge.{Edge}
@@ -12,13 +12,13 @@ use Rattle.sql_meaning.specs.Conditions.{cond_holds}
 use Rattle.sql_meaning.specs.Tables.{Tables}
 use Rattle.join_steps.specs.Lists.{list_at}
 
--- each conjunct is an equality of columns of two entries, or names no two entries
+-- each conjunct is an equality of columns of two entries, or names at most one entry
 abbrev pub JoinsByEqualitiesAlone : Query → Type 0
 JoinsByEqualitiesAlone query = (cond : Cond) → Contains query.conjuncts cond
     → ((e : Edge) × (equality_of cond ≡ Some e)) ⊎ ((entry : ℕ) × (are_within (entries_named cond) (entry ∷ []) ≡ true))
 
--- a choice of a listed row for each entry that is connected with this one, whose own row it is, in which every conjunct holds
--- that names a connected entry
+-- the row takes part in a choice: `row_of` has this row for its own entry and a listed row for each entry that is connected with it,
+-- and every conjunct that names a connected entry holds
 pub record TakesPart (query : Query) (tables : Tables) (lists : List (List ℕ)) (entry row : ℕ) : Type 0 where
   pub row_of : ℕ → ℕ
   pub its_own : row_of entry ≡ row

@@ -18,7 +18,7 @@ use query_bounds::{entry_lists, scans_of};
 use query_types::Query;
 use std::alloc::Global;
 
-/// The bound of the scan of each entry, in FROM order, in rows. No scan has more.
+/// The bound of each entry's scan, in rows and in FROM order. No scan has more rows than its bound.
 ///
 /// The accuracy is that of compressed lists (SafeBound, SIGMOD 2023).
 #[tactic(auto, using(crate::proofs::Giving::is_told))]
@@ -41,8 +41,8 @@ pub fn scan_bounds(
     Ok(scans)
 }
 
-/// The bound of each set of entries, at the number whose bits are the set, in rows; `u128::MAX` where it is larger, and 1 for the empty
-/// set. No level over just these entries has more rows, in whatever order they stand.
+/// The bound of each set of entries, in rows, at the number whose bits are the set. It is `u128::MAX` where the bound is larger, and 1 for
+/// the empty set. No level over exactly these entries has more rows than a bound below `u128::MAX`, in whatever order the entries stand.
 ///
 /// The accuracy is that of compressed lists (SafeBound, SIGMOD 2023).
 pub fn subset_bounds(

@@ -13,18 +13,18 @@ use plans::Plan;
 use set_bounds::{KnownInSets, bounds_in_sets};
 use std::alloc::Global;
 
-/// A bound of each set of a query's entries, at the number whose bits are the set, and one of each scan, in FROM order, in rows.
+/// A bound for each set of a query's entries, at the number whose bits are the set, and for each scan, in FROM order. All are in rows.
 #[derive(Drop)]
 pub struct Known {
     pub sets: Seq<u128>,
     pub scans: Seq<u64>,
 }
 
-/// The bounds of all sets of the entries, from the row bound of each entry and the degree sequence of each of its joined columns, with a
-/// bound of each scan. The row bounds and degree sequences may depend on the set.
+/// The bounds of all sets of the entries, from the row bound of each entry and the degree sequence of each of its joined columns. These may
+/// depend on the set. The bounds of the scans are kept as they are given.
 ///
-/// A set's bound is the least over its turns of the product over its trees, from the degree sequences of its columns (SafeBound, SIGMOD
-/// 2023; Degree Sequence Bound, ICDT 2023).
+/// In each turn a set has the product of the bounds of its trees, by the degree sequences of its columns. Its bound is the least of these
+/// products (SafeBound, SIGMOD 2023; Degree Sequence Bound, ICDT 2023).
 pub fn bounds_from<K: KnownInSets>(
     alloc: Global,
     parts: &Parts,
@@ -41,10 +41,10 @@ pub fn bounds_from<K: KnownInSets>(
     Ok(Known { sets, scans })
 }
 
-/// The best order of the entries by these bounds, with those of its scans and levels, in rows; or why there is none within the budget, at
-/// most 20,000,000 rows.
+/// The best order of the entries by these bounds, with the bounds of its scans and levels, or why no order is within the budget. All
+/// numbers are in rows, and the budget is at most 20,000,000.
 ///
-/// `Budget` and `PastBits` come exactly where `plan_answer` says; `NoMemory` where memory is wanting.
+/// It answers `Budget` and `PastBits` exactly where `plan_answer` says, and `NoMemory` if memory runs out.
 pub fn plan_from(alloc: Global, known: &Known, budget: u64) -> Result<Plan, PlanError>
     requires some { 1 ≤ length known.now.scans }
     requires few { length known.now.scans ≤ most_entries }

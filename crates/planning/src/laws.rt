@@ -1,5 +1,5 @@
-//! What holds of the bounds and plans of a query over its tables, whatever bounds of entries they are from: no law computes anything, and the
-//! contract is the law.
+//! Laws of the bounds and plans of a query over its tables, and of plans from any bounds of entries. No law computes anything: the contract
+//! is the law.
 //!
 //! The tables are plain rows, with no cells and no pool of texts.
 ghost use Rattle.std.specs.Prelude.{◌≡◌, ◌≢◌, ◌⊎◌, ◌+◌, ◌*◌, ◌^◌, ◌<◌, ◌≤◌, ℕ, List, [], Ok, Err, length, slice_index, take};
@@ -32,14 +32,14 @@ ghost use Rattle.planning.specs.Bounds.{scan_bounds_of, set_bounds_of, whole_col
 ghost use Rattle.planning.specs.Plans.{planned, planned_from};
 ghost use Rattle.planning.specs.Standing.{BoundLevels, BoundLists, EntriesStand, JoinedHaveLists, StandForLists};
 
-/// The statistics of any tables stand for them, over keys that rows share where an equality joins them.
+/// The statistics of any tables stand for these tables, with keys that are the same for rows that an equality joins.
 pub fn statistics_stand()
     ensures { (query : Query) (tables : Tables) (accuracy : ℕ)
         → (key : Keys) × StandFor query (statistics_of tables accuracy) tables key × AreKeys tables key (equalities_of query) }
 {}
 
-/// No scan has more rows than its bound says, and no level over the entries of a set more than the bound of the set, in whatever order
-/// they stand. The top bound stands for all from there on.
+/// No scan has more rows than its bound. No level over the entries of a set has more rows than the bound of the set, in whatever order the
+/// entries stand. Of a set whose bound is the top bound nothing is said.
 pub fn bounds_are_never_under()
     ensures scans { (query : Query) (tables : Tables) (accuracy entry : ℕ) → entry < length query.from
         → length (query_scan query tables entry) ≤ slice_index (scan_bounds_of query tables accuracy) entry }
@@ -49,8 +49,8 @@ pub fn bounds_are_never_under()
         ⊎ (slice_index (set_bounds_of query tables accuracy) subset ≡ top_bound) }
 {}
 
-/// Near, where no conjunct names just one entry: at accuracy K, K^n times the bound of a set of n entries is at most (K + 1)^n times the
-/// bound of the same set from the degree sequences of whole columns.
+/// Bounds are near where no conjunct names just one entry. At accuracy K, K^n times the bound of a set of n entries is at most (K + 1)^n
+/// times its uncompressed bound, which is made from the degree sequences of whole columns.
 pub fn bounds_are_near()
     ensures { (query : Query) (tables : Tables) (accuracy subset : ℕ)
         → ((entry : ℕ) → own_conjuncts entry query.conjuncts ≡ []) → subset < 2 ^ length query.from
@@ -58,7 +58,7 @@ pub fn bounds_are_near()
         ≤ (accuracy + 1) ^ length (entries_of_set subset) * bound_of_set (whole_columns tables) (equalities_of query) subset }
 {}
 
-/// The plan of a query over its tables is never want of memory.
+/// The answer `planned` of a query over its tables is never `NoMemory`.
 pub fn plans_want_no_memory()
     ensures { (query : Query) (tables : Tables) (accuracy budget : ℕ) → planned query tables accuracy budget ≢ Err error.NoMemory }
 {}
@@ -92,15 +92,15 @@ pub fn plans_are_never_under()
         → slice_index plan.levels k ≤ budget }
 {}
 
-/// The law of all plans, whatever bounds they are from. Where no bound of a set is below a level over lists of scanned rows, and each scan's
-/// bound is at least the number of its listed rows and at most that of its table, the plan is one over these lists, so no bound in it is too
-/// low. So it is where what is known of the entries in each set stands for the lists, as statistics of the tables do for the scans, and
-/// degree sequences of listed rows for these.
+/// The law of all plans, whatever bounds they are from. Suppose that no bound of a set is below a level over lists of scanned rows. Suppose
+/// also that each scan's bound is at least the number of its listed rows, and at most the number of rows of its table. Then the plan is one
+/// over these lists (`IsPlanOf`), so no bound in it is too low. The first condition holds where what is known of the entries in each set
+/// stands for the lists. Statistics of the tables stand for the scans, and degree sequences of listed rows stand for these rows.
 pub fn plans_from_lists_are_never_under()
     ensures sets { (query : Query) (tables : Tables) (lists : List (List ℕ)) (key : Keys) (bounds : ℕ → EntryBounds)
         → StandForLists query tables lists key bounds
         → BoundLevels query tables lists (bounds_in_sets bounds (equalities_of query) (length query.from)) }
-    // what is the same in every set
+    // bounds of entries that are the same in every set
     ensures everywhere { (query : Query) (tables : Tables) (lists : List (List ℕ)) (key : Keys) (bounds : EntryBounds)
         → AreOfScans query tables lists → EntriesStand query tables lists key bounds
         → StandForLists query tables lists key (in_every_set bounds) }

@@ -1,4 +1,4 @@
-//! What holds of bounds and plans over lists of rows: no law computes anything, and the contract is the law.
+//! Laws of bounds and plans over lists of rows. No law computes anything: the contract is the law.
 ghost use Rattle.std.specs.Prelude.{◌≡◌, ◌≢◌, ◌⊎◌, ◌^◌, ◌<◌, ◌≤◌, ℕ, IsPermutation, List, Ok, Err, length, map, slice_index};
 ghost use Rattle.std.specs.List.{Contains};
 ghost use Rattle.limits.specs.Profile.{most_budget, most_entries, top_bound};
@@ -22,8 +22,8 @@ ghost use Rattle.join_steps.specs.Plans.{IsPlanOf};
 ghost use Rattle.planning.specs.Plans.{planned_over, planned_reduced};
 ghost use Rattle.planning.specs.TakingPart.{JoinsByEqualitiesAlone, TakesPart};
 
-/// No level over lists of scanned rows has more rows than the bound of its set, in whatever order its entries stand. The top bound
-/// stands for all from there on.
+/// No level over lists of scanned rows has more rows than the bound of its set, in whatever order its entries stand. Of a set whose
+/// bound is the top bound nothing is said.
 pub fn bounds_over_lists_are_never_under()
     ensures { (query : Query) (tables : Tables) (lists : List (List ℕ)) (accuracy subset : ℕ) (order : List ℕ)
         → AreOfScans query tables lists → subset < 2 ^ length query.from → IsOrderOfSet (entries_of_set subset) order
@@ -32,7 +32,7 @@ pub fn bounds_over_lists_are_never_under()
         ⊎ (slice_index (set_bounds_over query tables lists accuracy) subset ≡ top_bound) }
 {}
 
-/// What holds of a plan over lists: its order is the best one, a scan's bound is exactly the number of listed rows, and where the
+/// What holds of a plan over lists. Its order is the best one, and a scan's bound is exactly the number of listed rows. Where the
 /// lists are of scanned rows, no bound in it is too low.
 pub fn plans_over_lists_are_never_under()
     ensures plan { (query : Query) (tables : Tables) (lists : List (List ℕ)) (accuracy budget : ℕ) (plan : Plan)
@@ -50,8 +50,8 @@ pub fn plans_over_lists_are_never_under()
         → planned_over query tables lists accuracy budget ≢ Err error.NoMemory }
 {}
 
-/// The reduced scans are lists of scanned rows, so no bound of their plan is too low. The last level over them, each choice as the
-/// values of the outputs, is the answer, each row as often as there.
+/// The reduced scans are lists of scanned rows, so no bound of their plan is too low. The outputs of the choices of the last level
+/// over them are the rows of the answer, each as often as in the answer.
 pub fn reduced_plans_lose_no_row()
     ensures lists { (query : Query) (tables : Tables) → AreOfScans query tables (reduced_of query tables) }
     ensures plan { (query : Query) (tables : Tables) (accuracy budget : ℕ) (plan : Plan)
@@ -66,7 +66,7 @@ pub fn reduced_plans_lose_no_row()
         → planned_reduced query tables accuracy budget ≢ Err error.NoMemory }
 {}
 
-/// The scans themselves are such lists, and the levels over them are those of the query.
+/// The scans themselves are lists of scanned rows, and the levels over them are those of the query.
 pub fn levels_over_whole_scans()
     ensures lists { (query : Query) (tables : Tables) → AreOfScans query tables (scans_of query tables) }
     ensures levels { (query : Query) (tables : Tables) (order : List ℕ) (k : ℕ) → IsOrderOfSet (entries_of query) order
@@ -74,9 +74,9 @@ pub fn levels_over_whole_scans()
         ≡ level (conjuncts_of query tables) (row_counts tables) order k }
 {}
 
-/// Where the equalities close no cycle of entries and no other conjunct names several entries, each reduced row takes part in a
-/// choice of reduced rows for all entries that are connected with its own: every conjunct holds of it that names one of these.
-/// So it is of any lists in which each row finds its partners.
+/// Suppose that the equalities close no cycle of entries, and that no other conjunct names several entries. Then each reduced row
+/// takes part in a choice of reduced rows for all entries that are connected with its own. Every conjunct that names one of these
+/// entries holds of the choice. The same is true of any lists of scanned rows in which each row finds its partners.
 pub fn reduced_rows_take_part()
     ensures consistent { (query : Query) (tables : Tables) (lists : List (List ℕ)) (entry row : ℕ) → AreConsistentScans query tables lists
         → ClosesNoCycle (equalities_of query) → JoinsByEqualitiesAlone query → Contains (list_at lists entry) row

@@ -22,14 +22,14 @@ use reduced_scans::reduce_scans;
 use row_buf::RowBuf;
 use std::alloc::Global;
 
-/// What is known over the reduced scans of a query, and for each FROM entry these rows, by their numbers and in file order.
+/// What is known over the reduced scans of a query, and for each FROM entry the numbers of its reduced rows, in file order.
 #[derive(Drop)]
 pub struct Reduced {
     pub known: Known,
     pub lists: Vec<RowBuf<u32>>,
 }
 
-/// The reduced scans of a query. The scans are let go.
+/// The reduced scans of a query. The memory of the whole scans is freed.
 pub fn reduced_lists(
     alloc: Global,
     query: &Query,
@@ -47,12 +47,12 @@ pub fn reduced_lists(
     reduce_scans(alloc, query, equalities, db, &scans)
 }
 
-/// From the reduced scans of the query, which come with it. A scan's bound is the number of its rows that are left.
+/// What is known from the reduced scans of the query, together with these scans. A scan's bound is the number of its rows that are left.
 ///
-/// Of each scan those rows are left that find, for each equality of one of their columns with a column of another entry, a row with
-/// the same value that is left there (semi-join reduction, Bernstein and Goodman 1981). Time and memory are linear in the rows times
-/// their equalities, but for the sorting of columns and the bounds of all sets; all memory but the answer's is let go, and its lists
-/// have room for their own rows alone.
+/// A row of a scan is left if it has a match for each equality of one of its columns with a column of another entry. A match is a row
+/// of that entry that has the same value and is left too (semi-join reduction, Bernstein and Goodman 1981). Time and memory are linear
+/// in the rows times their equalities, except for sorting columns and for the bounds of all sets. All memory but the answer's is freed,
+/// and the answer's lists have room for their own rows alone.
 ///
 /// The accuracy is that of compressed lists (SafeBound, SIGMOD 2023).
 pub fn from_reduced(

@@ -23,34 +23,35 @@ pub fn a_filtered_partner()
     ensures plan { planned_reduced by_region region_tables 1 1 ≡ Ok (plan_of (0 ∷ 1 ∷ []) (1 ∷ 1 ∷ []) (1 ∷ 1 ∷ [])) }
 {}
 
-/// A(X), B(X, Y) and D(Y), joined along: the one row of D reduces B, and then B reduces A.
+/// A(X), B(X, Y) and D(Y), joined in a chain: the one row of D reduces B, and then B reduces A.
 pub fn along_a_chain()
     ensures reduced { reduced_of along chain_tables ≡ (0 ∷ []) ∷ (0 ∷ []) ∷ (0 ∷ []) ∷ [] }
     ensures plan { planned_reduced along chain_tables 1 1
         ≡ Ok (plan_of (0 ∷ 1 ∷ 2 ∷ []) (1 ∷ 1 ∷ 1 ∷ []) (1 ∷ 1 ∷ 1 ∷ [])) }
 {}
 
-/// A triangle of three times three rows. Each row has its partners, so nothing is reduced.
+/// A triangle of three tables with three rows each. Each row has its partners, so nothing is reduced.
 pub fn a_triangle()
     ensures reduced { reduced_of triangle three_tables ≡ (0 ∷ 1 ∷ 2 ∷ []) ∷ (0 ∷ 1 ∷ 2 ∷ []) ∷ (0 ∷ 1 ∷ 2 ∷ []) ∷ [] }
     ensures plan { planned_reduced triangle three_tables 1 9 ≡ Ok (plan_of (0 ∷ 1 ∷ 2 ∷ []) (3 ∷ 3 ∷ 3 ∷ []) (3 ∷ 5 ∷ 9 ∷ [])) }
 {}
 
-/// A triangle in which each row has its partners, and no three of them meet: where equalities close a cycle, a row may stay that takes
+/// A triangle in which each row has its partners, but no three rows meet. Where equalities close a cycle, a row may be left that takes
 /// part in no choice.
 pub fn a_crossed_triangle()
     ensures reduced { reduced_of triangle crossed_tables ≡ (0 ∷ 1 ∷ []) ∷ (0 ∷ 1 ∷ []) ∷ (0 ∷ 1 ∷ []) ∷ [] }
     ensures answer { answer triangle crossed_tables ≡ [] }
 {}
 
-/// An empty table leaves no row where it is joined, and every row elsewhere: no level has a row, though one scan has two.
+/// An empty table leaves no row in the entry that it is joined with, and every row in the other one. The bound of each level is 0, though
+/// one scan has two rows.
 pub fn an_empty_table()
     ensures reduced { reduced_of with_another empty_first ≡ [] ∷ [] ∷ (0 ∷ 1 ∷ []) ∷ [] }
     ensures plan { planned_reduced with_another empty_first 1 1
         ≡ Ok (plan_of (0 ∷ 1 ∷ 2 ∷ []) (0 ∷ 0 ∷ 2 ∷ []) (0 ∷ 0 ∷ 0 ∷ [])) }
 {}
 
-/// A condition that never holds and names no entry: the scans keep their rows, and there are no rows.
+/// A condition that never holds and names no entry: the reduced scans keep their rows, and the answer has no rows.
 pub fn a_condition_without_entries()
     ensures reduced { reduced_of never_true small_tables ≡ (0 ∷ 1 ∷ 2 ∷ []) ∷ (0 ∷ 1 ∷ []) ∷ [] }
     ensures answer { answer never_true small_tables ≡ [] }

@@ -26,8 +26,8 @@ use query_types::Query;
 use row_buf::RowBuf;
 use std::alloc::Global;
 
-/// From statistics of its entries, whatever these were made from. A scan's bound is the row bound of its entry. The parts are those of
-/// `split`.
+/// What is known from statistics of a query's entries, whatever these were made from. A scan's bound is the row bound of its entry. The
+/// parts are those of `split`.
 pub fn from_told(
     alloc: Global,
     query: &Query,
@@ -48,7 +48,7 @@ pub fn from_told(
     Ok(known)
 }
 
-/// From statistics of the query's tables, which are gathered once. A scan's bound is that of its rows.
+/// What is known from statistics of the query's tables, which are gathered once. A scan's bound is the row bound of its entry.
 ///
 /// The accuracy is that of compressed degree sequences (SafeBound, SIGMOD 2023).
 #[tactic(auto, using(crate::proofs::Giving::is_told))]
@@ -66,8 +66,8 @@ pub fn from_statistics(
     from_told(alloc, query, &parts, &stats)
 }
 
-/// From lists of rows of the query's tables, one list for each entry. A scan's bound is the number of rows of its list. The equalities are
-/// those of `split`.
+/// What is known from lists of rows of the query's tables, one list for each entry. A scan's bound is the number of rows of its list. The
+/// equalities are those of `split`.
 ///
 /// The accuracy is that of compressed degree sequences (SafeBound, SIGMOD 2023).
 pub fn from_rows(

@@ -4,7 +4,7 @@ use Rattle.std.specs.Ordering.{is_lt, is_gt}
 use Rattle.csv_tables.specs.Values.{Value, value_cmp}
 use Rattle.filtered_lists.specs.Ranges.{Range, greater_of, lesser_of}
 
--- an end is there, and stands above a value or below it
+-- whether there is an end and it is above a value, or below it
 abbrev pub is_above : Option Value → Value → Bool
 is_above None value = false
 is_above (Some end) value = is_lt (value_cmp value end)
@@ -22,6 +22,6 @@ abbrev pub more_high : Option Value → Option Value → Option Value
 more_high None other = other
 more_high (Some value) other = Some (lesser_of value other)
 
--- a range narrowed by another one of its column
+-- a range narrowed by another range of the same column
 abbrev pub narrowed : Range → Range → Range
 narrowed range one = record { column = one.column; low = more_low range.low one.low; high = more_high range.high one.high }

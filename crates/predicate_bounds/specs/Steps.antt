@@ -1,5 +1,5 @@
 -- An entry's own conjuncts as steps over a stack of answers: each step of a comparison puts an answer on it, and AND and OR
--- put the two on top together.
+-- combine the two answers on top.
 use Rattle.std.specs.Prelude.{ℕ, List, [], ◌∷◌, ◌++◌, option_map}
 use Rattle.csv_tables.specs.Values as values
 use Rattle.csv_tables.specs.Values.{Value}
@@ -12,7 +12,7 @@ use Rattle.predicate_bounds.specs.declared.steps.Range.{Range}
 use Rattle.predicate_bounds.specs.declared.steps.Step.{Step}
 use Rattle.predicate_bounds.specs.declared.steps.Step.TheVariants as step
 
--- a literal is a value, and a value is a literal
+-- the value of a literal, and the literal of a value
 abbrev pub value_of : Literal → Value
 value_of (literal.Int number) = values.Int number
 value_of (literal.Text text) = values.Text text
@@ -27,7 +27,7 @@ range_of range = record { column = range.column; low = option_map value_of range
 abbrev pub range_in : ranges.Range → Range
 range_in range = record { column = range.column; low = option_map literal_of range.low; high = option_map literal_of range.high }
 
--- the steps that put an answer on the stack
+-- for each answer, the steps that put it on the stack
 abbrev pub step_answers : ComparisonAnswers (List Step)
 step_answers = record {
   whole = step.Whole ∷ [];

@@ -1,4 +1,4 @@
-//! Statistics of a query's entries, as far as bounds ask for them.
+//! The statistics of a query's entries that bounds ask for.
 ghost use Rattle.std.specs.Prelude.{◌≡◌, true, [], ◌∷◌, ◌++◌, IsTrue, OnOk, OnErr};
 ghost use Rattle.std.specs.List.{list_all};
 ghost use Rattle.predicate_bounds.specs.ListRuns.{is_small};
@@ -38,13 +38,13 @@ impl ColumnSteps {
     }
 }
 
-/// The joined columns of an entry. One that joins no column has one column all the same, for its row bound.
+/// The joined columns of an entry. An entry without joined columns has one column all the same, for its row bound.
 #[derive(Drop)]
 pub struct EntryStats {
     pub columns: Seq<ColumnSteps>,
 }
 
-/// For each FROM entry what its own conjuncts ask for.
+/// For each FROM entry the statistics that its own conjuncts ask for.
 #[derive(Drop)]
 pub struct QueryStats {
     pub entries: Seq<EntryStats>,

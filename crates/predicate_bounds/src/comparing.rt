@@ -31,7 +31,7 @@ pub(crate) fn opposite(op: Op) -> Op
     }
 }
 
-// The same comparison with its sides changed.
+// The same comparison with its sides swapped.
 fn turned(op: Op) -> Op
     ensures { result ≡ mirrored op }
 {
@@ -45,7 +45,7 @@ fn turned(op: Op) -> Op
     }
 }
 
-// The literal that an operand is.
+// The literal of an operand, or None if the operand is a column.
 fn literal_in(alloc: Global, operand: &Operand) -> Result<Option<Literal>, NoMemory>
     ensures { IfOk result (λ literal. literal ≡ literal_in operand.now) }
 {
@@ -56,7 +56,7 @@ fn literal_in(alloc: Global, operand: &Operand) -> Result<Option<Literal>, NoMem
     }
 }
 
-// The comparison of a column with what may be a literal.
+// The comparison of a column with an operand, or None if the operand isn't a literal.
 fn compared_with(
     alloc: Global,
     op: Op,
@@ -76,7 +76,7 @@ fn compared_with(
     }
 }
 
-/// The comparison of a column with a literal that stands on either side, if it is one.
+/// The comparison of a column with a literal on either side, or None for any other comparison.
 pub(crate) fn compared_of(
     alloc: Global,
     op: Op,

@@ -1,4 +1,4 @@
-//! The one range that the ranges of a column make together.
+//! The intersection of all ranges of a column.
 ghost use Rattle.std.specs.Prelude.{◌≡◌, ◌==◌, map, option_map, IfOk};
 ghost use Rattle.std.specs.List.{list_any};
 ghost use Rattle.filtered_lists.specs.Ranges.{intersection_of};
@@ -9,7 +9,7 @@ use crate::steps::{Literal, Range, compare_literals};
 use base_io::NoMemory;
 use std::alloc::Global;
 
-// Whether an end is there and stands above a literal.
+// Whether there is an end and it is above a literal.
 fn is_above(end: &Option<Literal>, literal: &Literal) -> bool
     ensures { result ≡ is_above (option_map value_of end.now) (value_of literal.now) }
 {
@@ -19,7 +19,7 @@ fn is_above(end: &Option<Literal>, literal: &Literal) -> bool
     }
 }
 
-// Whether an end is there and stands below a literal.
+// Whether there is an end and it is below a literal.
 fn is_below(end: &Option<Literal>, literal: &Literal) -> bool
     ensures { result ≡ is_below (option_map value_of end.now) (value_of literal.now) }
 {
@@ -63,7 +63,7 @@ fn lower_high(
     Ok(Some(one.copy(alloc)?))
 }
 
-// A range narrowed by another one of its column.
+// A range narrowed by another range of the same column.
 fn narrowed(alloc: Global, range: &Range, one: Range) -> Result<Range, NoMemory>
     ensures { IfOk result (λ narrow. range_of narrow ≡ narrowed (range_of range.now) (range_of one)) }
 {
@@ -73,7 +73,7 @@ fn narrowed(alloc: Global, range: &Range, one: Range) -> Result<Range, NoMemory>
     Ok(Range { column, low, high })
 }
 
-/// The one range of a column: from the greatest of the low ends to the least of the high ends.
+/// The intersection of all ranges of a column: from the greatest of the low ends to the least of the high ends.
 pub(crate) fn intersection_of(
     alloc: Global,
     ranges: &[Range],
@@ -97,7 +97,7 @@ pub(crate) fn intersection_of(
     Ok(one)
 }
 
-/// Whether one of the ranges is of a column.
+/// Whether one of the ranges is of this column.
 pub(crate) fn has_column(ranges: &[Range], column: u32) -> bool
     ensures { result ≡ list_any (λ range. range.column == column) ranges.now }
 {

@@ -17,7 +17,7 @@ use query_grammar::Op;
 use query_types::{Cond, Operand, Query};
 use std::alloc::Global;
 
-/// What an AND has so far: whether the steps of an answer stand there, and the ranges of its comparisons.
+/// What an AND has so far: whether a member has left an answer on the stack, and the ranges of its comparisons.
 #[derive(Drop)]
 pub(crate) struct Members {
     pub some: bool,
@@ -36,7 +36,7 @@ impl Members {
         }
     }
 
-    // The steps of one more answer stand at the end.
+    // Ends the steps of one more answer: adds the step And, if an earlier member has left an answer on the stack.
     fn close(&mut self, steps: &mut Seq<Step>) -> Result<(), NoMemory>
         ensures steps { OnOk result (steps.new ≡ steps.old ++ closing self.old.some) }
         ensures some { OnOk result (self.new.some ≡ true) }
@@ -49,7 +49,7 @@ impl Members {
         Ok(())
     }
 
-    // The last members: one range for each column. An AND of nothing is whole.
+    // Adds the steps of the last members, one range for each column. The step of an AND without members is Whole.
     fn finish(&mut self, alloc: Global, steps: &mut Seq<Step>) -> Result<(), NoMemory>
         ensures { OnOk result (steps.new ≡ steps.old ++ ending self.old.some self.old.ranges) }
     {
@@ -68,7 +68,7 @@ impl Members {
         Ok(())
     }
 
-    // A comparison of a column with a literal.
+    // Adds a comparison of a column with a literal.
     fn add_compared(
         &mut self,
         alloc: Global,
@@ -117,7 +117,7 @@ impl Members {
         }
     }
 
-    // A comparison. One that has no column and no literal is whole.
+    // Adds a comparison. If it doesn't compare a column with a literal, its step is Whole.
     fn add_comparison(
         &mut self,
         alloc: Global,
@@ -138,7 +138,7 @@ impl Members {
         }
     }
 
-    /// A condition, or its opposite.
+    /// Adds a condition, or its opposite if `holds` is false.
     #[cycle(reading)]
     pub(crate) fn add_condition(
         &mut self,
@@ -172,7 +172,7 @@ impl Members {
         }
     }
 
-    // Each of these conditions, or its opposite: an AND within an AND.
+    // Adds each of these conditions, or the opposite of each, as members of the same AND.
     #[cycle(reading)]
     fn add_each(
         &mut self,
@@ -190,7 +190,7 @@ impl Members {
         Ok(())
     }
 
-    // Any of these conditions, or of their opposites.
+    // Adds the OR of these conditions, or of their opposites, as one member.
     #[cycle(reading)]
     fn add_any(
         &mut self,
@@ -211,7 +211,7 @@ impl Members {
     }
 }
 
-// The steps of the answer of a condition, or of its opposite.
+// Adds the steps of the answer of a condition, or of its opposite.
 #[cycle(reading)]
 fn add_answer(
     alloc: Global,
@@ -226,7 +226,7 @@ fn add_answer(
     members.finish(alloc, steps)
 }
 
-// The steps of an entry's own conjuncts, which are those with these numbers.
+// The steps of an entry's own conjuncts, whose numbers are `own`.
 fn read_own(alloc: Global, query: &Query, from: u8, own: &[u32]) -> Result<Seq<Step>, NoMemory>
     requires { own.now ≡ numbers_where (names_just from) 0 query.now.conjuncts }
     ensures { IfOk result (λ steps. steps ≡ steps_of from query.now.conjuncts) }
@@ -243,7 +243,7 @@ fn read_own(alloc: Global, query: &Query, from: u8, own: &[u32]) -> Result<Seq<S
     Ok(steps)
 }
 
-/// The steps of an entry's own conjuncts: what a bound asks of statistics, and how it puts their lists together. The parts are those of
+/// The steps of an entry's own conjuncts: what a bound asks of statistics, and how it combines their lists. The parts are those of
 /// `split`.
 pub fn read_steps(
     alloc: Global,

@@ -15,11 +15,11 @@ use std::alloc::Global;
 pub enum ListStep {
     /// Puts a list on the stack.
     List(Pieces),
-    /// The two lists on top become the list whose running sums are the minima of theirs.
+    /// Replaces the two lists on top by the list whose running sums are the minima of theirs.
     And,
     /// Puts the empty list on the stack.
     Nothing,
-    /// The two lists on top become their sum, rank by rank.
+    /// Replaces the two lists on top by their sum, rank by rank.
     Or,
 }
 
@@ -55,7 +55,7 @@ fn or_top(stack: &mut Seq<Pieces>) -> Result<(), NoMemory>
     stack.push(list)
 }
 
-// One step. A list on the stack has at most 2^32 rows more.
+// Takes one step. After it the lists on the stack have together at most 2^32 rows more.
 fn take_step(alloc: Global, step: &ListStep, stack: &mut Seq<Pieces>) -> Result<(), NoMemory>
     requires room { total_of stack.old < 2 ^ 128 }
     requires small { IsTrue (is_small step.now) }
@@ -70,7 +70,7 @@ fn take_step(alloc: Global, step: &ListStep, stack: &mut Seq<Pieces>) -> Result<
     }
 }
 
-/// The list that steps leave on top of the stack.
+/// The list that steps leave on top of the stack, or the empty list if the stack is empty.
 pub(crate) fn run(alloc: Global, steps: &[ListStep]) -> Result<Pieces, NoMemory>
     requires { IsTrue (list_all is_small steps.now) }
     ensures { IfOk result (λ list. list ≡ top_of (after_list_steps steps.now [])) }

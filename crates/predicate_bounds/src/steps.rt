@@ -1,4 +1,4 @@
-//! The steps by which an entry's own conjuncts put answers together, and the literals and ranges that they ask for.
+//! The steps by which an entry's own conjuncts combine answers, and the literals and ranges that they ask for.
 ghost use Rattle.std.specs.Prelude.{◌≡◌, IfOk};
 ghost use Rattle.csv_tables.specs.Values.{Int, Text, value_cmp};
 ghost use Rattle.predicate_bounds.specs.Steps.{value_of};
@@ -32,16 +32,16 @@ pub enum Step {
     Equal { column: u32, literal: Literal },
     /// Puts the answer for the rows in a range of a column on the stack.
     Within(Range),
-    /// Puts the two answers on top together by AND.
+    /// Combines the two answers on top by AND.
     And,
     /// Puts the answer for no row on the stack.
     Nothing,
-    /// Puts the two answers on top together by OR.
+    /// Combines the two answers on top by OR.
     Or,
 }
 
 impl Literal {
-    /// The same literal.
+    /// A copy of the literal.
     pub(crate) fn copy(&self, alloc: Global) -> Result<Literal, NoMemory>
         ensures { IfOk result (λ literal. literal ≡ self.now) }
     {
@@ -72,7 +72,7 @@ fn compare_text(a: &str, b: &Literal) -> Ordering
     }
 }
 
-/// The order of two literals: numbers by size, texts by code points.
+/// The order of two literals: numbers by size, texts by code points, and numbers before texts.
 pub(crate) fn compare_literals(a: &Literal, b: &Literal) -> Ordering
     ensures { result ≡ value_cmp (value_of a.now) (value_of b.now) }
 {

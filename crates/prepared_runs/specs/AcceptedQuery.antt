@@ -1,4 +1,4 @@
--- What a run is over, and what it means.
+-- A planned query with its tables and scans, as the promises of a run speak of it.
 use Rattle.std.specs.Prelude.{ℕ, ◌≡◌, ◌<◌, ◌≤◌, List, map, length, slice_index, IsPermutation, Option}
 use Rattle.csv_tables.specs.Rows.{Row}
 use Rattle.query_types.specs.declared.types.Query.{Query}
@@ -14,8 +14,8 @@ use Rattle.safebound_words.specs.declared.command.ListSource.{ListSource}
 use Rattle.safebound_words.specs.declared.command.ListSource.TheVariants as sources
 use Rattle.safebound_words.specs.declared.command.OutText.{OutText}
 
--- a query, for each of its FROM entries the rows of its table, its plan, what this is made from, for each entry the numbers of the rows that
--- are joined, the limit of memory, if there is one, and which text goes to out
+-- a query, the rows of each FROM entry's table, the plan, and what the plan is made from. `lists` has for each entry the numbers of the
+-- rows that are joined. `memory` is the limit of memory, if there is one. `out` says which text goes to out
 pub record AcceptedQuery : Type 0 where
   pub query : Query
   pub rows : List (List Row)
@@ -28,11 +28,11 @@ pub record AcceptedQuery : Type 0 where
 abbrev pub tables : AcceptedQuery → Tables
 tables run = tables_in run.rows
 
--- the rows of an entry's scan
+-- the numbers of the rows of an entry's scan
 abbrev pub scan_rows : AcceptedQuery → ℕ → List ℕ
 scan_rows run entry = list_at run.lists entry
 
--- how many rows each level of the plan's order has, from the first entry's on; or each inner node of its tree
+-- how many rows each level of the plan's order has, or each inner node of its tree
 abbrev pub part_counts : AcceptedQuery → List ℕ
 part_counts run = part_sizes run.query (tables run) run.lists run.plan
 
@@ -44,21 +44,21 @@ joined_rows run = list_levels run.query (tables run) run.lists (joined_entries r
 abbrev pub printed : AcceptedQuery → List Row
 printed run = map (λ choice. selected run.query (tables run) (row_in (joined_entries run.plan) choice)) (joined_rows run)
 
--- its scans have the rows for which every conjunct holds that names just this entry, and its levels or nodes are those over whole tables
+-- each scan has the rows for which every conjunct holds that names just its entry. The levels or nodes are those over whole tables
 pub record IsOverWholeScans (run : AcceptedQuery) : Type 0 where
   pub scans : (entry : ℕ) → entry < length run.query.from
       → scan_rows run entry ≡ scan (conjuncts_of run.query (tables run)) (row_counts (tables run)) entry
   pub parts : (k : ℕ) → k < part_count run.plan
       → part_rows run.query (tables run) run.lists run.plan k ≡ whole_parts run.query (tables run) run.plan k
 
--- its scans are the reduced ones, the greatest with a partner for each row (law `reduced_scans_are_by_rounds` of reduced_scans), and each has
--- exactly as many rows as the plan says
+-- the scans are the reduced ones, which are the largest in which each row has its partners (law `reduced_scans_are_by_rounds` of
+-- reduced_scans). Each has exactly as many rows as the plan says
 pub record IsOverReducedScans (run : AcceptedQuery) : Type 0 where
   pub scans : run.lists ≡ reduced_of run.query (tables run)
   pub exact : (entry : ℕ) → entry < length run.query.from → slice_index (scan_bounds run.plan) entry ≡ length (scan_rows run entry)
 
--- the plan has each FROM entry once, and no scan and no level of its order, or inner node of its tree, has more rows than it says. Which scans
--- these are, each source says
+-- the plan has each FROM entry once. No scan and no level of its order, or inner node of its tree, has more rows than its bound. Which
+-- scans these are depends on what the plan is made from
 pub record BoundsHold (run : AcceptedQuery) : Type 0 where
   pub plan : IsShapedPlan (length run.query.from) run.plan
   pub scans : (entry : ℕ) → entry < length run.query.from → length (scan_rows run entry) ≤ slice_index (scan_bounds run.plan) entry
@@ -68,6 +68,6 @@ pub record BoundsHold (run : AcceptedQuery) : Type 0 where
   pub of_reduced : run.source ≡ sources.Reduced → IsOverReducedScans run
   pub of_counted : run.source ≡ sources.Counted → IsOverReducedScans run
 
--- the rows printed are the answer of the query, each as often as there
+-- the printed rows are the answer of the query, each as often as in the answer
 abbrev pub RowsAreTheAnswer : AcceptedQuery → Type 0
 RowsAreTheAnswer run = IsPermutation (printed run) (answer run.query (tables run))

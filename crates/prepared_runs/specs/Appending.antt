@@ -22,11 +22,11 @@ use Rattle.prepared_runs.specs.RunOutcome.{Appended, RunOutcome}
 
 -- ---- the section to which rows are appended
 
--- it is that of a table of this name, letter case aside
+-- whether the section is of the table with this name, in any letter case
 abbrev pub is_of_table : Schema → List ℕ → TableStats → Bool
 is_of_table schema name section = str_eq_ignore_ascii_case (table_at schema section.table).name name
 
--- or Missing, with 0 in the place of a FROM entry: the schema has no such table, or the file has no section of it
+-- the section, or Missing with 0 in place of a FROM entry where the schema has no such table or the file has no section of it
 abbrev pub or_missing : Option TableStats → Result TableStats Refusal
 or_missing None = Err (refusal.Stats cause.Missing 0)
 or_missing (Some section) = Ok section
@@ -36,14 +36,14 @@ section_stage name schema stats = or_missing (find (is_of_table schema name) sta
 
 -- ---- the file with new rows
 
--- of a table of which it has so many rows: with the new ones they may be no more than a table's
+-- the file has had `before` rows of the table. Together with the new rows they may be at most `most_rows`
 unfoldable pub grown_stage : Schema → StatsFile → ℕ → ℕ → List Row → Result RunOutcome Refusal
 grown_stage schema stats table before rows =
     if nat_le (before + length rows) most_rows
     then Ok (Appended (record { schema = schema; table = table; rows = rows; file = file_after stats table rows }))
     else Err (refusal.Limit limit.Rows (file.Table table) (most_rows + 1))
 
--- the rows are in the file of this name, and are read and refused as those of any file of the table
+-- the new rows are in the file of this name, and are read and refused as the rows of any file of the table
 unfoldable pub rows_run : List ℕ → Schema → StatsFile → ℕ → ℕ → Files → Result RunOutcome Refusal
 rows_run name schema stats table before files = do
   rows ← rows_in table (table_at schema table) name files
@@ -61,7 +61,7 @@ append_run append schema files = do
   stats ← stats_stage append.stats_file schema files
   stats_run append schema stats files
 
--- the section that it reads
+-- the section that an `append` reads
 unfoldable pub section_read : NewRows → Schema → Files → Result TableStats Refusal
 section_read append schema files = do
   stats ← stats_stage append.stats_file schema files

@@ -40,36 +40,36 @@ abbrev pub plan_joined : Joined → AnyPlan
 plan_joined (joined.Levels plan lists reserved) = shaped.OrderPlan plan
 plan_joined (joined.Nodes plan done) = shaped.TreePlan plan
 
--- the rows of each part: of each level of the order, or each inner node of the tree
+-- the rows of part k: a level of the order, or an inner node of the tree
 abbrev pub rows_in : Joined → ℕ → List (List ℕ)
 rows_in (joined.Levels plan lists reserved) k = rows_at reserved.levels k
 rows_in (joined.Nodes plan done) k = (node_at done.nodes (length plan.scans + k)).rows
 
--- and how many these are
+-- how many rows each part has
 abbrev pub counts_in : Joined → List ℕ
 counts_in (joined.Levels plan lists reserved) = level_counts reserved.levels
 counts_in (joined.Nodes plan done) = node_counts (length plan.scans) done.nodes
 
--- how many bytes the lists and all buffers hold: of each its capacity times the size of an item
+-- how many bytes the lists and all buffers hold: the capacity of each, times the size of an item
 abbrev pub bytes_in : Joined → ℕ
 bytes_in (joined.Levels plan lists reserved) = buffers_bytes lists + reserved_bytes reserved
 bytes_in (joined.Nodes plan done) = done.bytes
 
--- there is a level for each entry of the order, or a node for each leaf and each join of the tree
+-- the plan is for n entries. There is a level for each entry of the order, or a node for each leaf and each join of the tree
 abbrev pub HasParts : ℕ → Joined → Type 0
 HasParts n (joined.Levels plan lists reserved) = IsPlan n plan × (length reserved.levels ≡ length plan.order)
 HasParts n (joined.Nodes plan done) = IsTreePlan n plan × (length done.nodes ≡ node_count plan)
 
 -- ---- joins over lists that lose no row of the answer
 
--- each level of the order has its choices
+-- the lists lose no row of the answer, the plan is over them, and each level of the order has its choices
 pub record AreLevelsOf (query : Query) (db : Database) (lists : List (List ℕ)) (plan : Plan) (levels : List Level) : Type 0 where
   pub rows : LoseNoRow query (tables_of db) lists
   pub plan_of : IsPlanOf query (tables_of db) lists plan
   pub count : length levels ≡ length plan.order
   pub choices : (k : ℕ) → k < length plan.order → rows_at levels k ≡ list_levels query (tables_of db) lists plan.order (k + 1)
 
--- each node of the tree has its entries and its choices
+-- the lists lose no row of the answer, the plan is over them, and each node of the tree has its entries and its choices
 pub record AreNodesOf (query : Query) (db : Database) (lists : List (List ℕ)) (plan : BushyPlan) (nodes : List Node) : Type 0 where
   pub rows : LoseNoRow query (tables_of db) lists
   pub plan_of : IsTreePlanOf query (tables_of db) lists plan
@@ -90,7 +90,7 @@ pub record AreDone (query : Query) (db : Database) (joins : Joins) (kept : Joine
       → rows_in kept k ≡ part_rows query (tables_of db) (lists_of joins.lists.items) (plan_in joins.room) k
   pub bytes : bytes_in kept ≡ bytes_held joins
 
--- the buffers of what was left to do, if that is a join
+-- `kept` has the buffers of the joins that were left to do. If no join was left, it is None
 abbrev pub IsLeft : Query → Database → PendingOutput → Option Joined → Type 0
 IsLeft query db (rest.Rows joins) kept = IsSomeAnd kept (AreDone query db joins)
 IsLeft query db (rest.Audit joins) kept = IsSomeAnd kept (AreDone query db joins)
@@ -102,7 +102,7 @@ pub record KeepsBuffers (run : AcceptedQuery) (kept : Joined) : Type 0 where
   pub parts : (k : ℕ) → k < part_count run.plan → rows_in kept k ≡ part_rows run.query (tables run) run.lists run.plan k
   pub bytes : bytes_in kept ≡ shape_bytes run.plan
 
--- the buffers of `run`, of `audit` and of `demo`; `plan` takes no buffers
+-- `run`, `audit` and `demo` keep their buffers; `plan` takes no buffers
 abbrev pub AreKept : OutText → AcceptedQuery → Option Joined → Type 0
 AreKept out_text.Rows run kept = IsSomeAnd kept (KeepsBuffers run)
 AreKept out_text.Audit run kept = IsSomeAnd kept (KeepsBuffers run)
@@ -114,6 +114,6 @@ IsKept (StatsMade made_stats) kept = kept ≡ None
 IsKept (PlannedFromStats made) kept = kept ≡ None
 IsKept (Appended made) kept = kept ≡ None
 
--- over files that the store tells, a stage is accepted, and these are the buffers of what it comes to
+-- over files that the store tells, the stage has an outcome, and `kept` has the buffers of this outcome
 abbrev pub KeepsItsBuffers : Reading → (Files → Result RunOutcome Refusal) → Option Joined → Type 0
 KeepsItsBuffers store stage kept = (files : Files) → store.files ≡ Some files → IsOkAnd (stage files) (λ outcome. IsKept outcome kept)

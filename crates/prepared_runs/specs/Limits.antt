@@ -3,16 +3,16 @@ use Rattle.std.specs.Prelude.{ℕ, ◌≤◌, nat_le, if◌then◌else◌, Optio
 use Rattle.outcomes.specs.declared.refusal.Refusal.{Refusal}
 use Rattle.outcomes.specs.declared.refusal.Refusal.TheVariants as refusal
 
--- the value, where so many bytes are within the limit or there is none
+-- the value, if `bytes` is within the limit or there is no limit; else the refusal
 abbrev pub within_limit : {A : Type 0} → Option ℕ → ℕ → A → Result A Refusal
 within_limit None bytes value = Ok value
 within_limit (Some limit) bytes value = if nat_le bytes limit then Ok value else Err (refusal.MemoryLimit bytes)
 
--- whether so many bytes are within it
+-- whether `bytes` is within the limit
 abbrev pub limit_test : Option ℕ → ℕ → Result (Unit {0}) Refusal
 limit_test limit bytes = within_limit limit bytes tt
 
--- so many bytes are within the limit, if there is one
+-- `bytes` is within the limit, if there is one
 abbrev pub IsWithinLimit : Option ℕ → ℕ → Type 0
 IsWithinLimit None bytes = ⊤
 IsWithinLimit (Some limit) bytes = bytes ≤ limit

@@ -1,4 +1,4 @@
--- What was read and planned, as what a run is over.
+-- What was read and planned for a query, as the `AcceptedQuery` that promises speak of.
 use Rattle.std.specs.Prelude.{ℕ, ◌≡◌, ◌+◌, List, length, Option, None, Some, ⊤}
 use Rattle.query_types.specs.declared.types.Query.{Query}
 use Rattle.csv_tables.specs.declared.types.Database.{Database}
@@ -31,13 +31,13 @@ use Rattle.prepared_runs.specs.declared.scans.Scans.TheVariants as scans
 use Rattle.safebound_words.specs.declared.command.OutText.{OutText}
 use Rattle.safebound_words.specs.declared.command.OutText.TheVariants as out_text
 
--- the text for which something is left to do
+-- the text that is left to write to out
 abbrev pub text_left : PendingOutput → OutText
 text_left (rest.Rows joins) = out_text.Rows
 text_left (rest.Audit joins) = out_text.Audit
 text_left (rest.Nothing plan) = out_text.Nothing
 
--- the rows of each entry that are joined: those of its scan, or these
+-- the rows of each entry that are joined: those of its whole scan, or those that are listed
 abbrev pub lists_in : Scans → Query → Tables → List (List ℕ)
 lists_in scans.Whole query ts = scans_of query ts
 lists_in (scans.Listed lists) query ts = lists_of lists.items
@@ -47,21 +47,21 @@ abbrev pub plan_in : Room → AnyPlan
 plan_in (room.Levels plan reserved) = shaped.OrderPlan plan
 plan_in (room.Nodes plan reserved) = shaped.TreePlan plan
 
--- how many bytes the buffers for its parts hold
+-- how many bytes the buffers for the plan's parts hold
 abbrev pub held_bytes : Room → ℕ
 held_bytes (room.Levels plan reserved) = reserved_bytes reserved
 held_bytes (room.Nodes plan reserved) = tree_reserved_bytes reserved
 
--- and those with the lists that are joined
+-- how many bytes these buffers and the lists that are joined hold
 abbrev pub bytes_held : Joins → ℕ
 bytes_held joins = buffers_bytes joins.lists + held_bytes joins.room
 
--- lists that are there before the plan is known hold exactly what lists by these bounds take
+-- lists that were made before the plan hold exactly the bytes that lists with room by these bounds take
 abbrev pub HoldExactly : Scans → List ℕ → Type 0
 HoldExactly scans.Whole bounds = ⊤
 HoldExactly (scans.Listed lists) bounds = buffers_bytes lists ≡ lists_bytes bounds
 
--- a plan over these lists, and buffers with room for each of its parts over them
+-- there is a plan over these lists, and buffers with room for each part of the plan over them
 abbrev pub IsRoomOver : Query → Tables → List (List ℕ) → Room → Type 0
 IsRoomOver query ts lists (room.Levels plan reserved) = IsPlanOf query ts lists plan × IsReadyFor query ts lists plan.order reserved
 IsRoomOver query ts lists (room.Nodes plan reserved) = IsTreePlanOf query ts lists plan × HasTreeRooms plan reserved
@@ -77,13 +77,13 @@ HasRoom query db (rest.Rows joins) = CanJoin query db joins
 HasRoom query db (rest.Audit joins) = CanJoin query db joins
 HasRoom query db (rest.Nothing plan) = ⊤
 
--- what is left to do is over these lists
+-- the joins that are left to do are over these lists
 abbrev pub AreOverLists : List (List ℕ) → PendingOutput → Type 0
 AreOverLists lists (rest.Rows joins) = lists_of joins.lists.items ≡ lists
 AreOverLists lists (rest.Audit joins) = lists_of joins.lists.items ≡ lists
 AreOverLists lists (rest.Nothing plan) = ⊤
 
--- the lists and buffers of what is left to do hold exactly so many bytes
+-- the lists and buffers of what is left to do hold exactly `bytes` bytes
 abbrev pub HoldsBytes : ℕ → PendingOutput → Type 0
 HoldsBytes bytes (rest.Rows joins) = bytes_held joins ≡ bytes
 HoldsBytes bytes (rest.Audit joins) = bytes_held joins ≡ bytes
@@ -95,7 +95,7 @@ plan_left (rest.Rows joins) = plan_in joins.room
 plan_left (rest.Audit joins) = plan_in joins.room
 plan_left (rest.Nothing plan) = plan
 
--- the two texts of joins
+-- the two texts that joins can give: the rows, and the audit
 abbrev pub rows_from : Joins → Query → Database → List ℕ
 rows_from joins query db = rows_lines query.select (printed_rows query db (joined_entries (plan_in joins.room)))
 

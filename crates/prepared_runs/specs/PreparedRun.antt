@@ -1,4 +1,4 @@
--- What was read and planned, as what the run comes to.
+-- What was read and planned, as the outcome of the run.
 use Rattle.std.specs.Prelude.{◌≡◌, length}
 use Rattle.plans.specs.LeftDeep.{IsPlan}
 use Rattle.reserve_plan.specs.Memory.{plan_bytes}
@@ -37,8 +37,8 @@ pub record IsPlanned (made : PreparedStatsFilePlan) : Type 0 where
   pub plan : IsPlan (length made.query.from) made.plan
   pub bytes : made.bytes ≡ plan_bytes made.plan.order made.plan.scans made.plan.levels
 
--- all that is left to write can be written without memory: a query, the database of its tables, a plan for its entries, and the room for
--- what is left to do; a file that keeps the rules; or a plan for the query's entries
+-- all that is left to write can be written without memory. A planned query has its database, a plan for its entries, and the room for what
+-- is left to do. A statistics file keeps the rules. A plan from a statistics file is one for the query's entries, with its bytes
 abbrev pub CanBeWritten : Schema → PreparedRun → Type 0
 CanBeWritten schema (ready.Planned prepared) = IsPrepared prepared
 CanBeWritten schema (ready.StatsMade made_stats) = KeepsRules schema made_stats.file

@@ -1,5 +1,5 @@
 -- How a run joins its entries: along an order, or over a tree. The parts of a plan are the levels of its order, or the inner nodes of its
--- tree: each has a bound, and is listed. Five other files tell one shape from the other too: Allowed (costs), PreparedQuery (rooms), Kept
+-- tree: each has a bound and a list of rows. Five other files tell one shape from the other: Allowed (costs), PreparedQuery (rooms), Kept
 -- (joined rows), Commands of safebound_words (budgets) and Promise of safebound_top (plan texts).
 use Rattle.std.specs.Prelude.{ℕ, ◌+◌, ◌-◌, List, length, map, slice_index, Result}
 use Rattle.std.specs.List.{range_with_len}
@@ -32,7 +32,7 @@ use Rattle.safebound_words.specs.declared.command.Shape.TheVariants as shapes
 
 -- ---- the choice of a plan
 
--- the best plan over a bound of each set of entries and one of each scan, or why there is none within the budget
+-- the best plan over a bound of each set of entries and one of each scan, or why no plan is within the budget
 abbrev pub answer_of : Shape → List ℕ → List ℕ → ℕ → Result AnyPlan PlanError
 answer_of shapes.Order sets scans budget = seen (λ plan. shaped.OrderPlan plan) (plan_answer sets scans budget)
 answer_of shapes.Tree sets scans budget = seen (λ plan. shaped.TreePlan plan) (tree_answer sets scans budget)
@@ -43,7 +43,7 @@ planned_by shape given accuracy budget = answer_of shape (given.sets accuracy) (
 
 -- ---- what a plan says
 
--- it is one for n entries
+-- the plan is for n entries
 abbrev pub IsShapedPlan : ℕ → AnyPlan → Type 0
 IsShapedPlan n (shaped.OrderPlan plan) = IsPlan n plan
 IsShapedPlan n (shaped.TreePlan plan) = IsTreePlan n plan
@@ -61,17 +61,17 @@ abbrev pub part_bound : AnyPlan → ℕ → ℕ
 part_bound (shaped.OrderPlan plan) k = slice_index plan.levels k
 part_bound (shaped.TreePlan plan) k = bound_at plan (length plan.scans + k)
 
--- the entries in the order in which their rows stand in a choice for all of them: that of the plan, or of the tree's leaves
+-- the entries in the order in which their rows stand in a choice for all of them: the plan's order, or the order of the tree's leaves
 abbrev pub joined_entries : AnyPlan → List ℕ
 joined_entries (shaped.OrderPlan plan) = plan.order
 joined_entries (shaped.TreePlan plan) = entries_at plan (node_count plan - 1)
 
--- how many bytes its buffers take: the lists, and those of its levels or nodes
+-- how many bytes the plan's buffers take: the lists to be joined, and the buffers of its levels or nodes
 abbrev pub shape_bytes : AnyPlan → ℕ
 shape_bytes (shaped.OrderPlan plan) = plan_bytes plan.order plan.scans plan.levels
 shape_bytes (shaped.TreePlan plan) = tree_bytes plan
 
--- those of them that aren't lists of rows to be joined
+-- how many bytes the plan's buffers take without the lists to be joined
 abbrev pub parts_bytes : AnyPlan → ℕ
 parts_bytes (shaped.OrderPlan plan) = rooms_bytes (rooms plan.order plan.scans plan.levels)
 parts_bytes (shaped.TreePlan plan) = tree_rooms_bytes plan
@@ -83,7 +83,7 @@ IsPlanOver query tables lists (shaped.TreePlan plan) = IsTreePlanOf query tables
 
 -- ---- the rows of its parts
 
--- over lists: the choices of one listed row of each entry of a level or a node for which every conjunct holds that names only these
+-- the rows of part k over lists: the choices of a listed row of each of its entries for which every conjunct holds that names only these
 abbrev pub part_rows : Query → Tables → List (List ℕ) → AnyPlan → ℕ → List (List ℕ)
 part_rows query tables lists (shaped.OrderPlan plan) k = list_levels query tables lists plan.order (k + 1)
 part_rows query tables lists (shaped.TreePlan plan) k = node_rows query tables lists plan (length plan.scans + k)
@@ -104,7 +104,7 @@ abbrev pub shape_lines : List Source → AnyPlan → List ℕ
 shape_lines sources (shaped.OrderPlan plan) = plan_lines sources plan
 shape_lines sources (shaped.TreePlan plan) = tree_lines sources plan
 
--- a line for each part with its bound and its number of rows, where these are the numbers
+-- a line for each part with its bound and its number of rows, which `counts` has
 abbrev pub shape_audits : List Source → AnyPlan → List ℕ → List ℕ
 shape_audits sources (shaped.OrderPlan plan) counts = audit_lines sources plan counts
 shape_audits sources (shaped.TreePlan plan) counts = tree_audits plan counts

@@ -5,7 +5,7 @@ use Rattle.base_io.specs.Devices.{Reading}
 use Rattle.safebound_words.specs.Answer.{command_of}
 use Rattle.safebound_words.specs.declared.command.Command.{Command}
 
--- the shop of a command: `demo` alone has one
+-- the shop of a command. Only `demo` has a shop
 abbrev pub shop_asked : Option Command → Option ℕ
 shop_asked None = None
 shop_asked (Some command) = command.shop
@@ -14,7 +14,7 @@ shop_asked (Some command) = command.shop
 abbrev pub shop_of : List (List ℕ) → Option ℕ
 shop_of words = shop_asked (command_of words)
 
--- a store that tells just the files of this shop, and of which no read fails or is counted
+-- a store that tells exactly the files of this shop, and counts no fault and no miss
 abbrev pub shop_store : ℕ → Reading
 shop_store number = record {
   files = Some (demo_files number);
@@ -25,7 +25,7 @@ shop_store number = record {
   misses_after = 0;
 }
 
--- the store that is read: that of the shop, if there is one, or else the one that was handed in
+-- the store that is read: the store of the shop, if there is a shop, or else the store that was handed in
 abbrev pub store_read : Option ℕ → Reading → Reading
 store_read None handed_in = handed_in
 store_read (Some number) handed_in = shop_store number

@@ -1,5 +1,5 @@
--- What the bounds of a run are made from, and the rows that are joined: in each function below each source has its line. Which sources join
--- reduced scans is also said of accepted runs (`BoundsHold` in AcceptedQuery), and in the promise (`AreScans` of safebound_top).
+-- The source of a run's bounds, and the rows that it joins. Each function below has a line for each source. Two more places say which sources
+-- join reduced scans: `BoundsHold` in AcceptedQuery, and `AreScans` of safebound_top, in the promise.
 use Rattle.std.specs.Prelude.{ℕ, List, ⊤}
 use Rattle.schema_types.specs.declared.types.Schema.{Schema}
 use Rattle.query_types.specs.declared.types.Query.{Query}
@@ -28,16 +28,16 @@ scans_by sources.Keyed query tables accuracy = scan_bounds_of query tables accur
 scans_by sources.Reduced query tables accuracy = list_sizes query (reduced_of query tables)
 scans_by sources.Counted query tables accuracy = list_sizes query (reduced_of query tables)
 
--- the bound of each set of entries, at an accuracy: from statistics of whole columns; from these, and conditions that are carried through keys
--- within the set; from the degree lists of the columns over reduced scans; or by counting over these, which compresses nothing
+-- the bound of each set of entries, at an accuracy. Columns: from statistics of whole columns. Keyed: from these, and conditions carried through
+-- keys within the set. Reduced: from degree lists of reduced scans. Counted: by counting over these scans, uncompressed
 unfoldable pub sets_by : ListSource → Schema → Query → Tables → ℕ → List ℕ
 sets_by sources.Columns schema query tables accuracy = set_bounds_of query tables accuracy
 sets_by sources.Keyed schema query tables accuracy = set_bounds_by_keys schema query tables accuracy
 sets_by sources.Reduced schema query tables accuracy = set_bounds_over query tables (reduced_of query tables) accuracy
 sets_by sources.Counted schema query tables accuracy = set_bounds_by_counts query tables (reduced_of query tables)
 
--- what a source gives for a query of a schema over its tables: at an accuracy, a bound of each set of entries and one of each scan; and for
--- each entry the rows that are joined
+-- what a source gives for a query of a schema over its tables. At each accuracy it bounds each set of entries and each scan, and for each
+-- entry it gives the rows that are joined
 pub record Sourced : Type 0 where
   pub sets : ℕ → List ℕ
   pub scans : ℕ → List ℕ
@@ -50,7 +50,7 @@ sourced source schema query tables = record {
   lists = lists_by source query tables;
 }
 
--- what a source needs of the tables: that declared keys hold, where conditions are carried through them. Those of tables that were read do
+-- what a source needs of the tables: if conditions are carried through declared keys, these must hold. In tables that were read they do
 abbrev pub Needs : ListSource → Schema → Query → Tables → Type 0
 Needs sources.Columns schema query tables = ⊤
 Needs sources.Keyed schema query tables = DeclaredKeysHold schema query tables

@@ -1,4 +1,4 @@
--- What holds of what each source gives (safebound_laws, law `sources_stand`).
+-- What is proved of each source's bounds and lists of rows (law `sources_stand` of safebound_laws).
 use Rattle.std.specs.Prelude.{◌≡◌, ℕ, ◌^◌, List, length}
 use Rattle.query_types.specs.Named.{NamesItsEntries}
 use Rattle.query_types.specs.declared.types.Query.{Query}
@@ -16,7 +16,7 @@ pub record LoseNoRow (query : Query) (tables : Tables) (lists : List (List ℕ))
   pub last : NamesItsEntries query → (order : List ℕ) → IsOrderOfSet (entries_of query) order
       → list_levels query tables lists order (length order) ≡ level (conjuncts_of query tables) (row_counts tables) order (length order)
 
--- it gives such lists, and at every accuracy a bound of each scan and one of each set of entries that are never under these
+-- a source's lists lose no row of the answer, and at every accuracy its bounds of scans and of sets are never under the rows over these lists
 pub record IsSource (query : Query) (tables : Tables) (given : Sourced) : Type 0 where
   pub rows : LoseNoRow query tables given.lists
   pub of_scans : (accuracy : ℕ) → BoundLists query tables given.lists (given.scans accuracy)

@@ -1,4 +1,4 @@
--- Statistics files as stages of the verdict: one that is read, a plan from it, and one that is made of tables.
+-- The stages of the verdict with statistics files: a file is read, a query is planned from it, or a file is made from tables.
 use Rattle.std.specs.Prelude.{ℕ, List, Option, Result, Ok}
 use Rattle.limits.specs.Profile.{most_file}
 use Rattle.base_io.specs.Files.{Files}
@@ -26,7 +26,7 @@ use Rattle.table_files.specs.TableFile.{read}
 use Rattle.prepared_runs.specs.Limits.{within_limit}
 use Rattle.prepared_runs.specs.RunOutcome.{StatsMade, RunOutcome, PlannedFromStats}
 
--- the statistics file of this name, over a schema
+-- the statistics file that a text spells over a schema; below, that of the file of this name
 abbrev pub stats_of_text : Schema → List ℕ → Result StatsFile Refusal
 stats_of_text schema text = told stats_refusal (stats_answer schema text)
 
@@ -44,19 +44,19 @@ abbrev pub stats_file_ending : StatsFilePlanError → Ending
 stats_file_ending (error.Missing from) = ending.Refused (refusal.Stats cause.Missing from)
 stats_file_ending (error.Plan e) = plan_ending e
 
--- a plan that is made from a file, or MemoryLimit with its bytes
+-- the outcome of a plan from a file, or MemoryLimit with the bytes of the plan
 abbrev pub stats_file_plan_within : Query → StatsFile → Plan → Option ℕ → Result RunOutcome Refusal
 stats_file_plan_within query stats plan memory = within_limit memory (plan_bytes plan.order plan.scans plan.levels)
     (PlannedFromStats (record { query = query; file = stats; plan = plan; memory = memory }))
 
--- the plan of a query by what a file tells of it: the best order with its bounds, or the first entry for which something is missing, or
--- PastBits, or Budget with the least cost, or MemoryLimit with the bytes of the plan
+-- the plan of a query from a statistics file: the best order with its bounds. Or a refusal: Missing with the first entry for which something
+-- is missing, PastBits, Budget with the least cost, or MemoryLimit with the bytes of the plan
 unfoldable pub stats_file_plan_stage : Query → StatsFile → ℕ → Option ℕ → Result RunOutcome Refusal
 stats_file_plan_stage query stats budget memory = do
   plan ← told stats_file_refusal (stats_file_plan query stats budget)
   stats_file_plan_within query stats plan memory
 
--- the file of a query over its entries' rows, at an accuracy
+-- the statistics file of a query, made at an accuracy from the rows of its entries' tables
 abbrev pub stats_file_of_tables : Schema → Query → List (List Row) → ℕ → RunOutcome
 stats_file_of_tables schema query rows accuracy =
     StatsMade (record { schema = schema; query = query; rows = rows; file = file_of_query schema query (tables_in rows) accuracy })

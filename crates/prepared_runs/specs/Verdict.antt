@@ -44,7 +44,7 @@ or_usage (Some command) = Ok command
 abbrev pub command_stage : List (List ℕ) → Result Command Refusal
 command_stage words = or_usage (command_of words)
 
--- the schema, in the file of this name
+-- the schema that a text declares; below, that of the file of this name
 abbrev pub schema_of_text : List ℕ → Result Schema Refusal
 schema_of_text text = told schema_refusal (schema_answer text)
 
@@ -53,7 +53,7 @@ schema_stage name files = do
   text ← read file.Schema most_text name files
   schema_of_text text
 
--- the query, in the file of this name
+-- the query that a text asks; below, that of the file of this name
 abbrev pub query_of_text : Schema → List ℕ → Result Query Refusal
 query_of_text schema text = told query_refusal (query_answer schema text)
 
@@ -78,14 +78,14 @@ run_asked task query rows plan = record {
   out = task.out;
 }
 
--- the plan of a query over its entries' rows: the best order or tree with its bounds, or PastBits, or Budget with the least cost, or
+-- the plan of a query over its entries' rows: the best order or tree with its bounds. Or a refusal: PastBits, Budget with the least cost, or
 -- MemoryLimit with the bytes of the plan
 unfoldable pub plan_stage : PlanWork → Schema → Query → List (List Row) → Result RunOutcome Refusal
 plan_stage task schema query rows = do
   plan ← told plan_refusal (plan_asked task schema query (tables_in rows))
   within_limit task.memory (shape_bytes plan) (Planned (run_asked task query rows plan))
 
--- what is done with a query
+-- the outcome of the work on a query, or the first refusal
 abbrev pub work_run : Work → Schema → Query → Files → Result RunOutcome Refusal
 work_run (works.Plan task) schema query files = do
   rows ← tables_stage schema query.from files
@@ -97,7 +97,7 @@ work_run (works.PlanFromStats name budget memory) schema query files = do
   stats ← stats_stage name schema files
   stats_file_plan_stage query stats budget memory
 
--- what is done over a schema: something with a query, or new rows are appended
+-- the outcome of an aim over a schema, or the first refusal: work on a query, or new rows that are appended
 abbrev pub aim_run : Aim → Schema → Files → Result RunOutcome Refusal
 aim_run (aims.Query name work) schema files = do
   query ← query_stage name schema files
@@ -137,8 +137,8 @@ IsAimFile (aims.Query name work) schema files id =
 IsAimFile (aims.Append append) schema files id =
     (id ≡ file.Stats) ⊎ IsOkAnd (section_read append schema files) (λ section. id ≡ file.Table section.table)
 
--- The verdict reads this file, and nothing before it is refused. If the words are a command, the verdict reads the schema's file; if that
--- declares a schema, it reads the files that are read after it.
+-- The verdict reads this file, and nothing before it is refused. It is the schema's file, or, if that declares a schema, one that is read
+-- after it. If the words are no command, no file is read.
 abbrev pub IsReached : List (List ℕ) → Files → FileId → Type 0
 IsReached words files id = IsOkAnd (command_stage words)
     (λ command. (id ≡ file.Schema) ⊎ IsOkAnd (schema_stage command.schema_file files) (λ schema. IsAimFile command.aim schema files id))

@@ -1,4 +1,4 @@
-//! `append`: reads a statistics file and new rows of one of its tables, and makes the file with these rows.
+//! `append`: reads a statistics file and new rows of one of its tables, and makes the file that counts these rows too.
 ghost use Rattle.std.specs.Prelude.{◌≡◌, ◌+◌, ◌<◌, All, IfErr, IfOk, IsOkAnd, Ok, find, length, nat_le, option_map};
 ghost use Rattle.std.specs.Str.{str_eq_ignore_ascii_case};
 ghost use Rattle.limits.specs.Profile.{most_rows};
@@ -28,7 +28,7 @@ use stats_file::{StatsFile, TableStats};
 use std::alloc::Global;
 use table_files::{TableRows, read_rows};
 
-/// A statistics file, the table that has new rows, by its place in the schema, and these rows. The file counts them already.
+/// The table that has new rows, by its place in the schema, these rows, and the statistics file that counts them too.
 #[derive(Drop)]
 pub struct PreparedAppend {
     pub table: u32,
@@ -36,7 +36,7 @@ pub struct PreparedAppend {
     pub file: StatsFile,
 }
 
-/// The place of a table, and how many rows its section of a file has.
+/// A table, by its place in the schema, and the number of rows that its section of a statistics file counts.
 #[derive(Clone, Copy)]
 pub struct Counted {
     pub table: u32,
@@ -50,7 +50,7 @@ fn are_alike(one: &str, other: &str) -> bool
     one.eq_ignore_ascii_case(other)
 }
 
-// Whether a section is that of a table of this name.
+// Whether a section is that of the table of this name, apart from letter case.
 fn is_named(name: &Word, schema: &Schema, section: &TableStats) -> bool
     requires { section.now.table < length schema.now.tables }
     ensures { result ≡ is_of_table schema.now name.now section.now }
@@ -72,7 +72,7 @@ fn section_named<'a>(name: &Word, schema: &Schema, stats: &'a StatsFile) -> Opti
     None
 }
 
-// The table of this name, and the rows of its section.
+// The table of this name and the number of rows in its section, or Missing if the file has no section of it.
 fn count_section(name: &Word, schema: &Schema, stats: &StatsFile) -> Result<Counted, Refusal>
     requires { KeepsRules schema.now stats.now }
     ensures counted { seen counted (section_stage name.now schema.now stats.now) ≡ result }
@@ -91,14 +91,14 @@ fn count_section(name: &Word, schema: &Schema, stats: &StatsFile) -> Result<Coun
     }
 }
 
-// Whether a table may have this many rows and `more` new ones.
+// Whether a table may have `before` rows and `more` new ones.
 fn are_few(before: u32, more: u32) -> bool
     ensures { result ≡ nat_le (before + more) most_rows }
 {
     u64::from(before) + u64::from(more) <= u64::from(MOST_ROWS)
 }
 
-// Makes the file with new rows of a table, unless the table has too many rows with them.
+// Makes the file that counts a table's new rows, unless the table then has too many rows.
 fn grow(
     alloc: Global,
     schema: &Schema,
@@ -120,7 +120,7 @@ fn grow(
             found: u64::from(MOST_ROWS) + 1,
         }));
     }
-    // A pool tells of its texts where it is asked for them.
+    // These two calls are for the proof: their contracts say what a pool's texts are.
     let _texts = rows.pool.len();
     characters_differ(&rows.pool);
     let file = append_rows(alloc, schema, stats, found.table, &rows.cells, &rows.pool)?;
@@ -131,7 +131,7 @@ fn grow(
     })
 }
 
-// Reads the new rows of a table, and makes the file with them.
+// Reads the new rows of a table, and makes the file that counts them.
 fn append_read<S: Store>(
     alloc: Global,
     store: &mut S,
@@ -152,7 +152,7 @@ fn append_read<S: Store>(
     grow(alloc, schema, stats, found, rows)
 }
 
-// Finds the section of the table, reads its new rows, and makes the file with them.
+// Finds the section of the table, reads its new rows, and makes the file that counts them.
 fn append_to<S: Store>(
     alloc: Global,
     store: &mut S,
@@ -171,8 +171,8 @@ fn append_to<S: Store>(
     append_read(alloc, store, &append.rows_file, schema, stats, found)
 }
 
-/// Reads a statistics file and new rows of one of its tables, and makes the file with these rows. It doesn't read the rows that the table
-/// had before.
+/// Reads a statistics file and new rows of one of its tables, and makes the file that counts these rows too. It doesn't read the rows that the
+/// table had before.
 pub fn prepare_append<S: Store>(
     alloc: Global,
     store: &mut S,

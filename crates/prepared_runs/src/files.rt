@@ -28,7 +28,7 @@ pub fn load_schema<S: Store>(alloc: Global, store: &mut S, name: &Word) -> Resul
     Ok(schema)
 }
 
-/// Reads the query that the file of this name asks of a schema.
+/// Reads the query in the file of this name, over a schema.
 pub fn load_query<S: Store>(
     alloc: Global,
     store: &mut S,

@@ -1,4 +1,4 @@
-//! The joins of a run, in the memory that was taken for them.
+//! Runs the joins of a plan, in the memory that was taken for them.
 ghost use Rattle.std.specs.Prelude.{◌≡◌, ◌+◌};
 ghost use Rattle.planned_joins.specs.PlansOf.{IsReadyFor};
 ghost use Rattle.reserve_plan.specs.Memory.{buffers_bytes, reserved_bytes};
@@ -29,13 +29,13 @@ use tree_rows::{BushyDone, BushyReserved};
 /// A plan that was joined, with the rows of its parts in the buffers that were taken for them.
 #[derive(Drop)]
 pub enum Joined {
-    /// An order, the lists of its entries, and its levels.
+    /// An order, the rows of each entry, and the rows of each level.
     Levels(Plan, Vec<RowBuf<u32>>, Reserved),
-    /// A join tree, and its nodes.
+    /// A join tree, and the rows of each node.
     Nodes(BushyPlan, BushyDone),
 }
 
-// Lists the levels of an order.
+// Lists the rows of each level of an order.
 fn join_levels(
     plan: Plan,
     lists: Vec<RowBuf<u32>>,
@@ -55,7 +55,7 @@ fn join_levels(
     Joined::Levels(plan, lists, filled)
 }
 
-// Lists the nodes of a join tree.
+// Lists the rows of each node of a join tree.
 fn join_nodes(
     plan: BushyPlan,
     lists: Vec<RowBuf<u32>>,

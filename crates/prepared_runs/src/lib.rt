@@ -4,7 +4,7 @@
 //! of the run. They write nothing. `join` lists the rows of a plan in the memory that was taken for them. `open_shop` makes the files that
 //! `demo` reads.
 //!
-//! Callers cite `verdict` (in `specs/Verdict.antt`). It is computed in stages, from the words to the plan, and is a refusal or an `RunOutcome`.
+//! Callers cite `verdict` (in `specs/Verdict.antt`). It is computed in stages, from the words to the plan, and is a `RunOutcome` or a refusal.
 //! Each step that reads has the clause `Reads` over its stage of the verdict. What `prepare_run` answers can be written without further memory
 //! (`CanBeWritten` in `specs/PreparedRun.antt`).
 //!

@@ -39,19 +39,19 @@ use schema_types::Schema;
 use std::alloc::Global;
 use table_files::read_tables;
 
-/// What is left to do after the plan text is written. It has all memory that this takes.
+/// What is left to do after the plan text is written, with all memory that it takes.
 #[derive(Drop)]
 pub enum PendingOutput {
-    /// Joins, and writes the rows for all entries.
+    /// To join, and to write the rows of the answer.
     Rows(Joins),
-    /// Joins, and writes how many rows each level or inner node has.
+    /// To join, and to write how many rows each level or inner node has.
     Audit(Joins),
-    /// Only this plan's text is written, and nothing is joined.
+    /// Nothing: this plan's text is all that the run writes.
     Nothing(AnyPlan),
 }
 
-/// A query over tables that is ready to be joined: the query, the database of its tables, where its plan's bounds come from, the limit of
-/// memory, if there is one, the bytes of the plan, and what is left to do, with the plan.
+/// A query that is ready to be joined: its tables, the source of its bounds, and what is left to do, with the plan. `memory` is the limit of
+/// memory, if there is one, and `bytes` is what the plan takes.
 #[derive(Drop)]
 pub struct PreparedQuery {
     pub query: Query,
@@ -222,7 +222,7 @@ fn prepare_work<S: Store>(
 }
 
 /// Does everything of a command but the writing. For a query it reads the query and then its tables or the statistics file, plans, and takes
-/// all memory of the run. For `append` it reads a statistics file and new rows, and makes the file with them.
+/// all memory of the run. For `append` it reads a statistics file and new rows, and makes the file that counts them too.
 pub fn prepare_run<S: Store>(
     alloc: Global,
     store: &mut S,

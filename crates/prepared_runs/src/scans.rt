@@ -1,4 +1,4 @@
-//! Where bounds and rows come from, the lists of rows that a run joins, and the memory of the joins.
+//! Gets the bounds and rows of a run from its source, and takes the memory of the joins.
 ghost use Rattle.std.specs.Prelude.{◌≡◌, ◌⊎◌, ◌<◌, ◌≤◌, ℕ, Err, IfErr, IfOk, Ok, length, slice_index};
 ghost use Rattle.order_search.specs.declared.refusal.PlanError.TheVariants as error;
 ghost use Rattle.reserve_plan.specs.Memory.{buffers_bytes, lists_bytes};
@@ -46,7 +46,7 @@ struct Given {
     scans: Scans,
 }
 
-/// A plan, and the rows that are joined by it.
+/// A plan, and the rows that it joins.
 #[derive(Drop)]
 pub struct PlanWithScans {
     pub plan: AnyPlan,
@@ -158,7 +158,7 @@ fn list_scans(
     Ok(lists)
 }
 
-// The list of each entry's rows. Whole scans are listed now.
+// The list of each entry's rows. Whole scans are listed now; other lists are there already.
 fn list_rows(
     alloc: Global,
     task: &PlanWork,

@@ -1,4 +1,4 @@
-//! Statistics files: one that is read, a plan from it, and one that is made of a query's tables.
+//! Reads statistics files, plans queries from them, and makes them from a query's tables.
 ghost use Rattle.std.specs.Prelude.{◌≡◌, ◌≤◌, IfErr, IfOk, Ok, length};
 ghost use Rattle.limits.specs.Profile.{most_budget, most_entries};
 ghost use Rattle.base_io.specs.Devices.{reading};
@@ -69,7 +69,7 @@ pub(crate) fn load_stats<S: Store>(
     Ok(file)
 }
 
-// How planning from a file ended.
+// The ending of a run whose planning from a file failed.
 fn ending_of(error: StatsFilePlanError) -> Ending
     ensures { result ≡ stats_file_ending error }
 {

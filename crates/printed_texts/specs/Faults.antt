@@ -1,4 +1,4 @@
--- The line of each status but Done: words behind blanks.
+-- The line that tells each status but Done: `error`, and then words with a blank before each.
 use Rattle.std.specs.Prelude.{ℕ, Bool, true, false, List, [], ◌∷◌, ◌++◌, map, codes, decimal, Option, None, Some, slice_get, if◌then◌else◌}
 use Rattle.std.specs.Char.{to_ascii_lowercase}
 use Rattle.std.specs.List.{flat_map}
@@ -24,8 +24,8 @@ use Rattle.outcomes.specs.declared.refusal.TableCause.TheVariants as table
 use Rattle.outcomes.specs.declared.status.Status.{Status}
 use Rattle.outcomes.specs.declared.status.Status.TheVariants as status
 
--- what a line may name: the files of the two texts and the one of statistics, as the command names them; the file of a table's rows, where the
--- command names it; and the tables of the schema
+-- what a line may name: the command's words for the schema file, the query file, the statistics file and, if there is one, the file of new
+-- rows. It may also name tables of the schema, if the schema was read
 pub record Names : Type 0 where
   pub schema_file : List ℕ
   pub query_file : List ℕ
@@ -81,7 +81,7 @@ stats_cause stats.Syntax = codes "syntax"
 stats_cause stats.Rule = codes "rule"
 stats_cause stats.Missing = codes "missing"
 
--- what is wrong with this table's file; a column by its name
+-- what is wrong with this table's file. A column is given by its name
 abbrev pub table_cause : TableCause → Option Table → List (List ℕ)
 table_cause (table.Utf8 at) t = codes "utf8" ∷ (decimal at ∷ [])
 table_cause (table.Header number) t = codes "header" ∷ (column_in t number ∷ [])
@@ -104,7 +104,7 @@ limit_word limit.InValues = codes "in-values"
 limit_word limit.Conjuncts = codes "conjuncts"
 limit_word limit.Outputs = codes "outputs"
 
--- the limit is one of a whole file, which the line names
+-- the limit is for a whole file, whose name is then in the line
 abbrev pub is_of_file : LimitKind → Bool
 is_of_file limit.FileBytes = true
 is_of_file limit.Rows = true
@@ -125,7 +125,7 @@ abbrev pub sink_name : SinkId → List ℕ
 sink_name sink.Out = codes "out"
 sink_name sink.Notes = codes "notes"
 
--- an absent file is told like a read that failed
+-- a file that isn't there has the line of a read that failed
 abbrev pub read_words : FileId → Names → List (List ℕ)
 read_words id names = codes "read" ∷ (file_name id names ∷ [])
 
@@ -150,7 +150,7 @@ fault (status.ReadFault id) names = read_words id names
 fault (status.WriteFault cut) names = codes "write" ∷ (sink_name cut ∷ [])
 fault status.NoMemory names = codes "memory" ∷ []
 
--- each word behind a blank
+-- a word with a blank before it
 abbrev pub behind_blank : List ℕ → List ℕ
 behind_blank word = 32 ∷ word
 

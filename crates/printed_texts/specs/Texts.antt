@@ -16,8 +16,8 @@ value_text (Text text) = text
 abbrev pub row_text : Row → List ℕ
 row_text row = record_text (map value_text row)
 
--- the header: a record of the output names after folding, in upper case where they aren't delimited; two may be equal. A first name that begins
--- with U+FEFF isn't quoted for that. A reader who drops a byte order mark, as this program does, then reads the name without it
+-- the header: the record of the outputs' names after folding, in upper case where they aren't delimited; two may be equal. A first name that
+-- begins with U+FEFF isn't quoted. So a reader that drops a byte order mark, as this program does, reads the name without it
 abbrev pub header_text : List Out → List ℕ
 header_text outs = record_text (map (λ (out : Out). out.name) outs)
 

@@ -1,12 +1,12 @@
--- The plan text of a join tree, and the audit text. A node is named by its number: the leaves by their places in FROM, from 0 on, and behind
--- them the inner nodes.
+-- The plan text of a join tree, and the audit text. A node is named by its number: first the leaves, by their places in FROM from 0 on, and
+-- then the inner nodes.
 use Rattle.std.specs.Prelude.{ℕ, ◌+◌, List, [], ◌∷◌, ◌++◌, length, codes, decimal}
 use Rattle.query_types.specs.declared.types.Source.{Source}
 use Rattle.tree_plans.specs.declared.bushy.BushyPlan.{BushyPlan}
 use Rattle.tree_plans.specs.declared.bushy.Join.{Join}
 use Rattle.printed_texts.specs.Plans.{rows_and_line_end, scan_lines}
 
--- node K LEFT RIGHT BOUND, and the line of it
+-- `node K LEFT RIGHT BOUND`, and below the same with a line end
 abbrev pub node_bound : ℕ → Join → List ℕ
 node_bound k join =
     codes "node " ++ (decimal k ++ (codes " " ++ (decimal join.left ++ (codes " " ++ (decimal join.right ++ (codes " " ++ decimal join.bound))))))
@@ -23,7 +23,7 @@ node_lines k (join ∷ joins) = node_line k join ++ node_lines (k + 1) joins
 abbrev pub tree_lines : List Source → BushyPlan → List ℕ
 tree_lines sources plan = scan_lines sources plan.scans ++ node_lines (length plan.scans) plan.joins
 
--- node K LEFT RIGHT BOUND ROWS
+-- the line `node K LEFT RIGHT BOUND ROWS`
 abbrev pub node_audit : ℕ → Join → ℕ → List ℕ
 node_audit k join rows = node_bound k join ++ rows_and_line_end rows
 
@@ -33,6 +33,6 @@ node_audits k [] counts = []
 node_audits k (join ∷ joins) [] = []
 node_audits k (join ∷ joins) (rows ∷ counts) = node_audit k join rows ++ node_audits (k + 1) joins counts
 
--- a line for each inner node, where these are the numbers of their rows. Of one entry there is none
+-- a line for each inner node; `counts` are their numbers of rows. The tree of one entry has no inner node, and so no line
 abbrev pub tree_audits : BushyPlan → List ℕ → List ℕ
 tree_audits plan counts = node_audits (length plan.scans) plan.joins counts

@@ -1,4 +1,4 @@
-//! The line that tells a status. Nothing here takes memory.
+//! Writes the line that tells a status. No function here allocates memory.
 ghost use Rattle.std.specs.Prelude.{◌≡◌, ◌≢◌, ◌∷◌, [], codes, decimal, option_copied, option_map};
 ghost use Rattle.base_io.specs.Devices.{growth};
 ghost use Rattle.base_io.specs.Writes.{Wrote};
@@ -10,8 +10,8 @@ use base_io::{Failed, Sink};
 use outcomes::{FileId, QueryCause, Refusal, SchemaCause, SinkId, StatsCause, Status, TableCause};
 use schema_types::{LimitKind, Schema, Table};
 
-/// What a line may name: the files of the two texts and the one of statistics, as the command names them; the file of a
-/// table's rows, where the command names it; and the tables of the schema, where it was read.
+/// What a line may name: the command's words for the schema file, the query file, the statistics file and, if there is one, the file of new
+/// rows. It may also name tables of the schema, if the schema was read.
 #[derive(Clone, Copy)]
 pub struct Named<'a> {
     pub schema_file: &'a str,
@@ -39,7 +39,7 @@ fn table_word<'a>(table: Option<&'a Table>) -> FileWord<'a>
     }
 }
 
-// The file of a table's rows.
+// The file of a table's rows: the file that the command names, or else the table's own.
 fn rows_word<'a>(rows_file: Option<&'a str>, table: Option<&'a Table>) -> FileWord<'a>
     ensures { file_text result ≡ file_of_rows (option_map (λ name. name.now) rows_file.entry) (option_copied table.entry) }
 {
@@ -67,7 +67,7 @@ fn column_name<'a>(table: Option<&'a Table>, number: u32) -> &'a [u8]
     }
 }
 
-// A file as a line names it.
+// A file's name in a line.
 fn file_word<'a>(file: FileId, names: Named<'a>) -> FileWord<'a>
     ensures { file_text result ≡ file_name file (named names.entry) }
 {
@@ -175,7 +175,7 @@ const FIELD: &[u8] = b"field";
 
 const KEY: &[u8] = b"key";
 
-// A cause in a text, and its place.
+// Writes the line of a refused text: the word for the text, the cause, and the place.
 fn write_place<N: Sink>(text: &[u8], cause: &[u8], at: u32, sink: &mut N) -> Result<(), Failed>
     ensures { Wrote (growth N.taken N.faults sink.old sink.new) (error_line (text.now ∷ (cause.now ∷ (decimal at ∷ [])))) result }
 {
@@ -183,7 +183,7 @@ fn write_place<N: Sink>(text: &[u8], cause: &[u8], at: u32, sink: &mut N) -> Res
     write_error_line(&[text, cause, digits.format(at).as_bytes()], sink)
 }
 
-// A cause in a table's file, with two numbers.
+// Writes the line of a table's refused file, with the cause and two numbers.
 fn write_numbers<N: Sink>(
     file: FileWord,
     cause: &[u8],
@@ -200,7 +200,7 @@ fn write_numbers<N: Sink>(
     write_words_about(&[TABLE], file, &[cause, one, other], sink)
 }
 
-// The line of a table's refusal.
+// Writes the line of a table's refused file.
 fn write_table_fault<N: Sink>(
     file: FileWord,
     table: Option<&Table>,
@@ -227,7 +227,7 @@ fn write_table_fault<N: Sink>(
     }
 }
 
-// The line of a limit.
+// Writes the line of a limit that is passed.
 fn write_limit<N: Sink>(
     which: LimitKind,
     file: FileWord,
@@ -259,14 +259,14 @@ fn write_memory_limit<N: Sink>(bytes: u128, sink: &mut N) -> Result<(), Failed>
     write_error_line(&[MEMORY_LIMIT, digits.format(bytes).as_bytes()], sink)
 }
 
-// The line of an absent file, and of a read that failed.
+// Writes the line of a file that isn't there or whose read failed.
 fn write_read<N: Sink>(file: FileId, names: Named, sink: &mut N) -> Result<(), Failed>
     ensures { Wrote (growth N.taken N.faults sink.old sink.new) (error_line (read_words file (named names.entry))) result }
 {
     write_words_about(&[READ], file_word(file, names), &[], sink)
 }
 
-// The line of a refusal.
+// Writes the line of a refusal.
 fn write_refusal<N: Sink>(refusal: Refusal, names: Named, sink: &mut N) -> Result<(), Failed>
     ensures { Wrote (growth N.taken N.faults sink.old sink.new) (error_line (refusal_words refusal (named names.entry))) result }
 {

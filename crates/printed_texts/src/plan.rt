@@ -1,4 +1,4 @@
-//! The plan text. Nothing here takes memory.
+//! Writes the plan text of an order. No function here allocates memory.
 ghost use Rattle.std.specs.Prelude.{ℕ, ◌≡◌, ◌≤◌, ◌<◌, ◌+◌, ◌++◌, length, slice_get};
 ghost use Rattle.std.specs.List.{AllByRecursion};
 ghost use Rattle.base_io.specs.Devices.{growth};
@@ -47,7 +47,7 @@ pub(crate) fn write_scans<N: Sink>(
     Ok(())
 }
 
-/// Writes what the line of a level begins with: its number, its entry's name in the query, and its bound in rows.
+/// Writes the start of a level's line: its number, its entry's name in the query, and its bound in rows. It writes no line end.
 pub fn put_level_bound<N: Sink>(
     k: u64,
     alias: &str,
@@ -84,7 +84,7 @@ pub fn alias_at(sources: &[Source], entry: u8) -> &str
     sources[entry as usize].alias.as_str()
 }
 
-// A line for each level, along the order.
+// Writes a line for each level, along the order.
 fn write_levels<N: Sink>(
     sources: &[Source],
     order: &[u8],

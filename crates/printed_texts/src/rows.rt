@@ -1,4 +1,4 @@
-//! The records of the rows text. Nothing here takes memory.
+//! Writes the records of the rows text. No function here allocates memory.
 ghost use Rattle.std.specs.Prelude.{◌≡◌, ◌≤◌, All, length};
 ghost use Rattle.std.specs.List.{flat_map};
 ghost use Rattle.base_io.specs.Devices.{growth};
@@ -23,7 +23,7 @@ pub enum Line<'a> {
     Rows(&'a [u32]),
 }
 
-// What stands in a line for an output: its name, or its value.
+// An output's field in a line: in the header its name, else its value.
 fn field<'a>(out: &'a Out, line: Line, db: &'a Database) -> ValueRef<'a>
     requires tables { AreTables db.now }
     requires column { IsColumnOf db.now out.now.column }
@@ -49,7 +49,7 @@ fn put_value<N: Sink>(value: ValueRef, buffer: &mut Buffer, sink: &mut N) -> Res
     }
 }
 
-// The same of a record's only field.
+// Puts the only field of a record.
 fn put_lone_value<N: Sink>(value: ValueRef, buffer: &mut Buffer, sink: &mut N) -> Result<(), Failed>
     ensures { Put (growth N.taken N.faults sink.old sink.new) buffer.old buffer.new
         (lone_field_text (value_text (value_of_ref value.entry))) result }
@@ -63,7 +63,7 @@ fn put_lone_value<N: Sink>(value: ValueRef, buffer: &mut Buffer, sink: &mut N) -
     }
 }
 
-// A comma, and then the field of another output.
+// Puts a comma, and then the field of an output.
 fn put_next<N: Sink>(
     out: &Out,
     line: Line,
@@ -81,7 +81,7 @@ fn put_next<N: Sink>(
     put_value(field(out, line, db), buffer, sink)
 }
 
-// The fields of further outputs, each behind a comma.
+// Puts the fields of all outputs after the first, each with a comma before it.
 fn put_others<N: Sink>(
     outs: &[Out],
     line: Line,
@@ -101,7 +101,7 @@ fn put_others<N: Sink>(
     Ok(())
 }
 
-// The fields of two or more outputs.
+// Puts the fields of two or more outputs.
 fn put_several<N: Sink>(
     outs: &[Out],
     line: Line,
@@ -121,7 +121,7 @@ fn put_several<N: Sink>(
     put_others(&outs[1..], line, db, buffer, sink)
 }
 
-// The fields of a record.
+// Puts the fields of a record.
 fn put_fields<N: Sink>(
     outs: &[Out],
     line: Line,

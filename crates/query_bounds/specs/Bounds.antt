@@ -1,4 +1,4 @@
--- The bounds that statistics give: of each entry, of its scan, and of all sets of entries.
+-- The bounds that statistics give: a row bound and lists for each entry, a bound for each scan, and one for each set of entries.
 use Rattle.std.specs.Prelude.{◌≡◌, ℕ, Bool, ◌&&◌, ◌==◌, nat_lt, if◌then◌else◌, List, [], length, map, None, Some}
 use Rattle.std.specs.List.{list_any, range_with_len}
 use Rattle.berge_tree.specs.declared.edges.Place.{Place}
@@ -19,7 +19,7 @@ scan_rows query known entry = row_bound (known.counts entry) entry query.conjunc
 abbrev pub scan_list : Query → Statistics → ℕ → ℕ → List ℕ
 scan_list query known entry column = filtered_list (known.lists entry column) entry query.conjuncts
 
--- the column is one of these
+-- the column of the entry is at this place; below, at one of these places
 abbrev pub is_at : ℕ → ℕ → Place → Bool
 is_at entry column place = place.entry == entry && place.column == column
 
@@ -30,14 +30,14 @@ is_among places entry column = list_any (is_at entry column) places
 abbrev pub joined_columns : Query → List Place
 joined_columns query = places_of (equalities_of query)
 
--- of each FROM entry its row bound, and of each joined column its list; 0 and no list for all others
+-- the row bound of each FROM entry, and the list of each joined column; 0 and the empty list for all others
 abbrev pub entry_bounds : Query → Statistics → EntryBounds
 entry_bounds query known = record {
   rows = λ entry. if nat_lt entry (length query.from) then scan_rows query known entry else 0;
   list = λ entry column. if is_among (joined_columns query) entry column then scan_list query known entry column else [];
 }
 
--- the row bounds of the first n entries are there, the lists of these columns, and nothing else
+-- `lists` has the row bounds of the first n entries, the lists of the columns at these places, and nothing else
 pub record HoldsKnown (query : Query) (known : Statistics) (n : ℕ) (places : List Place) (lists : EntryLists) : Type 0 where
   pub rows : (entry : ℕ) → rows_of lists entry ≡ (if nat_lt entry n then Some (scan_rows query known entry) else None)
   pub columns : (entry column : ℕ) → list_of lists entry column

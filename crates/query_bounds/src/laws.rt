@@ -1,4 +1,4 @@
-//! What holds of the bounds of a query, as laws. Each call does nothing.
+//! A law on the bounds of a query. The call does nothing.
 ghost use Rattle.std.specs.Prelude.{◌+◌, ◌*◌, ◌^◌, ◌<◌, ◌≤◌, ℕ, length, slice_index};
 ghost use Rattle.entry_sets.specs.Sets.{entries_of_set};
 ghost use Rattle.query_types.specs.declared.types.Query.{Query};
@@ -10,8 +10,8 @@ ghost use Rattle.level_bounds.specs.Whole.{uncompressed};
 ghost use Rattle.query_bounds.specs.Bounds.{set_bounds};
 ghost use Rattle.query_bounds.specs.Statistics.{AreWhole, Statistics};
 
-/// Near, where no conjunct names just one entry: at accuracy K, K^n times the bound of a set of n entries from compressed lists of whole
-/// columns is at most (K + 1)^n times its bound from the degree lists themselves.
+/// Bounds from compressed lists are near those from degree lists, if no conjunct names just one entry. At accuracy K, a set of n entries has a
+/// bound from compressed lists of whole columns, and one from their degree lists. K^n times the first is at most (K + 1)^n times the second.
 pub fn unfiltered_bounds_are_near()
     ensures { (query : Query) (known : Statistics) (tables : Tables) (key : Keys) (accuracy subset : ℕ)
         → AreWhole query known tables key accuracy → subset < 2 ^ length query.from

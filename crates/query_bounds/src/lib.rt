@@ -3,8 +3,8 @@
 //! In: a query in parts, and the statistics of its entries. Out: for each FROM entry a row bound of its scan, and one list for each of its
 //! joined columns. set_bounds folds the bounds of all sets of entries from these.
 //!
-//! Callers cite `Tells` for what statistics tell of a query, `StandFor` for when that stands for tables, and `scan_bounds` and `set_bounds`
-//! for the answers.
+//! Callers cite `Tells` for what is known from statistics, `StandFor` for when that holds of tables, and `scan_bounds` and `set_bounds` for
+//! the answers.
 #![tactic(auto)]
 
 mod bounds;

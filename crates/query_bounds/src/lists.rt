@@ -1,4 +1,4 @@
-//! What statistics tell of the entries, as their row bounds and lists.
+//! From statistics to the row bound of each entry and the list of each joined column.
 ghost use Rattle.std.specs.Prelude.{◌≡◌, ◌≢◌, ◌⊎◌, ◌≤◌, ℕ, [], length, IfOk, OnOk, Some, unwrap_or};
 ghost use Rattle.limits.specs.Profile.{most_entries};
 ghost use Rattle.join_graph.specs.Conjuncts.{equalities_of};
@@ -55,8 +55,8 @@ fn add_list(
     Ok(())
 }
 
-/// The row bound of each FROM entry, and the list of each column that an equality of the query joins, once each. The equalities are those
-/// of `split`.
+/// The row bound of each FROM entry, and the list of each column that an equality of the query joins, once each. `parts` is what `split` makes
+/// of the query.
 pub fn entry_lists(
     alloc: Global,
     query: &Query,

@@ -97,16 +97,16 @@ BooleanTerm T = made all_of (listed terminal.And (BooleanFactor T))
 abbrev pub ConditionOf : Language CondNode → Language CondNode
 ConditionOf T = made any_of (listed terminal.Or (BooleanTerm T))
 
--- no text at all
+-- the language without any text
 abbrev pub Nothing : {A : Type 0} → Language A
 Nothing text value = ⊥
 
--- the tests with at most so many parentheses, one within the other, around conditions
+-- the tests in which parentheses around conditions are nested at most so deep
 abbrev pub TestWithin : ℕ → Language CondNode
 TestWithin zero = BooleanTest Nothing
 TestWithin (suc n) = BooleanTest (ConditionOf (TestWithin n))
 
--- the conditions, with any number of parentheses
+-- the conditions, however deep their parentheses are nested
 unfoldable pub SearchCondition : Language CondNode
 SearchCondition text value = (n : ℕ) × ConditionOf (TestWithin n) text value
 

@@ -1,5 +1,5 @@
--- The tokens of a query's syntax tree: that each of them has a property, where a name is one of the terminals of names, a
--- number's digits are a number, and so on.
+-- Each token of a query's syntax tree has a property P, and is of the kind that its place asks. For example, a name has one of the terminals
+-- of names, and the digits of a number are a number.
 use Rattle.std.specs.Prelude.{All, IfSome, ⊤, [], ◌∷◌}
 use Rattle.ll_grammars.specs.declared.lexeme.Lexeme.{Lexeme}
 use Rattle.ll_grammars.specs.declared.terminal.Terminal.TheVariants as terminal
@@ -43,7 +43,7 @@ IsTestOf P (test.Compare left op right) = IsOperandOf P left × IsOperandOf P ri
 IsTestOf P (test.Between left negated low high) = IsOperandOf P left × IsOperandOf P low × IsOperandOf P high
 IsTestOf P (test.In left negated values) = IsOperandOf P left × All (IsLiteralOf P) values
 
--- one layer of a condition: a test's tokens have P; AND, OR and NOT have none of their own
+-- one layer of a condition: a test's tokens have P. AND, OR and NOT have no tokens of their own
 abbrev pub IsLayerOf : (Lexeme → Type 0) → CondNode-F CondNode → Type 0
 IsLayerOf P (layer.And members) = ⊤
 IsLayerOf P (layer.Or members) = ⊤

@@ -1,5 +1,5 @@
--- The same rules read from left to right, with one token of look-ahead. Where a rule's alternatives begin alike, what
--- they begin with is read first, and the alternatives give a function of it.
+-- The rules of the grammar as parsers from left to right, with one token of look-ahead. Where a rule's alternatives begin alike, this
+-- beginning is read first, and each alternative gives a function of it.
 use Rattle.std.specs.Prelude.{ℕ, zero, suc, Bool, Option, Some, None, List, [], ◌∷◌}
 use Rattle.ll_grammars.specs.declared.lexeme.Lexeme.{Lexeme}
 use Rattle.ll_grammars.specs.declared.terminal.Terminal.{Terminal}
@@ -25,7 +25,7 @@ use Rattle.query_grammar.specs.Values.{stands, meaning, column, number, text, of
 use Rattle.query_grammar.specs.Nesting.{nesting}
 use Rattle.query_grammar.specs.Grammar.{name_terminals, sign_terminals, digit_terminals}
 
--- ---- what stands behind a first part, as a function of it
+-- ---- what follows a first part, as a function of that part
 
 abbrev pub applied : {A B : Type 0} → A × (A → B) → B
 applied parts = parts.1 parts.0
@@ -42,7 +42,7 @@ ranged parts negated operand = test.Between operand negated parts.1.0 parts.1.1.
 abbrev pub listed_in : Lexeme × List LiteralNode → Bool → OperandNode → TestNode
 listed_in parts negated operand = test.In operand negated parts.1
 
--- the dot's star
+-- the star after the dot
 abbrev pub star_of : Lexeme → Lexeme → OutNode
 star_of star table = out.All table
 
@@ -158,7 +158,7 @@ read_cond t = read_made any_of (read_terms t)
 unfoldable pub read_inside : Parser CondNode → Parser CondNode
 read_inside t = read_in_parentheses (read_cond t)
 
--- at most so many parentheses, one within the other, are opened
+-- a test in which parentheses are nested at most so deep
 unfoldable pub read_test : ℕ → Parser CondNode
 read_test zero = read_flat
 read_test (suc n) = read_either (terminal.Open ∷ []) (read_inside (read_test n)) read_flat
@@ -166,7 +166,7 @@ read_test (suc n) = read_either (terminal.Open ∷ []) (read_inside (read_test n
 unfoldable pub read_within : ℕ → Parser CondNode
 read_within n = read_cond (read_test n)
 
--- as many as the tokens open at one place
+-- a condition in which parentheses are nested at most as deep as in the tokens
 unfoldable pub read_condition : Parser CondNode
 read_condition text = read_within (nesting text) text
 

@@ -1,4 +1,4 @@
--- The values of texts put together: what a rule's parts make.
+-- What a rule makes of its parts: the value of a text from the values of the texts that it is put together from.
 use Rattle.std.specs.Prelude.{Bool, true, false, Option, Some, None, List, [], ◌∷◌}
 use Rattle.ll_grammars.specs.declared.lexeme.Lexeme.{Lexeme}
 use Rattle.query_grammar.specs.declared.tree.ColumnNode.{ColumnNode}
@@ -31,7 +31,7 @@ meaning value word = value
 
 -- ---- columns, literals and operands
 
--- the first name is the table's where two stand
+-- the first of two names is the table's
 abbrev pub column : Lexeme × Option Lexeme → ColumnNode
 column (name, None) = record { table = None; column = name }
 column (table, Some name) = record { table = Some table; column = name }
@@ -70,7 +70,7 @@ abbrev pub negate : Bool × CondNode → CondNode
 negate (false, c) = c
 negate (true, c) = cond.Not c
 
--- a chain with one member is that member
+-- a chain of ANDs, or below of ORs, that has one member is that member
 abbrev pub all_of : List CondNode → CondNode
 all_of (c ∷ []) = c
 all_of [] = cond.And []

@@ -1,4 +1,4 @@
-//! FROM, WHERE, and whole queries.
+//! Reads FROM, WHERE, and whole queries.
 ghost use Rattle.ll_grammars.specs.Rules.{IsReadAs};
 ghost use Rattle.query_grammar.specs.Readers.{read_within, read_source, read_join, read_joins, read_part, read_next_part, read_parts, read_condition_behind_where, read_filter, read_query};
 

@@ -1,5 +1,4 @@
-//! Conditions: OR, AND, NOT and parentheses. `depth` is how many more parentheses may be opened, one within the
-//! other, so that the recursion is bounded.
+//! Reads conditions: OR, AND, NOT and parentheses. `depth` is how deep parentheses may still be nested, which bounds the recursion.
 ghost use Rattle.std.specs.Prelude.{◌≡◌, List, IfOk, IfErr};
 ghost use Rattle.ll_grammars.specs.Rules.{IsReadAs};
 ghost use Rattle.query_grammar.specs.Values.{negate, all_of, any_of};
@@ -11,7 +10,7 @@ use crate::tree::CondNode;
 use base_io::{Boxed, Seq};
 use ll_grammars::{Reader, Stop};
 
-/// The AND of conditions, where one alone is itself.
+/// The AND of these conditions. One alone stays as it is.
 fn every(mut conditions: Seq<CondNode>) -> CondNode
     ensures { result ≡ all_of conditions }
 {
@@ -25,7 +24,7 @@ fn every(mut conditions: Seq<CondNode>) -> CondNode
     }
 }
 
-/// The OR of conditions, where one alone is itself.
+/// The OR of these conditions. One alone stays as it is.
 fn any(mut conditions: Seq<CondNode>) -> CondNode
     ensures { result ≡ any_of conditions }
 {
@@ -39,7 +38,7 @@ fn any(mut conditions: Seq<CondNode>) -> CondNode
     }
 }
 
-/// The condition, or NOT of it.
+/// NOT of the condition if `negated`, else the condition.
 fn negated_if(reader: &Reader<'_>, negated: bool, condition: CondNode) -> Result<CondNode, Stop>
     ensures value { IfOk result (λ c. c ≡ negate (negated, condition)) }
     ensures memory { IfErr result (λ e. e ≡ Stop.NoMemory) }
@@ -153,7 +152,7 @@ fn condition_at(reader: &mut Reader<'_>, depth: u32) -> Result<CondNode, Stop>
     Ok(any(terms))
 }
 
-/// A condition with at most so many parentheses, one within the other.
+/// Reads a condition in which parentheses are nested at most `depth` deep.
 #[tactic(auto, unfolding(crate::specs::Readers::read_within))]
 pub fn condition(reader: &mut Reader<'_>, depth: u32) -> Result<CondNode, Stop>
     ensures { IsReadAs result reader.new (read_within depth reader.old) }

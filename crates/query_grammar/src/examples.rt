@@ -3,10 +3,10 @@ ghost use Rattle.ll_grammars.specs.Places.{IsSyntaxPlace};
 ghost use Rattle.query_grammar.specs.Examples.{precedence, precedence_tree, grouped, grouped_tree, not_twice, inner_alone};
 ghost use Rattle.query_grammar.specs.Grammar.{QuerySpecification};
 
-/// In `SELECT * FROM R WHERE A=1 OR B=2 AND NOT C=3` AND binds tighter than OR, and NOT covers one test;
-/// `SELECT * FROM R WHERE (A=1 OR B=2) AND C=3` is grouped as its parentheses say, which leave no other trace.
-/// `SELECT * FROM R WHERE NOT NOT A=1` goes wrong at its second NOT, byte 26, and
-/// `SELECT * FROM R INNER S` at the S, byte 22, since INNER asks for JOIN.
+/// In `SELECT * FROM R WHERE A=1 OR B=2 AND NOT C=3` AND binds tighter than OR, and NOT covers one test.
+/// `SELECT * FROM R WHERE (A=1 OR B=2) AND C=3` is grouped as its parentheses say.
+/// `SELECT * FROM R WHERE NOT NOT A=1` goes wrong at its second NOT, at byte 26.
+/// `SELECT * FROM R INNER S` goes wrong at the S, at byte 22, since JOIN has to follow INNER.
 pub fn small_texts()
     ensures precedence { QuerySpecification precedence precedence_tree }
     ensures grouping { QuerySpecification grouped grouped_tree }

@@ -1,9 +1,9 @@
-//! The grammar of query texts, their syntax tree, and a parser that reads it both ways: what a list of tokens
-//! spells, and where it goes wrong.
+//! The grammar of query texts, their syntax tree, and a parser. The parser gives the tree that a list of tokens spells, or the place where
+//! they go wrong.
 //!
-//! Second stage of a query's way: after the lexer, and after `nesting` was looked at, `read_query_text` makes the
-//! tree; names and literals stay tokens, and the next stage binds them. A caller cites `QuerySpecification` (which tokens
-//! spell which tree), `nesting`, and `IsSyntaxError` of `ll_grammars`.
+//! This is the second stage of reading a query. It follows the lexer and a test of `nesting`. `read_query_text` makes the tree, in which names
+//! and literals are still tokens; the next stage binds them. Callers cite `QuerySpecification` (which tokens spell which tree), `nesting`, and
+//! `IsSyntaxError` of `ll_grammars`.
 #![tactic(auto)]
 
 mod clauses;

@@ -1,4 +1,4 @@
-//! Names, columns, literals and operands.
+//! Reads names, columns, literals and operands.
 ghost use Rattle.ll_grammars.specs.Reading.{read_one, read_maybe};
 ghost use Rattle.ll_grammars.specs.Rules.{IsReadAs};
 ghost use Rattle.query_grammar.specs.Readers.{read_name, read_other_name, read_new_name, read_dotted_name, read_column, read_number, read_literal, read_operand, read_next_literal, read_literals, read_value_list};
@@ -10,7 +10,7 @@ use crate::tree::{ColumnNode, LiteralNode, OperandNode};
 use base_io::Seq;
 use ll_grammars::{Lexeme, Reader, Stop, Terminal};
 
-/// A token that is one of these terminals, if the next one is.
+/// Reads the next token if it is one of these terminals.
 pub fn optional(reader: &mut Reader<'_>, terminals: &[Terminal]) -> Result<Option<Lexeme>, Stop>
     ensures { IsReadAs result reader.new (read_maybe terminals.now (read_one terminals.now) reader.old) }
 {

@@ -1,4 +1,4 @@
-//! What stands behind SELECT.
+//! Reads the outputs, which follow SELECT.
 ghost use Rattle.ll_grammars.specs.Rules.{IsReadAs};
 ghost use Rattle.query_grammar.specs.Readers.{read_out, read_next_out, read_listed_outs, read_outs};
 
@@ -8,7 +8,7 @@ use crate::tree::{ColumnNode, OutNode, OutsNode};
 use base_io::Seq;
 use ll_grammars::{Reader, Stop};
 
-/// `name "." "*" | colref [ [ AS ] name ]`. The first name is read before it is known what it names.
+/// `name "." "*" | colref [ [ AS ] name ]`. The first name is read before it is known whether it names a table or a column.
 #[tactic(auto, unfolding(crate::specs::Readers::read_out, crate::specs::Readers::read_dotted_out))]
 fn output(reader: &mut Reader<'_>) -> Result<OutNode, Stop>
     ensures { IsReadAs result reader.new (read_out reader.old) }

@@ -13,9 +13,9 @@ use crate::tree::QueryNode;
 use ll_grammars::{Lexeme, Reader, Stop, SyntaxError};
 use std::alloc::Global;
 
-/// The query that the tokens spell, or where they go wrong: the start of the first token with which the tokens so
-/// far begin no query, or `text_len`, the length of their text in bytes, where more tokens are needed. One pass
-/// over the tokens; the recursion is as deep as parentheses are nested, and no deeper.
+/// Reads the query that the tokens spell, in one pass, or finds the place where they go wrong. That is the start of the first token that no
+/// query has after the tokens before it. If more tokens are needed, it is `text_len`, the length of the text in bytes. The recursion is as
+/// deep as the parentheses are nested.
 #[tactic(auto, using(crate::proofs::Whole::spelled, crate::proofs::Whole::wrong_after, crate::proofs::Whole::wrong_at, crate::proofs::Whole::all_found))]
 pub fn read_query_text(
     alloc: Global,

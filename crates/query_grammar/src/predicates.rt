@@ -1,4 +1,4 @@
-//! Predicates: comparisons, BETWEEN and IN.
+//! Reads predicates: comparisons, BETWEEN and IN.
 ghost use Rattle.ll_grammars.specs.Rules.{IsReadAs};
 ghost use Rattle.query_grammar.specs.Readers.{read_operator, read_negation, read_predicate, read_flat};
 
@@ -35,7 +35,7 @@ fn operator(reader: &mut Reader<'_>) -> Result<Op, Stop>
     }
 }
 
-/// Whether NOT stands there, which is read.
+/// Whether the next token is NOT. If it is, it is read.
 #[tactic(auto, unfolding(crate::specs::Readers::read_negation))]
 pub fn negation(reader: &mut Reader<'_>) -> Result<bool, Stop>
     ensures { IsReadAs result reader.new (read_negation reader.old) }
@@ -48,7 +48,7 @@ pub fn negation(reader: &mut Reader<'_>) -> Result<bool, Stop>
     }
 }
 
-/// Reads the operand first, since all three predicates begin with one.
+/// A comparison, BETWEEN or IN. The operand is read first, since all three begin with one.
 #[tactic(auto, unfolding(crate::specs::Readers::read_predicate))]
 fn predicate(reader: &mut Reader<'_>) -> Result<TestNode, Stop>
     ensures { IsReadAs result reader.new (read_predicate reader.old) }

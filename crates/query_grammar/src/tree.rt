@@ -59,8 +59,8 @@ pub enum TestNode {
     },
 }
 
-/// A search condition (SQL-92 8.12). `And` and `Or` have two members or more, in the order of the text.
-/// Parentheses leave no trace but their grouping.
+/// A search condition (SQL-92 8.12). `And` and `Or` have two members or more, in the order of the text. Parentheses only group, and aren't
+/// kept.
 #[derive(Debug, Drop)]
 pub enum CondNode {
     And(Seq<CondNode>),

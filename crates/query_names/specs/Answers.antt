@@ -3,12 +3,12 @@ use Rattle.std.specs.Prelude.{◌≡◌, ℕ, List, [], ◌∷◌, Option, Some,
 use Rattle.query_names.specs.declared.errors.QueryError.{QueryError}
 use Rattle.query_names.specs.declared.errors.QueryError.TheVariants as error
 
--- the first of a list, where it has one
+-- the first member of a list, if it has one
 abbrev pub first : {A : Type 0} → List A → Option A
 first [] = None
 first (one ∷ rest) = Some one
 
--- a refusal at the first of these offences against names; want of memory may come at any time
+-- a Name error at the first of these places; NoMemory may come at any time
 abbrev pub IsNameError : List ℕ → QueryError → Type 0
 IsNameError places (error.Name place) = first places ≡ Some place
 IsNameError places error.NoMemory = ⊤
@@ -16,7 +16,7 @@ IsNameError places (error.Syntax place) = ⊥
 IsNameError places (error.Kind place) = ⊥
 IsNameError places (error.Limit which n) = ⊥
 
--- the first that was found, or else the first of these
+-- the offence that was found before, or else the first of these
 abbrev pub or_first : Option ℕ → List ℕ → Option ℕ
 or_first (Some n) others = Some n
 or_first None others = first others

@@ -1,4 +1,4 @@
--- What the code that binds names knows: the schema, the text and the FROM entries; and the definitions over them.
+-- What a `Binder` knows: the schema, the text and the FROM entries; and the definitions of this crate over them.
 use Rattle.std.specs.Prelude.{◌≡◌, ℕ, Bool, List, take, Option}
 use Rattle.std.specs.List.{filter_map, flat_map}
 use Rattle.query_grammar.specs.declared.tree.CondNode.{CondNode}
@@ -29,11 +29,11 @@ schema_of binder = binder.catalog.now.schema.now
 abbrev pub from_of : Binder → List Source
 from_of binder = binder.entries.now.sources
 
--- the columns of this name of some entries
+-- the columns of this name in these entries
 abbrev pub columns_in : Schema → List ℕ → List Entry → List EntryColumn
 columns_in schema name entries = filter_map (column_in schema name) entries
 
--- of some entries in scope, so many that of the columns of each name the first two are theirs
+-- for every name, `brief` has the same first two columns of that name as all entries in scope
 pub record Shows (binder : Binder) (visible : Visible) : Type 0 where
   pub same : (name : List ℕ)
       → take 2 (columns_in (schema_of binder) name visible.brief)

@@ -1,4 +1,4 @@
--- What looking at the tests of a condition tells of them, and what is built on the way.
+-- What the code finds and builds when it looks at the tests of a condition.
 use Rattle.std.specs.Prelude.{◌≡◌, ◌≤◌, ℕ, Bool, false, not, if◌then◌else◌, List, [], ◌∷◌, ◌++◌, length, map, None}
 use Rattle.std.specs.List.{flat_map}
 use Rattle.query_grammar.specs.declared.tree.LiteralNode.{LiteralNode}
@@ -21,11 +21,11 @@ use Rattle.query_names.specs.Binding.{from_of, name_offences_of, is_text_by, tes
 
 -- ---- operands
 
--- what a literal is
+-- the value, the kind and the first token of a literal
 abbrev pub bound_literal : List ℕ → LiteralNode → BoundOperand
 bound_literal text l = record { value = literal_value text l; is_text = is_text_literal l; first = first_of_literal l }
 
--- what an operand is that has no wrong name. Its value counts where FROM has at most 12 entries
+-- the same of an operand that has no wrong name. The value is only told if FROM has at most 12 entries
 pub record IsBound (binder : Binder) (scope : Scope) (operand : OperandNode) (bound : BoundOperand) : Type 0 where
   pub none : name_offences_of binder scope operand ≡ []
   pub text : bound.is_text ≡ is_text_by binder scope operand
@@ -34,7 +34,7 @@ pub record IsBound (binder : Binder) (scope : Scope) (operand : OperandNode) (bo
 
 -- ---- tests
 
--- a value of IN that isn't of the left operand's kind, and the equality with a value
+-- the place of a value of IN, if it isn't of the left operand's kind; below, the equality with a value
 abbrev pub wrong_literal : Bool → LiteralNode → List ℕ
 wrong_literal left l = at (differ left (is_text_literal l)) (first_of_literal l)
 
@@ -48,13 +48,13 @@ comparisons_by binder scope (test.Between left negated low high) =
     compared_by binder scope op.Ge left low ∷ compared_by binder scope op.Le left high ∷ []
 comparisons_by binder scope (test.In left negated values) = map (λ value. compared_by binder scope op.Eq left (of_literal value)) values
 
--- the condition that they make together
+-- the condition that a test's comparisons make together
 abbrev pub test_condition : TestNode → List Cond → Cond
 test_condition (test.Compare left how right) parts = (any_of parts).whole
 test_condition (test.Between left negated low high) parts = if negated then cond.Not (cond.And parts) else cond.And parts
 test_condition (test.In left negated values) parts = if negated then cond.Not (any_of parts).whole else (any_of parts).whole
 
--- whether they are members of the condition in which the test stands
+-- whether a test's comparisons are members of the condition in which the test stands
 abbrev pub is_range : TestNode → Bool
 is_range (test.Compare left how right) = false
 is_range (test.Between left negated low high) = not negated
@@ -62,8 +62,8 @@ is_range (test.In left negated values) = false
 
 -- ---- what looking leaves
 
--- Of these names none is wrong, and of these wrong kinds and too long lists the first is kept, where none was kept
--- before. These conditions are added where FROM has at most 12 entries, and no list is kept.
+-- No name is wrong. If no wrong kind was kept before, the first of these is kept, and likewise the first of these too long lists. These
+-- conditions are added if FROM has at most 12 entries and no list is kept.
 pub record Looked (binder : Binder) (names kinds lists : List ℕ) (held held' : HeldOffences) (found found' more : List Cond) : Type 0 where
   pub none : names ≡ []
   pub kind : held'.kind ≡ or_first held.kind kinds

@@ -1,4 +1,4 @@
--- Tables, columns and FROM entries by name (SQL-92 5.2, 6.3). Equality of names is that of texts after folding.
+-- Tables, columns and FROM entries by name (SQL-92 5.2, 6.3). Two names are equal if their texts are equal after folding.
 use Rattle.std.specs.Prelude.{ℕ, Bool, if◌then◌else◌, List, [], ◌∷◌, ◌++◌, map, Option, option_map, option_and_then, unwrap_or, slice_get, is_none, is_some}
 use Rattle.std.specs.List.{flat_map}
 use Rattle.ll_grammars.specs.declared.lexeme.Lexeme.{Lexeme}
@@ -43,7 +43,7 @@ sources_of part = part.first ∷ map (λ join. join.source) part.joins
 abbrev pub sources : QueryNode → List SourceNode
 sources query = flat_map sources_of query.parts
 
--- the token that names an entry: the second name, else the table's
+-- the token that names an entry: the alias if one is written, else the table's name
 abbrev pub alias_token : SourceNode → Lexeme
 alias_token source = unwrap_or source.alias source.table
 
@@ -66,7 +66,7 @@ aliases from = map (λ source. source.alias) from
 
 -- ---- offences
 
--- the place of a token, where it is wrong
+-- the place of a token, if it is wrong
 abbrev pub at : Bool → Lexeme → List ℕ
 at wrong token = if wrong then token.start ∷ [] else []
 

@@ -20,7 +20,7 @@ abbrev pub is_negative : Option Lexeme → Bool
 is_negative None = false
 is_negative (Some sign) = is_minus sign
 
--- a number with its sign, cut off at the ends of the range, which no number of a query passes
+-- a number with its sign, cut off at the ends of the 64-bit range. A query that has a number outside the range is refused
 abbrev pub signed : Bool → ℕ → ℤ
 signed true n = neg_ℤ (pos (min n (2 ^ 63)))
 signed false n = pos (min n (2 ^ 63 - 1))
@@ -29,12 +29,12 @@ signed false n = pos (min n (2 ^ 63 - 1))
 unfoldable pub number_value : List ℕ → Option Lexeme → Lexeme → ℤ
 number_value text sign digits = signed (is_negative sign) (value_of text digits)
 
--- from -2^63 to 2^63 - 1
+-- whether a number is outside the range, which goes from -2^63 to 2^63 - 1
 abbrev pub is_too_large : Bool → ℕ → Bool
 is_too_large true n = nat_lt (2 ^ 63) n
 is_too_large false n = nat_le (2 ^ 63) n
 
--- the sign right before a token, where one stands there
+-- the token before a number, if it is a sign
 abbrev pub sign_before : Option Lexeme → Option Lexeme
 sign_before None = None
 sign_before (Some token) = if is_sign token then Some token else None

@@ -88,7 +88,7 @@ module _ (schema : Schema) (text : List ℕ) (from : List Source) (scope : Scope
   is_text_operand (operand.Column reference) = is_text_column (resolve schema text from scope reference)
   is_text_operand (operand.Literal value) = is_text_literal value
 
-  -- another operand that isn't of the left one's kind
+  -- the place of another operand, if it isn't of the left one's kind
   abbrev pub kind_offence : Bool → OperandNode → List ℕ
   kind_offence left other = at (differ left (is_text_operand other)) (first_of other)
 
@@ -102,7 +102,7 @@ module _ (schema : Schema) (text : List ℕ) (from : List Source) where
   abbrev pub kind_offences_in : Scoped → List ℕ
   kind_offences_in c = flat_map (kind_offences schema text from c.scope) (tests c.condition)
 
-  -- the FROM entries, then the SELECT list, then the ON conditions and that of WHERE
+  -- the places of wrong names: first in FROM, then in the SELECT list, then in the ON conditions and in WHERE
   unfoldable pub name_offences : QueryNode → List ℕ
   name_offences query =
       from_offences schema text query
@@ -114,7 +114,7 @@ module _ (schema : Schema) (text : List ℕ) (from : List Source) where
 
 -- ---- lists of IN
 
--- the length of a test's list of IN, where that is more than 1,000; of any other test nothing
+-- the length of a test's IN list, if it has more than 1,000 values; any other test has nothing here
 abbrev pub too_long : TestNode → List ℕ
 too_long (test.Compare left op right) = []
 too_long (test.Between left negated low high) = []

@@ -28,7 +28,7 @@ numbered number (source ∷ rest) = record { number = number; table = source.tab
 unfoldable pub in_scope : List Source → Scope → List Entry
 in_scope from scope = numbered scope.first (slice_range from scope.first scope.end)
 
--- the only one of a list, where it has just one
+-- the member of a list that has just one
 abbrev pub only : {A : Type 0} → List A → Option A
 only [] = None
 only (one ∷ []) = Some one
@@ -47,11 +47,11 @@ unfoldable pub entry_named : List Source → Scope → List ℕ → Option Entry
 entry_named from scope alias = option_and_then (entry_at from scope) (place_of (aliases from) alias)
 
 module _ (schema : Schema) (text : List ℕ) (from : List Source) (scope : Scope) where
-  -- a column alone: of the one entry in scope whose table has it
+  -- a column without an alias: that of the only entry in scope whose table has it
   unfoldable pub column_alone : List ℕ → Option EntryColumn
   column_alone name = only (filter_map (column_in schema name) (in_scope from scope))
 
-  -- an alias and a column: of the entry of that alias, whose table has to have it
+  -- a column with an alias: that of the alias's entry, if its table has the column
   abbrev pub column_of : List ℕ → List ℕ → Option EntryColumn
   column_of alias name = option_and_then (column_in schema name) (entry_named from scope alias)
 
@@ -59,7 +59,7 @@ module _ (schema : Schema) (text : List ℕ) (from : List Source) (scope : Scope
   resolved None column = column_alone (name_of text column)
   resolved (Some table) column = column_of (name_of text table) (name_of text column)
 
-  -- what a reference stands for, where it stands for just one column
+  -- the column that a reference stands for, if there is just one
   unfoldable pub resolve : ColumnNode → Option EntryColumn
   resolve reference = resolved reference.table reference.column
 
@@ -73,7 +73,7 @@ pub record Scoped : Type 0 where
   pub scope : Scope
   pub condition : CondNode
 
--- the conditions of a part's joins: the entries from the part's first one up to the one just joined are in scope
+-- the conditions of a part's joins. In scope are the entries from the part's first one up to the one just joined
 abbrev pub joined : ℕ → ℕ → List JoinedNode → List Scoped
 joined first end [] = []
 joined first end (join ∷ rest) =
@@ -83,7 +83,7 @@ abbrev pub on_conditions : ℕ → List PartNode → List Scoped
 on_conditions first [] = []
 on_conditions first (part ∷ rest) = joined first (first + 1) part.joins ++ on_conditions (first + 1 + length part.joins) rest
 
--- all entries are in scope
+-- the scope of all entries
 abbrev pub whole_scope : List Source → Scope
 whole_scope from = record { first = 0; end = length from }
 

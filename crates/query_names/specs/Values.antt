@@ -60,7 +60,7 @@ any_of [] = alone (cond.Or [])
 any_of (one ∷ []) = alone one
 any_of (one ∷ other ∷ rest) = alone (cond.Or (one ∷ other ∷ rest))
 
--- the column that a reference stands for. None comes only from a wrong name, and such a query is refused, so that column is never used
+-- the column that a reference stands for. None comes only from a wrong name: then the query is refused, and this column is never used
 abbrev pub resolved_column : Option EntryColumn → ColumnRef
 resolved_column None = record { from = 0; column = 0 }
 resolved_column (Some column) = record { from = column.from; column = column.column }
@@ -125,7 +125,7 @@ outs_of_found schema None = []
 outs_of_found schema (Some entry) = outs_of_entry schema entry
 
 module _ (schema : Schema) (text : List ℕ) (from : List Source) where
-  -- the outputs of one item: all columns of an alias's entry, or one column, under the name that is written after it, else its own
+  -- the outputs of one item: all columns of an alias's entry, or one column. Its name is the one that is written after it, or else its own
   abbrev pub outs_of : OutNode → List Out
   outs_of (out.All alias) = outs_of_found schema (entry_named from (whole_scope from) (name_of text alias))
   outs_of (out.Column reference name) =

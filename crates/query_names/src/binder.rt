@@ -1,4 +1,4 @@
-//! What references to columns stand for.
+//! Finds the columns that references stand for.
 ghost use Rattle.std.specs.Prelude.{◌≡◌, ◌≤◌, ◌<◌, ◌+◌, IfOk, length, ◌==◌, count_by, option_map, slice_get};
 ghost use Rattle.sql_tokens.specs.Words.{IsLexemeOf};
 ghost use Rattle.query_names.specs.Scopes.{only, entry_named, whole_scope, column_of};
@@ -31,7 +31,7 @@ fn count_of(entries: &[Entry], table: u32) -> usize
 }
 
 impl<'a> Binder<'a> {
-    /// The only column of this name of some entries.
+    /// The column of this name in these entries, if there is just one.
     fn column_alone(&self, brief: &[Entry], name: &str) -> Option<EntryColumn>
         ensures { result ≡ only (columns_in (schema_of self.now) name.now brief.now) }
     {
@@ -71,7 +71,7 @@ impl<'a> Binder<'a> {
         self.catalog.column(column, entry)
     }
 
-    /// What a reference stands for, where it stands for just one column.
+    /// The column that a reference stands for, if there is just one.
     #[tactic(auto, unfolding(crate::specs::Scopes::resolve, crate::specs::Scopes::column_alone))]
     pub fn resolve(
         &self,
@@ -92,7 +92,7 @@ impl<'a> Binder<'a> {
         }
     }
 
-    /// No entries in scope, before the one of this number.
+    /// An empty scope that begins at the entry of this number.
     #[tactic(auto, using(crate::proofs::ScopeFacts::none_shown))]
     pub fn none_visible(&self, first: usize) -> Visible
         ensures shows { Shows self.now result }
@@ -133,7 +133,7 @@ impl<'a> Binder<'a> {
             .get(entry.table as usize)
     }
 
-    /// All entries in scope.
+    /// The scope of all entries.
     pub fn all_visible(&self) -> Result<Visible, NoMemory>
         ensures shows { IfOk result (λ visible. Shows self.now visible) }
         ensures scope { IfOk result (λ visible. visible.scope ≡ whole_scope (from_of self.now)) }

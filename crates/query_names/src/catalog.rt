@@ -41,7 +41,7 @@ impl<'a> Listed<'a> {
         Ok(Listed { table, columns })
     }
 
-    /// The column of this name, in an entry of the table.
+    /// The column of this name in the table, as a column of FROM entry `from`.
     pub fn column(&self, from: usize, name: &str) -> Option<EntryColumn>
         ensures { result ≡ column_named from self.now.table.now name.now }
     {

@@ -1,4 +1,4 @@
-//! The comparisons of a test: each name in them is resolved once.
+//! Builds the comparisons of a test. Each name in them is resolved once.
 ghost use Rattle.std.specs.Prelude.{◌≡◌, ◌≤◌, [], ◌∷◌, All, None, true, IfOk, IfErr, length, map};
 ghost use Rattle.std.specs.List.{flat_map};
 ghost use Rattle.sql_tokens.specs.Words.{IsLexemeOf};
@@ -32,7 +32,7 @@ fn left_of(test: &TestNode) -> OperandNode
     }
 }
 
-/// Whether a test is two comparisons that hold together, and so two members of what it stands in.
+/// Whether a test is BETWEEN without NOT. Its two comparisons are then two members of the condition in which it stands.
 fn is_range(test: &TestNode) -> bool
     ensures { result ≡ is_range test.now }
 {
@@ -43,7 +43,7 @@ fn is_range(test: &TestNode) -> bool
 }
 
 impl<'a> Binder<'a> {
-    /// Whether conditions are built: FROM has not too many entries, and no list of IN up to here is too long.
+    /// Whether conditions are built: FROM doesn't have too many entries, and no IN list so far is too long.
     pub(crate) fn builds(&self, held: &HeldOffences) -> bool
         ensures within { length (from_of self.now) ≤ 12 → held.now.list ≡ None → result ≡ true }
         ensures few { result ≡ true → length (from_of self.now) ≤ 12 }
@@ -52,7 +52,7 @@ impl<'a> Binder<'a> {
         self.entries.sources.len() <= MOST_ENTRIES && held.list.is_none()
     }
 
-    /// Compares two operands: keeps the place of the other one where its kind is wrong, and adds the comparison.
+    /// Compares two operands: keeps the place of the other one if its kind is wrong, and adds the comparison.
     fn compare(
         &self,
         left: &BoundOperand,

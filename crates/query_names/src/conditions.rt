@@ -1,4 +1,4 @@
-//! What conditions mean, and their members.
+//! Builds what conditions mean, and their members.
 ghost use Rattle.std.specs.Prelude.{[], ◌∷◌, All, IfOk, IfErr, map};
 ghost use Rattle.std.specs.List.{flat_map};
 ghost use Rattle.sql_tokens.specs.Words.{IsLexemeOf};
@@ -17,7 +17,7 @@ use query_grammar::CondNode;
 use query_types::Cond;
 
 impl<'a> Binder<'a> {
-    /// Looks at conditions, and says what each means.
+    /// Looks at conditions, and gives what each means.
     #[cycle(values)]
     fn values(
         &self,
@@ -80,8 +80,7 @@ impl<'a> Binder<'a> {
         }
     }
 
-    /// Looks at a condition, and adds the members of what it means where FROM has not too many entries, and no
-    /// list of IN up to here is too long.
+    /// Looks at a condition, and adds the members of what it means, unless FROM has too many entries or an IN list so far is too long.
     pub fn add_members(
         &self,
         visible: &Visible,

@@ -9,13 +9,13 @@ use std::alloc::{AllocError, AllocFailed};
 /// Why no query was read. Places are offsets in the text, in bytes from 0.
 #[derive(Clone, Copy, Debug, PartialEq, Eq)]
 pub enum QueryError {
-    /// The text is no text of the grammar, from this place on.
+    /// The text breaks the grammar at this place.
     Syntax { at: u32 },
     /// A name means nothing here, or more than one thing.
     Name { at: u32 },
-    /// This is not of the kind of what it is compared with.
+    /// The operand at this place is not of the kind of what it is compared with.
     Kind { at: u32 },
-    /// There are this many of a thing, or 2^64 - 1 where there are more.
+    /// There are more things than the limit allows: `found`, or 2^64 - 1 if there are more than that.
     Limit { which: LimitKind, found: u64 },
     NoMemory,
 }

@@ -1,13 +1,12 @@
 //! The names of a query text: what each stands for over a schema, whether the kinds of what is compared agree, and
 //! what a condition means.
 //!
-//! The stage between the tree of a query text (`query_grammar`) and the answer to it (`sql_parse`). A `Catalog` has
-//! a schema's tables and columns by name, `read_entries` the entries of FROM with their aliases, and a `Binder`
-//! over both answers for references and conditions. Each refuses at the first name that offends, by its place.
+//! This stage comes after `query_grammar`, which gives the tree of a query text, and before `sql_parse`, which answers the text. A `Catalog`
+//! has a schema's tables and columns by name. `read_entries` gives the FROM entries with their aliases. A `Binder` over both says what
+//! references and conditions mean. `read_entries` and the binder refuse at the first wrong name, by its place.
 //!
-//! Callers cite `resolve` (in `specs/Scopes.antt`) for what a reference stands for, `name_offences` and
-//! `all_kind_offences` (in `specs/Offences.antt`) for the places that are refused, and `query_of` (in
-//! `specs/Values.antt`) for the query that a tree means. A caller writes
+//! Callers cite `resolve` (in `specs/Scopes.antt`) for what a reference stands for, and `query_of` (in `specs/Values.antt`) for the query that
+//! a tree means. `name_offences` and `all_kind_offences` (in `specs/Offences.antt`) are the places that are refused. A caller writes
 //!
 //! ```text
 //! let catalog = Catalog::new(alloc, schema)?;
@@ -17,8 +16,8 @@
 //! binder.add_members(&visible, condition, &mut held, &mut conjuncts)?;
 //! ```
 //!
-//! and knows that the condition has no wrong name, of the wrong kinds in it the first, and the members of what it
-//! means.
+//! and then knows that the condition has no wrong name. `held` has the place of its first operand of a wrong kind, and `conjuncts` the members
+//! of what it means.
 #![tactic(auto)]
 
 mod binder;

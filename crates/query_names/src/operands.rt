@@ -37,7 +37,7 @@ fn is_text(kind: Kind) -> bool
     }
 }
 
-/// The same value once more.
+/// A copy of an operand.
 pub fn copied(alloc: Global, operand: &Operand) -> Result<Operand, NoMemory>
     ensures { IfOk result (λ copy. copy ≡ operand.now) }
 {
@@ -59,7 +59,7 @@ pub fn reference_to(column: EntryColumn) -> ColumnRef
     }
 }
 
-/// The same, for an entry of any number. A query with so many entries is refused, and nothing is built for it.
+/// The same for any entry number: numbers above 255 become 255. A query with so many entries is refused, so its references aren't used.
 fn capped_reference(column: EntryColumn) -> ColumnRef
     ensures { column.from < 256 → result ≡ resolved_column (Some column) }
 {
@@ -69,7 +69,7 @@ fn capped_reference(column: EntryColumn) -> ColumnRef
     })
 }
 
-/// What a literal is. It needs no name.
+/// The value, the kind and the first token of a literal.
 pub fn bind_literal(
     alloc: Global,
     text: &[u8],
@@ -93,7 +93,7 @@ pub fn bind_literal(
 }
 
 impl<'a> Binder<'a> {
-    /// What an operand is, or where its name is wrong.
+    /// The value, the kind and the first token of an operand, or the place of its wrong name.
     #[tactic(auto, unfolding(crate::specs::Binding::name_offences_of))]
     pub(crate) fn bind_operand(
         &self,

@@ -2,7 +2,7 @@
 use base_io::Seq;
 use schema_types::Kind;
 
-/// The FROM entries from one number up to another, which isn't among them.
+/// The FROM entries from number `first` up to number `end`, which isn't among them.
 #[derive(Clone, Copy, Debug)]
 pub struct Scope {
     pub first: usize,
@@ -24,7 +24,7 @@ pub struct EntryColumn {
     pub kind: Kind,
 }
 
-/// What a reference without an alias needs of the entries in scope: of each table the first two.
+/// The entries in scope, and in `brief` those that a reference without an alias needs: the first two of each table.
 #[derive(Drop)]
 pub struct Visible {
     pub scope: Scope,

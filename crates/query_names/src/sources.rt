@@ -52,7 +52,7 @@ fn alias_token(source: &SourceNode) -> Lexeme
     source.alias.unwrap_or(source.table)
 }
 
-/// The entry of a source, behind entries with these aliases.
+/// The entry of a source, after entries with these aliases. Its alias is added to them.
 fn entry(
     alloc: Global,
     catalog: &Catalog<'_>,

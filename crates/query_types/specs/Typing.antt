@@ -1,5 +1,5 @@
--- When a condition compares numbers with numbers and texts with texts. A column is of a kind by a relation, of which there are two: by a
--- schema, and by a database.
+-- When a condition compares numbers with numbers and texts with texts. The relation `IsColumn` says which columns exist and whether they are
+-- texts. Two relations are used: that of a schema, and that of a database.
 use Rattle.std.specs.Prelude.{◌≡◌, Bool, true, false, ⊤}
 use Rattle.query_types.specs.declared.types.ColumnRef.{ColumnRef}
 use Rattle.query_types.specs.declared.types.Operand.{Operand}
@@ -7,7 +7,7 @@ use Rattle.query_types.specs.declared.types.Operand.TheVariants as operand
 use Rattle.query_types.specs.declared.types.Cond.{Cond, every-Cond}
 use Rattle.query_types.specs.declared.types.Cond.TheOpen.{Cond-F}
 
--- an operand is a text, or else a number: a column by the relation, and so it exists
+-- an operand is a text if `text` is true, else a number. For a column the relation says so, and that it exists
 abbrev pub IsOfKind : (ColumnRef → Bool → Type 0) → Operand → Bool → Type 0
 IsOfKind IsColumn (operand.Column column) text = IsColumn column text
 IsOfKind IsColumn (operand.Int number) text = text ≡ false

@@ -18,7 +18,7 @@ abbrev pub is_text : Kind → Bool
 is_text kind.Int = false
 is_text (kind.Text n) = true
 
--- the FROM entry exists, its table, and the column in it
+-- the FROM entry, its table, and the column in that table exist
 pub record FindsColumn (schema : Schema) (from : List Source) (ref : ColumnRef) (column : Column) : Type 0 where
   pub source : Source
   pub entry : slice_get from ref.from ≡ Some source
@@ -45,8 +45,8 @@ pub record IsOutOf (schema : Schema) (from : List Source) (out : Out) : Type 0 w
   pub column : Column
   pub finds : FindsColumn schema from out.column column
 
--- a query of a schema: from 1 to 12 FROM entries, at most 256 conjuncts, every table, entry and column in it
--- exists, and every comparison has two operands of one kind
+-- a query of a schema: it has 1 to 12 FROM entries and at most 256 conjuncts. Every table, entry and column in it exists, and each comparison
+-- has two operands of one kind
 pub record IsOf (schema : Schema) (query : Query) : Type 0 where
   pub some : 0 < length query.from
   pub few : length query.from ≤ 12

@@ -4,15 +4,15 @@ use Rattle.std.specs.List.{Contains}
 use Rattle.berge_tree.specs.declared.edges.Edge.{Edge}
 use Rattle.join_steps.specs.Lists.{list_at, IsAscending, IsFamily}
 
--- one of these rows goes with the row
+-- the row has a partner among these rows; below, each of some rows has one
 abbrev pub HasPartner : (ℕ → ℕ → Bool) → List ℕ → ℕ → Type 0
 HasPartner equal partners row = (partner : ℕ) × Contains partners partner × (equal row partner ≡ true)
 
 abbrev pub HavePartners : (ℕ → ℕ → Bool) → List ℕ → List ℕ → Type 0
 HavePartners equal rows partners = (row : ℕ) → Contains rows row → HasPartner equal partners row
 
--- a family in which each row finds, for each equality of a column of its entry, a row in the list of the other entry.
--- `equal e left right` says that the rows have the same value in the two columns of the equality
+-- a family in which each row has, for each equality at its entry, a partner in the list of the other entry. `equal e left right` says that the
+-- two rows have the same value in the columns of the equality `e`
 pub record IsConsistent (scans : List (List ℕ)) (equalities : List Edge) (equal : Edge → ℕ → ℕ → Bool) (family : List (List ℕ))
     : Type 0 where
   pub is_family : IsFamily scans family
@@ -36,6 +36,6 @@ pub record IsMatch (scans : List (List ℕ)) (equalities : List Edge) (equal : E
 abbrev pub AreAscending : List (List ℕ) → Type 0
 AreAscending scans = (entry : ℕ) → IsAscending (list_at scans entry)
 
--- each of the two columns of an equality is of one of the first so many entries
+-- both columns of each equality are of entries below this number
 abbrev pub NameEntries : ℕ → List Edge → Type 0
 NameEntries entries equalities = (e : Edge) → Contains equalities e → (e.left.entry < entries) × (e.right.entry < entries)

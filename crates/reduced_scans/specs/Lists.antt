@@ -10,11 +10,11 @@ use Rattle.sql_meaning.specs.Databases.{AreTables, IsColumnOf}
 use Rattle.sql_meaning.specs.Tables.{cells_of}
 use Rattle.join_steps.specs.Lists.{list_at, lists_of}
 
--- none of them has room for a further row
+-- no list has room for another row
 abbrev pub HaveNoSpare : List (Rows ℕ) → Type 0
 HaveNoSpare lists = All (λ list. list.spare ≡ 0) lists
 
--- a list for each entry, of rows of its table, and no more than a table may have
+-- a list for each entry: its rows are rows of the entry's table, and no more than a table may have
 pub record AreRowLists (db : Database) (lists : List (Rows ℕ)) : Type 0 where
   pub tables : AreTables db
   pub count : length lists ≡ length db.slots
@@ -26,7 +26,7 @@ pub record AreRowLists (db : Database) (lists : List (Rows ℕ)) : Type 0 where
 abbrev pub column_of : Place → ColumnRef
 column_of place = record { from = place.entry; column = place.column }
 
--- both columns of the equality are of the database
+-- both columns of the equality are in the database
 pub record JoinsColumns (db : Database) (e : Edge) : Type 0 where
   pub left : IsColumnOf db (column_of e.left)
   pub right : IsColumnOf db (column_of e.right)

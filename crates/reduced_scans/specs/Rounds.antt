@@ -1,4 +1,4 @@
--- The reduced scans as a function: rounds, in each of which every row goes that lacks a partner.
+-- The reduced scans as a function. It works in rounds, and each round removes every row that lacks a partner.
 use Rattle.std.specs.Prelude.{ℕ, zero, suc, ◌+◌, Bool, not, ◌&&◌, ◌||◌, ◌==◌, List, [], ◌∷◌, length}
 use Rattle.std.specs.List.{filter, list_all, list_any}
 use Rattle.berge_tree.specs.declared.edges.Edge.{Edge}
@@ -8,17 +8,17 @@ use Rattle.sql_meaning.specs.Tables.{Tables}
 use Rattle.level_bounds.specs.Keys.{are_equal_at}
 use Rattle.join_steps.specs.Lists.{list_at, scans_of}
 
--- where a column of the equality is one of the entry's, the row has a partner in the list of the entry across
+-- on each side where the equality has a column of this entry, the row has a partner in the other side's list
 abbrev pub finds_partners : (Edge → ℕ → ℕ → Bool) → List (List ℕ) → ℕ → ℕ → Edge → Bool
 finds_partners equal family entry row e =
     (not (e.left.entry == entry) || list_any (equal e row) (list_at family e.right.entry))
     && (not (e.right.entry == entry) || list_any (λ left. equal e left row) (list_at family e.left.entry))
 
--- it has one for each equality
+-- the row has a partner for each equality at its entry
 abbrev pub finds_all : List Edge → (Edge → ℕ → ℕ → Bool) → List (List ℕ) → ℕ → ℕ → Bool
 finds_all es equal family entry row = list_all (finds_partners equal family entry row) es
 
--- of each list, from that of an entry on, the rows that have all partners in the family
+-- a round: in each list the rows that have all partners in the family are kept. The first list is that of `entry`
 abbrev pub round_from : List Edge → (Edge → ℕ → ℕ → Bool) → List (List ℕ) → ℕ → List (List ℕ) → List (List ℕ)
 round_from es equal family entry [] = []
 round_from es equal family entry (list ∷ lists) =

@@ -7,8 +7,8 @@ use Rattle.join_steps.specs.Lists.{scans_of}
 use Rattle.level_bounds.specs.Keys.{are_equal_at}
 use Rattle.reduced_scans.specs.Families.{IsConsistent, IsMatch, IsReduced}
 
--- of each scan some rows, in file order, each of which finds, for each equality conjunct of one of its columns with a
--- column of another entry, a row in that entry's list with the same value
+-- some rows of each scan, in file order. Each row has, for each equality conjunct between one of its columns and a column of another entry, a
+-- row in that entry's list with the same value
 abbrev pub AreConsistentScans : Query → Tables → List (List ℕ) → Type 0
 AreConsistentScans query tables family = IsConsistent (scans_of query tables) (equalities_of query) (are_equal_at tables) family
 

@@ -1,4 +1,4 @@
-//! What the definitions say, as laws. Each call does nothing.
+//! Laws on reduced scans. Each call does nothing.
 ghost use Rattle.std.specs.Prelude.{◌≡◌, ◌<◌, ℕ, IsPermutation, List, length, map, slice_index};
 ghost use Rattle.std.specs.List.{Contains};
 ghost use Rattle.query_types.specs.declared.types.Query.{Query};
@@ -19,8 +19,8 @@ pub fn one_reduction()
         → AreReducedScans query tables a → AreReducedScans query tables b → a ≡ b }
 {}
 
-/// Repeated rounds reach the reduced scans: after a round for each scanned row and one more, no row lacks a partner, and no row was removed
-/// that is in a family in which each row has its partners. So all reduced scans are this one family.
+/// Repeated rounds reach the reduced scans. After a round for each scanned row and one more, no row lacks a partner. No removed row is in a
+/// family in which each row has its partners. So all reduced scans are this one family.
 pub fn reduced_scans_are_by_rounds()
     ensures are { (query : Query) (tables : Tables) → AreReducedScans query tables (reduced_of query tables) }
     ensures no_others { (query : Query) (tables : Tables) (reduced : List (List ℕ)) → AreReducedScans query tables reduced

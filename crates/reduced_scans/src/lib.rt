@@ -4,7 +4,7 @@
 //! `reduce_scans`.
 //!
 //! First, if the values of a column lie in a short range, semi-joins remove rows that have no match at all. Then each row that is left is
-//! linked to the values that it gives and to those that it needs, and a worklist removes the rows whose last match is gone.
+//! linked to the values that it gives and needs, and a worklist removes the rows whose last match is gone.
 //!
 //! Callers cite `AreReducedScans`, and `reduced_of` for the same lists as a function. The laws say that exactly one family of lists is
 //! reduced, that repeated rounds reach it, and that no row of the answer is lost.

@@ -1,4 +1,4 @@
-//! Semi-joins: of the rows of a list those whose value the other side of an equality has.
+//! Semi-joins: they keep the rows of a list whose value also occurs on the other side of an equality.
 ghost use Rattle.std.specs.Prelude.{◌≡◌, ◌+◌, ◌*◌, ◌<◌, ◌≤◌, ℕ, All, Bool, IfOk, IfSome, List, OnOk, length, slice_index};
 ghost use Rattle.std.specs.List.{filter, Contains};
 ghost use Rattle.limits.specs.Profile.{most_rows};
@@ -44,7 +44,7 @@ fn rows_within(
     Ok(kept)
 }
 
-// The rows of a list that may have a partner. Rows are removed only if the partners' cells lie in a short range.
+// The rows of a list that may have a partner, or `None` if the partners' cells don't lie in a short range.
 fn semi_join(
     alloc: Global,
     cells: &[u64],
@@ -80,7 +80,7 @@ fn cells_at<'a>(db: &'a Database, column: Place) -> &'a [u64]
     cells_of_column(db, reference)
 }
 
-// Replaces the list of a side by its semi-join with the list of the other side.
+// Replaces the list of a side by its semi-join with the other side's list, if the other side's values lie in a short range.
 fn sift_side(
     alloc: Global,
     db: &Database,
@@ -165,7 +165,7 @@ fn sift_back(
     Ok(())
 }
 
-// The rows of each scan, in a list of our own.
+// A copy of each scan's list of rows.
 fn copies(alloc: Global, scans: &[RowBuf<u32>]) -> Result<Seq<RowBuf<u32>>, NoMemory>
     ensures { IfOk result (λ lists. lists_of lists ≡ lists_of scans.now) }
 {
@@ -177,7 +177,7 @@ fn copies(alloc: Global, scans: &[RowBuf<u32>]) -> Result<Seq<RowBuf<u32>>, NoMe
     Ok(lists)
 }
 
-// The same rows in a buffer of their own.
+// A copy of these rows in a buffer of its own.
 fn copy(alloc: Global, list: &[u32]) -> Result<RowBuf<u32>, NoMemory>
     ensures { IfOk result (λ rows. rows.items ≡ list.now) }
 {

@@ -1,4 +1,4 @@
-//! The values of a column in the rows of a list, where they lie in a short range: each is looked up by its place in it.
+//! The values of a column in the rows of a list, if they lie in a short range. A value is looked up by its place in the range.
 ghost use Rattle.std.specs.Prelude.{◌≡◌, ◌+◌, ◌-◌, ◌*◌, ◌<◌, ◌≤◌, true, All, IfOk, IfSome, length, slice_index};
 ghost use Rattle.limits.specs.Profile.{most_rows};
 ghost use Rattle.reduced_scans.specs.SemiJoins.{is_marked};
@@ -6,10 +6,10 @@ ghost use Rattle.reduced_scans.specs.SemiJoins.{is_marked};
 use base_io::NoMemory;
 use std::alloc::Global;
 
-// A range with fewer places than this is always short.
+// A range of at most this many places is always short.
 const FEW: u64 = 64;
 
-/// Values: the least of their range, and for each place from there on whether its value is one of them.
+/// A set of values: the least value of their range, and for each place of the range whether its value is in the set.
 #[derive(Drop)]
 pub(crate) struct ValueSet {
     least: u64,
@@ -17,7 +17,7 @@ pub(crate) struct ValueSet {
 }
 
 impl ValueSet {
-    /// Whether the value is one of them.
+    /// Whether the value is in the set.
     pub(crate) fn has(&self, value: u64) -> bool
         ensures { result ≡ is_marked self.now.least self.now.marks.items value }
     {
@@ -29,7 +29,7 @@ impl ValueSet {
     }
 }
 
-// At most the least of the cells in these rows, and at least the greatest.
+// The least and the greatest cell in these rows. For no rows they are `u64::MAX` and 0.
 fn ends_of(cells: &[u64], list: &[u32]) -> (u64, u64)
     requires { All (λ row. row < length cells.now) list.now }
     ensures { All (λ row. (result.0 ≤ slice_index cells.now row) × (slice_index cells.now row ≤ result.1)) list.now }
@@ -44,7 +44,7 @@ fn ends_of(cells: &[u64], list: &[u32]) -> (u64, u64)
     (least, greatest)
 }
 
-// Marks the places of the cells in these rows, all of which lie in the range.
+// Marks the places of the cells in these rows. All of the cells lie in the range.
 fn mark(cells: &[u64], list: &[u32], least: u64, marks: &mut [bool])
     requires rows { All (λ row. row < length cells.now) list.now }
     requires above { All (λ row. least ≤ slice_index cells.now row) list.now }
@@ -57,7 +57,7 @@ fn mark(cells: &[u64], list: &[u32], least: u64, marks: &mut [bool])
     }
 }
 
-/// The cells of a column in these rows, where their range has few places: at most eight for each of so many rows, and some more.
+/// The cells of a column in these rows, if their range has at most 64 + 8 * `rows` places; else `None`.
 pub(crate) fn values_of(
     alloc: Global,
     cells: &[u64],

@@ -1,4 +1,4 @@
-//! The uses of scanned rows: what each of them gives and needs for each equality at its entry.
+//! Builds the uses of scanned rows: the slots that a row gives and needs for each equality at its entry.
 ghost use Rattle.std.specs.Prelude.{◌≡◌, ◌+◌, ◌*◌, ◌^◌, ◌<◌, ◌≤◌, ◌∷◌, ◌++◌, [], ℕ, All, List, OnOk, length};
 ghost use Rattle.limits.specs.Profile.{most_conjuncts, most_entries, most_rows};
 ghost use Rattle.berge_tree.specs.declared.edges.Edge.{Edge};
@@ -167,7 +167,7 @@ pub(crate) fn wire(
     Ok(())
 }
 
-/// How many uses there will be.
+/// How many uses `wire` adds for these lists and equalities.
 pub(crate) fn count_uses(scans: &[RowBuf<u32>], equalities: &[Edge]) -> u64
     requires entries { All (λ e. (e.left.entry < length scans.now) × (e.right.entry < length scans.now)) equalities.now }
     requires sizes { (k : ℕ) → length (list_at (lists_of scans.now) k) ≤ most_rows }

@@ -1,27 +1,27 @@
--- Other numbers in the place of a column's numbers.
+-- A column whose numbers are replaced by other numbers.
 use Rattle.std.specs.Prelude.{◌≡◌, ◌↔◌, ℕ, Bool, List, Option, None, Some, Contains, ⊤}
 
 -- no two numbers of a column get the same number
 abbrev pub IsOneToOne : (ℕ → ℕ) → List ℕ → Type 0
 IsOneToOne f column = (a b : ℕ) → Contains column a → Contains column b → f a ≡ f b → a ≡ b
 
--- the numbers that a column's numbers get compare as these do
+-- the new numbers compare by `other` as the column's numbers do by `at_most`
 abbrev pub KeepsOrder : (ℕ → ℕ → Bool) → (ℕ → ℕ → Bool) → (ℕ → ℕ) → List ℕ → Type 0
 KeepsOrder at_most other f column = (a b : ℕ) → Contains column a → Contains column b → other (f a) (f b) ≡ at_most a b
 
--- a number of a column passes one test exactly where the number that it gets passes the other
+-- a number of a column passes one test if and only if its new number passes the other test
 abbrev pub PassAlike : (ℕ → Bool) → (ℕ → Bool) → (ℕ → ℕ) → List ℕ → Type 0
 PassAlike passes other f column = (a : ℕ) → Contains column a → other (f a) ≡ passes a
 
--- rows have equal keys exactly where their other keys are equal
+-- two rows have equal keys if and only if their other keys are equal
 abbrev pub AreEqualAlike : (ℕ → ℕ) → (ℕ → ℕ) → List ℕ → Type 0
 AreEqualAlike key other rows = (i j : ℕ) → Contains rows i → Contains rows j → (key i ≡ key j) ↔ (other i ≡ other j)
 
--- a number of a column gets the one number exactly where it is the other, and where either isn't there, never
+-- a number of a column is `value` if and only if its new number is `other`. If one of these is `None`, no number of the column is the other
 abbrev pub StandAlike : (ℕ → ℕ) → List ℕ → Option ℕ → Option ℕ → Type 0
 StandAlike f column other value = (a : ℕ) → Contains column a → (Some (f a) ≡ other) ↔ (Some a ≡ value)
 
--- no row of a column has the number, or there is none
+-- no row of a column has the number, or there is no number
 abbrev pub IsMissing : List ℕ → Option ℕ → Type 0
 IsMissing column None = ⊤
 IsMissing column (Some value) = Contains column value → ⊥

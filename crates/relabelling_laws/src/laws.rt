@@ -1,4 +1,4 @@
-//! What other numbers change of a column, and that they change no list: no law computes anything, and the contract is the law.
+//! What changes in a column whose numbers are replaced, and that no list changes. Each call does nothing; its contract is the law.
 ghost use Rattle.std.specs.Prelude.{◌≡◌, ◌↔◌, ℕ, Bool, List, Option, Some, Contains, length, map};
 ghost use Rattle.std.specs.List.{filter, zip};
 ghost use Rattle.degree_sequences.specs.Degrees.{degree, degree_list};
@@ -9,7 +9,7 @@ ghost use Rattle.cond_stats.specs.Lists.{compressed_degrees, list_of_node, list_
 ghost use Rattle.cond_stats.specs.Rows.{filter_values, joined_keys, keys_where};
 ghost use Rattle.relabelling_laws.specs.Relabelling.{AreEqualAlike, IsMissing, IsOneToOne, KeepsOrder, PassAlike, StandAlike};
 
-/// Other numbers stand in a column as often, and the frequent ones are those that the frequent numbers get.
+/// A new number occurs in a column as often as the old one did, and the frequent new numbers are those of the frequent old ones.
 pub fn columns_are_relabelled()
     ensures degree { (f : ℕ → ℕ) (column : List ℕ) (value : ℕ) → IsOneToOne f column → Contains column value
         → degree (map f column) (f value) ≡ degree column value }
@@ -18,7 +18,8 @@ pub fn columns_are_relabelled()
     ensures remaining { (f : ℕ → ℕ) (column : List ℕ) → IsOneToOne f column → remaining (map f column) ≡ map f (remaining column) }
 {}
 
-/// Where other numbers compare alike, leaves begin at those that the cuts get, and what passes alike lies in the same leaf.
+/// If the new numbers compare as the old ones do, the new cuts are the new numbers of the old cuts, and tests that pass alike give the same
+/// leaf.
 pub fn leaves_are_relabelled()
     ensures cuts { (at_most other : ℕ → ℕ → Bool) (f : ℕ → ℕ) (column : List ℕ) → KeepsOrder at_most other f column
         → cuts other (map f column) ≡ map f (cuts at_most column) }
@@ -27,7 +28,7 @@ pub fn leaves_are_relabelled()
         → leaf_above other (map f column) other_passes ≡ leaf_above at_most column passes }
 {}
 
-/// No list of a filter column and a joined column changes where both get other numbers.
+/// No list of a filter column and a joined column changes if the numbers of both are replaced.
 pub fn lists_stay()
     ensures whole { (accuracy : ℕ) (g : ℕ → ℕ) (joined : List ℕ) → IsOneToOne g joined
         → compressed_degrees accuracy (map g joined) ≡ compressed_degrees accuracy joined }
@@ -40,13 +41,13 @@ pub fn lists_stay()
     ensures absent { (accuracy : ℕ) (f g : ℕ → ℕ) (column joined : List ℕ) (other value : Option ℕ)
         → IsOneToOne f column → IsOneToOne g joined → IsMissing (map f column) other → IsMissing column value
         → list_of_value accuracy (zip (map f column) (map g joined)) other ≡ list_of_value accuracy (zip column joined) value }
-    // of any value, where the numbers that stand for it, if there are such, are told alike
+    // of any value, which is `value` in the old numbers and `other` in the new ones
     ensures any_value { (accuracy : ℕ) (f g : ℕ → ℕ) (column joined : List ℕ) (other value : Option ℕ)
         → IsOneToOne f column → IsOneToOne g joined → StandAlike f column other value
         → list_of_value accuracy (zip (map f column) (map g joined)) other ≡ list_of_value accuracy (zip column joined) value }
     ensures rest { (accuracy : ℕ) (f g : ℕ → ℕ) (column joined : List ℕ) → IsOneToOne f column → IsOneToOne g joined
         → rest accuracy (zip (map f column) (map g joined)) ≡ rest accuracy (zip column joined) }
-    // of nodes and ranges, where the filter values compare alike
+    // of nodes and ranges, if the new filter values compare as the old ones do
     ensures node { (at_most other : ℕ → ℕ → Bool) (accuracy : ℕ) (f g : ℕ → ℕ) (column joined : List ℕ) (size leaf : ℕ)
         → KeepsOrder at_most other f column → IsOneToOne g joined
         → list_of_node other accuracy (zip (map f column) (map g joined)) size leaf
@@ -57,30 +58,30 @@ pub fn lists_stay()
         ≡ list_of_range at_most accuracy (zip column joined) low high }
 {}
 
-/// A value that no row has, or that nothing stands for, has the rest list.
+/// A value that no row has, or that has no number, has the rest list.
 pub fn missing_values_have_the_rest_list()
     ensures { (accuracy : ℕ) (column joined : List ℕ) (value : Option ℕ) → IsMissing column value
         → list_of_value accuracy (zip column joined) value ≡ rest accuracy (zip column joined) }
 {}
 
-/// What dominates keys dominates all keys that are equal alike, and these have the same degrees.
+/// A list dominates keys if and only if it dominates other keys that are equal in the same rows. Both kinds of keys have the same degrees.
 pub fn keys_are_relabelled()
     ensures column { (list : List ℕ) (f : ℕ → ℕ) (keys : List ℕ) → IsOneToOne f keys
         → DominatesKeys list (map f keys) ↔ DominatesKeys list keys }
     ensures rows { (list : List ℕ) (key other : ℕ → ℕ) (rows : List ℕ) → AreEqualAlike key other rows
         → DominatesKeys list (map key rows) ↔ DominatesKeys list (map other rows) }
-    // of those rows that pass a test
+    // of the rows that pass a test
     ensures passing { (list : List ℕ) (key other : ℕ → ℕ) (rows : List ℕ) (passes : ℕ → Bool) → AreEqualAlike key other rows
         → DominatesKeys list (map key (filter passes rows)) ↔ DominatesKeys list (map other (filter passes rows)) }
     ensures degrees { (key other : ℕ → ℕ) (rows : List ℕ) → AreEqualAlike key other rows
         → degree_list (map key rows) ≡ degree_list (map other rows) }
 {}
 
-/// The joined keys of the rows that pass a test of the filter value are those that pass the same test of its other number.
+/// A test of the new filter numbers that passes alike selects the same rows. Their joined keys are the new numbers of the old joined keys.
 pub fn passing_rows_are_relabelled()
     ensures passing { (f g : ℕ → ℕ) (column joined : List ℕ) (passes other : ℕ → Bool) → PassAlike passes other f column
         → keys_where other (zip (map f column) (map g joined)) ≡ map g (keys_where passes (zip column joined)) }
-    // both columns given row by row, and the test too
+    // both columns and the test are given by rows
     ensures rows { (value key : ℕ → ℕ) (rows : List ℕ) (passes other : ℕ → Bool) → PassAlike passes other value rows
         → keys_where other (zip (map value rows) (map key rows)) ≡ map key (filter passes rows) }
     ensures values { (column joined : List ℕ) → length column ≡ length joined → filter_values (zip column joined) ≡ column }

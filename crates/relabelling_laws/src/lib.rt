@@ -1,12 +1,12 @@
-//! Other numbers for the same values: the lists of a filter column and a joined column depend on which numbers are equal and on
-//! how filter values compare, and on nothing else of the numbers.
+//! What stays the same if the numbers that stand for a column's values are replaced. The lists of a filter column and a joined column depend
+//! only on which numbers are equal, and on how the filter column's numbers compare.
 //!
-//! In: two columns, and functions that give their numbers other numbers, one to one. Out: laws, and nothing that runs. A value may
-//! be a cell, the first row that has it, or any key that tells it from the others: its list is the same.
+//! In: two columns, and one-to-one functions that give their numbers new ones. Out: laws, and nothing that runs. So a value may be its cell,
+//! the first row that has it, or any key that tells it from the other values: its list is the same.
 //!
-//! - Degrees, frequent values, cuts and leaves go along with their numbers.
+//! - Degrees and leaves stay. Frequent values and cuts are the new numbers of the old ones.
 //! - No list changes: of all rows, of a value, of a value that no row has, of a node, of a range.
-//! - What dominates keys dominates all keys that are equal where these are.
+//! - A list that dominates keys dominates all keys that are equal in the same rows.
 //!
 //! Callers cite `IsOneToOne`, `KeepsOrder`, `PassAlike`, `StandAlike` and `AreEqualAlike` (in `specs/Relabelling.antt`), and `laws`.
 //!

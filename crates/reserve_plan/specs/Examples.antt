@@ -3,8 +3,8 @@ use Rattle.std.specs.Prelude.{ℕ, [], ◌∷◌}
 use Rattle.reserve_plan.specs.Memory.{plan_bytes}
 use Rattle.reserve_plan.specs.Rooms.{Rooms, rooms}
 
--- entry 1 and then entry 0, with at most 6 rows in the list of entry 0 and none in that of entry 1, and none on the
--- first level and 12 on the second
+-- entry 1 and then entry 0. The list of entry 0 has at most 6 rows, and that of entry 1 has no rows. The first level has no rows, and the
+-- second at most 12
 abbrev pub two_entries : Rooms
 two_entries = rooms (1 ∷ 0 ∷ []) (6 ∷ 0 ∷ []) (0 ∷ 12 ∷ [])
 
@@ -12,6 +12,6 @@ two_entries = rooms (1 ∷ 0 ∷ []) (6 ∷ 0 ∷ []) (0 ∷ 12 ∷ [])
 abbrev pub six_and_five_bytes : ℕ
 six_and_five_bytes = plan_bytes (1 ∷ 0 ∷ []) (6 ∷ 5 ∷ []) (5 ∷ 12 ∷ [])
 
--- one entry of no rows
+-- one entry without rows
 abbrev pub least_bytes : ℕ
 least_bytes = plan_bytes (0 ∷ []) (0 ∷ []) (0 ∷ [])

@@ -8,11 +8,11 @@ use Rattle.reserve_plan.specs.declared.reserved.Reserved.{Reserved}
 
 -- levels are numbered in the order of the plan
 pub record Rooms : Type 0 where
-  -- for each level after the first, the rows in its chains
+  -- for each level after the first, how many rows its chains take
   pub chains : List ℕ
-  -- for each level, its rows
+  -- for each level, how many rows it takes
   pub levels : List ℕ
-  -- one row number of each entry
+  -- one row number for each entry
   pub row : ℕ
   -- the keys of one level's chains: as many as the longest list has rows
   pub keys : ℕ
@@ -21,7 +21,7 @@ abbrev pub greatest : List ℕ → ℕ
 greatest [] = 0
 greatest (n ∷ ns) = max n (greatest ns)
 
--- the rooms of an order, where each entry's list has at most so many rows, in FROM order, and each level
+-- the rooms of an order. `lists` says how many rows each entry's list has at most, in FROM order, and `levels` says it of each level
 abbrev pub rooms : List ℕ → List ℕ → List ℕ → Rooms
 rooms order lists levels = record {
   chains = map (λ entry. slice_index lists entry) (drop 1 order);
@@ -39,11 +39,11 @@ pub record IsRoomFor {T : Type 0} (count : ℕ) (buffer : Rows T) : Type 0 where
 abbrev pub buffer_for : ℕ → Rows ℕ
 buffer_for size = record { items = []; spare = size }
 
--- empty chains of so many rows, with as many buckets, and at least one
+-- empty chains with room for so many rows, and with as many buckets, but at least one
 abbrev pub chains_for : ℕ → Loaded
 chains_for rows = record { keys = []; room = rows; buckets = max rows 1 }
 
--- empty chains that take at least so many rows and have as many buckets, and at least one
+-- empty chains with room for at least so many rows, and with at least as many buckets and at least one
 pub record IsRoomForKeys (count : ℕ) (chains : Loaded) : Type 0 where
   pub empty : chains.keys ≡ []
   pub room : count ≤ chains.room

@@ -10,7 +10,7 @@
 //! `plan_memory` tells how many bytes a plan takes, before anything is taken. `plan_bytes` defines this number: each buffer's capacity times
 //! the size of an item, and the bytes of each list of buffers.
 //!
-//! In the greatest plan the levels take 1.92 GB, the chains 0.70 GB, and lists and keys 0.23 GB.
+//! In the greatest plan the levels take 1.92 GB, the chains 0.70 GB, and lists and keys 0.22 GB.
 #![tactic(auto)]
 
 ghost use Rattle.std.specs.Prelude.{◌≡◌, ◌≤◌, List, ℕ, [], ◌∷◌};
@@ -27,17 +27,17 @@ pub use memory::{lists_memory, plan_memory, plans_take_few_bytes, row_chain_byte
 pub use reserved::{CHAINS_BYTES, Reserved};
 pub use reserving::{empty_chains, greatest, reserve, row_buffers};
 
-/// Buffers that take more rows take fewer, too. It does nothing.
+/// Buffers with room for more rows have room for fewer rows, too. The call does nothing.
 pub fn less_needs_less_room()
     ensures { (order lists levels more_in_lists more_in_levels : List ℕ) (reserved : Reserved)
         → AllZip ◌≤◌ lists more_in_lists → AllZip ◌≤◌ levels more_in_levels
         → HasRooms (rooms order more_in_lists more_in_levels) reserved → HasRooms (rooms order lists levels) reserved }
 {}
 
-/// The rooms of a plan of two entries, and the bytes of two plans. It does nothing.
+/// The rooms of a plan of two entries, and the bytes of two plans. The call does nothing.
 ///
-/// Of six and five rows: 44 bytes of lists, 96 of the chain, 136 of levels, 8 of row numbers and 48 of keys; and the lists of buffers, 64 of
-/// row numbers, 96 of chains and 64 of levels.
+/// The plan of six and five rows takes 44 bytes for lists, 96 for the chain, 136 for levels, 8 for row numbers and 48 for keys. Its lists of
+/// buffers take 64 bytes for row numbers, 96 for chains and 64 for levels.
 pub fn examples()
     ensures chains { two_entries.chains ≡ 6 ∷ [] }
     ensures levels { two_entries.levels ≡ 0 ∷ 12 ∷ [] }

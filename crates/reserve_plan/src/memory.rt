@@ -1,4 +1,4 @@
-//! How many bytes a plan takes. Nothing is taken here.
+//! How many bytes a plan takes. No function here allocates memory.
 ghost use Rattle.std.specs.Prelude.{◌≡◌, ℕ, ◌+◌, ◌*◌, ◌^◌, ◌<◌, ◌≤◌, All, List, length, map, max, slice_index, sum};
 ghost use Rattle.limits.specs.Profile.{most_budget, most_entries, most_rows};
 ghost use Rattle.reserve_plan.specs.Memory.{chain_list_bytes, lists_bytes, plan_bytes, row_chain_bytes};
@@ -40,7 +40,7 @@ pub fn lists_memory(sizes: &[u64]) -> u128
     BUFFER_BYTES as u128 * sizes.len() as u128 + ROW_NUMBER_BYTES as u128 * total(sizes)
 }
 
-// The bytes of a list of chains, of the rows of these entries.
+// The bytes of the chains for the rows of these entries, without those of the list of chains.
 fn chains_total(entries: &[u8], lists: &[u64]) -> u128
     requires few { length entries.now ≤ most_entries }
     requires entries { All (λ entry. entry < length lists.now) entries.now }
@@ -71,7 +71,7 @@ pub fn plan_memory(order: &[u8], lists: &[u64], levels: &[u64]) -> u128
     lists_memory(lists) + chains + links + row + keys
 }
 
-/// Within the limits of a program a plan takes less than 2^40 bytes. It does nothing.
+/// Within the limits of the program a plan takes less than 2^40 bytes. The call does nothing.
 pub fn plans_take_few_bytes()
     ensures { (order lists levels : List ℕ) → length order ≤ most_entries → length lists ≤ most_entries → length levels ≤ most_entries
         → All (λ rows. rows ≤ most_rows) lists → All (λ rows. rows ≤ most_budget) levels → plan_bytes order lists levels < 2 ^ 40 }

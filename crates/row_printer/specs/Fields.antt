@@ -14,11 +14,11 @@ doubled_quote c = if c == 34 then 34 ∷ (34 ∷ []) else c ∷ []
 abbrev pub doubled : List ℕ → List ℕ
 doubled field = flat_map doubled_quote field
 
--- the field, in double quotes where it holds a character that a record gives a meaning
+-- the field, in double quotes if it has a comma, CR, LF or a double quote
 abbrev pub field_text : List ℕ → List ℕ
 field_text field = if list_any is_special field then 34 ∷ (doubled field ++ 34 ∷ []) else field
 
--- the same of a record's only field, which is never an empty line
+-- the same for a record's only field. An empty one is quoted, so that no record is an empty line
 abbrev pub lone_field_text : List ℕ → List ℕ
 lone_field_text [] = 34 ∷ (34 ∷ [])
 lone_field_text (c ∷ cs) = field_text (c ∷ cs)

@@ -37,7 +37,7 @@ fn put_byte<N: Sink>(byte: u8, buffer: &mut Buffer, sink: &mut N) -> Result<(), 
     }
 }
 
-// The field with each double quote doubled.
+// Writes the field with each double quote doubled.
 fn put_doubled<N: Sink>(field: &[u8], buffer: &mut Buffer, sink: &mut N) -> Result<(), Failed>
     ensures { Put (growth N.taken N.faults sink.old sink.new) buffer.old buffer.new (doubled field.now) result }
 {

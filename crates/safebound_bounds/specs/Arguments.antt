@@ -1,4 +1,4 @@
--- Which values of a query are right.
+-- When the values that a caller hands in for a query are right.
 use Rattle.std.specs.Prelude.{◌≡◌, ◌≢◌, ℕ, ◌+◌, ◌-◌, ◌^◌, ◌<◌, ◌≤◌, Bool, true, false, ◌==◌, ◌&&◌, List, length, take, drop, slice_index, slice_index_or}
 use Rattle.std.specs.List.{list_any}
 use Rattle.limits.specs.Profile.{greatest_rows}
@@ -21,7 +21,7 @@ no_equality = record { left_entry = 0; left_column = 0; right_entry = 0; right_c
 abbrev pub equality_at : List Equality → ℕ → Equality
 equality_at equalities i = slice_index_or equalities i no_equality
 
--- both entries are there, and they are two
+-- both entries exist, and they are different
 pub record IsEqualityRight (entries : ℕ) (equality : Equality) : Type 0 where
   pub left : equality.left_entry < entries
   pub right : equality.right_entry < entries
@@ -39,16 +39,16 @@ list_at lists i = slice_index_or lists i no_list
 abbrev pub is_of : ℕ → ℕ → ColumnList → Bool
 is_of entry column list = list.entry == entry && list.column == column
 
--- what stands in place of the first run in the list of a column in which no row has a value
+-- the value of `first` in the list of a column in which no row has a value
 abbrev pub no_values : ℕ
 no_values = 2 ^ 64 - 1
 
--- the runs of a list are there; where it has none, it is marked as one of no values
+-- the runs of a list exist. If it has no runs, `first` says that no row has a value in the column
 pub record AreRunsThere (runs : ℕ) (list : ColumnList) : Type 0 where
   pub there : 0 < list.length → list.first + list.length ≤ runs
   pub marked : list.length ≡ 0 → list.first ≡ no_values
 
--- its entry is there, its runs are there, and no list before it is of its column
+-- the list's entry exists, its runs exist, and no earlier list is of the same column
 pub record IsListRight (entries runs : ℕ) (before : List ColumnList) (list : ColumnList) : Type 0 where
   pub entry : list.entry < entries
   pub runs_there : AreRunsThere runs list
@@ -66,7 +66,7 @@ runs_of runs list = take list.length (drop list.first runs)
 abbrev pub AreRunsRightAt : List ColumnList → List Run → ℕ → Type 0
 AreRunsRightAt lists runs i = AreRight (runs_of runs (list_at lists i))
 
--- the first list with a wrong run, and in it the first that is wrong
+-- the place of the first wrong run in the first list that has one
 pub record IsWrongRun (lists : List ColumnList) (runs : List Run) (place : ℕ) : Type 0 where
   pub list : ℕ
   pub first_list : IsFirstWrong (AreRunsRightAt lists runs) (length lists) list

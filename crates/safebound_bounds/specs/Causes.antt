@@ -1,5 +1,5 @@
--- Why a call for bounds refuses. A cause says too that none applies which the call looks for before it, so one answer at most is right, beside
--- want of memory.
+-- Why a call for bounds refuses. A cause also says that no cause applies that the call tests earlier. So at most one answer is right, apart
+-- from NoMemory.
 use Rattle.std.specs.Prelude.{◌≡◌, ◌⊎◌, ℕ, ◌^◌, ◌<◌, ◌≤◌, ⊤, List, length}
 use Rattle.limits.specs.Profile.{most_conjuncts, most_entries}
 use Rattle.safebound_lists.specs.declared.refusal.Refusal.{Refusal}
@@ -23,7 +23,7 @@ pub record AreEqualitiesRight (entries : ℕ) (equalities : List Equality) : Typ
   pub few : length equalities ≤ most_conjuncts
   pub each : (i : ℕ) → i < length equalities → IsEqualityRight entries (equality_at equalities i)
 
--- each list is right, its runs aside
+-- each list is right, apart from its runs
 abbrev pub AreListsRight : ℕ → ℕ → List ColumnList → Type 0
 AreListsRight entries runs lists = (i : ℕ) → i < length lists → IsRightListAt entries runs lists i
 
@@ -39,8 +39,8 @@ pub record IsRight (rows : List ℕ) (equalities : List Equality) (lists : List 
   pub runs_right : AreRunsRight lists runs
   pub listed : (i : ℕ) → i < length equalities → ColumnsHaveLists lists (equality_at equalities i)
 
--- another number of entries than 1 to 12, a row bound, equality, list or run that is the first wrong one, too many equalities, a column
--- without a list, too little room, or want of memory, which needs no cause
+-- Entries: they aren't 1 to 12. Rows, Equality, List, Run: it is the first wrong one. Equalities: they are more than 256. MissingList: it is
+-- the first equality with a column that has no list. Room: it is too little for all bounds. NoMemory needs no cause
 abbrev pub IsBoundsCause : List ℕ → List Equality → List ColumnList → List Run → ℕ → Refusal → Type 0
 IsBoundsCause rows equalities lists runs room (refusal.Entries count) = (count ≡ length rows) × ((count ≡ 0) ⊎ (most_entries < count))
 IsBoundsCause rows equalities lists runs room (refusal.Rows place) =
@@ -63,14 +63,14 @@ IsBoundsCause rows equalities lists runs room (refusal.Room needed) =
 IsBoundsCause rows equalities lists runs room refusal.NoMemory = ⊤
 IsBoundsCause rows equalities lists runs room _ = ⊥
 
--- with a limit of work: the same, and where all else is right and there is room, more work than the limit
+-- with a limit of work the causes are the same, and one more: all values are right and there is room, but the work is above the limit
 abbrev pub IsWithinCause : List ℕ → List Equality → List ColumnList → List Run → ℕ → ℕ → Refusal → Type 0
 IsWithinCause rows equalities lists runs limit room (refusal.Work needed) =
     IsRight rows equalities lists runs × (2 ^ length rows ≤ room) × (limit < work_of lists (edges_of equalities) (length rows))
     × (needed ≡ in_64_bits (work_of lists (edges_of equalities) (length rows)))
 IsWithinCause rows equalities lists runs limit room why = IsBoundsCause rows equalities lists runs room why
 
--- of one set: the same with room enough, and where all else is right, a set with an entry that isn't there
+-- for one set the causes are the same, with room enough, and one more: all values are right, but the set has an entry that doesn't exist
 abbrev pub IsSetCause : List ℕ → List Equality → List ColumnList → List Run → ℕ → Refusal → Type 0
 IsSetCause rows equalities lists runs subset (refusal.Set given) = IsRight rows equalities lists runs × (given ≡ subset) × (2 ^ length rows ≤ subset)
 IsSetCause rows equalities lists runs subset why = IsBoundsCause rows equalities lists runs (2 ^ length rows) why

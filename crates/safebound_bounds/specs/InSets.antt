@@ -1,4 +1,4 @@
--- What a query's values tell of a set. The call's own words; no public clause cites them.
+-- What a query's values say of the entries in a set. No public contract uses this file.
 use Rattle.std.specs.Prelude.{◌≡◌, ℕ, ◌^◌, ◌<◌, ◌≤◌, List, length, slice_index}
 use Rattle.std.specs.List.{sum}
 use Rattle.berge_tree.specs.declared.edges.Edge.{Edge}
@@ -17,10 +17,10 @@ pub record AreGiven (given : Given) (es : List Edge) (subset : ℕ) : Type 0 whe
   pub edges : es ≡ edges_of given.equalities.now
   pub fits : subset < 2 ^ length given.rows.now
 
--- what they tell of the entries in a set
+-- what the values say of the entries in a set
 abbrev pub known_by : Given → ℕ → EntryBounds
 known_by given subset = known_in given.rows.now given.lists.now given.runs.now (edges_of given.equalities.now) subset
 
--- a list has a row for each that its entry has at most
+-- a list sums to at least its entry's row bound
 abbrev pub IsFull : List ℕ → List Run → ColumnList → Type 0
 IsFull rows runs list = slice_index rows list.entry ≤ sum (list_of (runs_of runs list))

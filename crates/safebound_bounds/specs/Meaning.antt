@@ -22,12 +22,12 @@ edge_of e = record {
 abbrev pub edges_of : List Equality → List Edge
 edges_of equalities = map edge_of equalities
 
--- a list for so many rows: cut where it sums to more; where it sums to less, the other rows have no value, and each is counted as a key of
--- its own. (No bound reads this of a column that equalities of the set name: rows without a value there aren't among these rows.)
+-- a list for so many rows. It is cut if it sums to more. If it sums to less, the other rows have no value, and each of them counts as a key of
+-- its own. (No bound uses these keys in a column that the set's equalities name: there `rows` doesn't count rows without a value.)
 abbrev pub fitted : ℕ → List ℕ → List ℕ
 fitted rows list = cut_at list rows ++ replicate (rows - sum (cut_at list rows)) 1
 
--- the list that is given for a column, that of the first list that is of it
+-- the list that is given for a column: the first list of that column
 abbrev pub list_if : List Run → Option ColumnList → Option (List ℕ)
 list_if runs None = None
 list_if runs (Some list) = Some (list_of (runs_of runs list))
@@ -52,35 +52,35 @@ known rows lists runs = record {
 abbrev pub rows_with_value : List ColumnList → List Run → Place → ℕ
 rows_with_value lists runs p = sum (unwrap_or (given lists runs p.entry p.column) [])
 
--- a row bound of an entry, or how many of its rows have a value in this column, where it is one of its columns and they are fewer
+-- a row bound of an entry, or the number of its rows with a value in this column, if the column is the entry's and the number is smaller
 abbrev pub fewer_at : List ColumnList → List Run → ℕ → Place → ℕ → ℕ
 fewer_at lists runs entry p rows = if p.entry == entry then min rows (rows_with_value lists runs p) else rows
 
--- the least of a row bound of an entry and of the numbers of its rows with a value, in each of its columns that the equalities name
+-- the least of a row bound of an entry and, for each of its columns that the equalities name, the number of its rows with a value there
 abbrev pub rows_met : List ColumnList → List Run → ℕ → List Edge → ℕ → ℕ
 rows_met lists runs entry [] rows = rows
 rows_met lists runs entry (e ∷ es) rows = rows_met lists runs entry es (fewer_at lists runs entry e.right (fewer_at lists runs entry e.left rows))
 
--- of each entry, how many of its rows can be joined by all equalities of a set, at most: a row without a value equals none
+-- at most how many rows of each entry all equalities of a set can join: a row without a value matches no row
 abbrev pub rows_in_set : List ℕ → List ColumnList → List Run → List Edge → ℕ → List ℕ
 rows_in_set rows lists runs es subset =
     map (λ entry. rows_met lists runs entry (equalities_within subset es) (slice_index rows entry)) (range_with_len 0 (length rows))
 
--- what is known of the entries in a set: so many rows, and lists that are cut there
+-- what is known of the entries in a set: the rows that count there, and lists that are fitted to them
 abbrev pub known_in : List ℕ → List ColumnList → List Run → List Edge → ℕ → EntryBounds
 known_in rows lists runs es subset = known (rows_in_set rows lists runs es subset) lists runs
 
--- a bound in 64 bits: the greatest number stands for all from there on
+-- the greatest bound of 64 bits, which stands for every number from there on
 abbrev pub no_bound : ℕ
 no_bound = 2 ^ 64 - 1
 
 abbrev pub in_64_bits : ℕ → ℕ
 in_64_bits bound = min bound no_bound
 
--- of a set, by what is known in it
+-- the bound of a set, by what is known in it
 abbrev pub bound_in : (ℕ → EntryBounds) → List Edge → ℕ → ℕ
 bound_in b es subset = in_64_bits (bound_of_set (b subset) es subset)
 
--- of each set of n entries, at the number whose bits are the set
+-- the bounds of all sets of n entries, each at the number whose bits are the set
 abbrev pub all_bounds : (ℕ → EntryBounds) → List Edge → ℕ → List ℕ
 all_bounds b es n = map (bound_in b es) (range_with_len 0 (2 ^ n))

@@ -1,4 +1,4 @@
--- Tables in which rows may have no value in a column, and when what is handed in holds of them.
+-- Tables in which rows may have no value in a column, and when row bounds and lists fit such tables.
 use Rattle.std.specs.Prelude.{◌≡◌, ℕ, ◌<◌, ◌≤◌, List, [], ◌∷◌, length, slice_index, slice_index_or, unwrap_or, Option, Some, None}
 use Rattle.std.specs.List.{AllByRecursion}
 use Rattle.degree_sequences.specs.Domination.{DominatesKeys}
@@ -33,7 +33,7 @@ pub record SatisfiesValues (tables : ValuedTables) (entries : List ℕ) (es : Li
   pub rows : AllByRecursion (λ entry. choice entry < tables.rows entry) entries
   pub equal : AllByRecursion (λ e. Match (value_of tables choice e.left.entry e.left.column) (value_of tables choice e.right.entry e.right.column)) es
 
--- the list that is given for a column dominates the values that are there; each row has a value or none
+-- the list that is given for a column dominates the values that are there. Each row has a place in the column, with or without a value
 pub record FitsColumn (given : ℕ → ℕ → Option (List ℕ)) (tables : ValuedTables) (entry column : ℕ) : Type 0 where
   pub values : DominatesKeys (unwrap_or (given entry column) []) (present (tables.values entry column))
   pub one_each : length (tables.values entry column) ≡ tables.rows entry

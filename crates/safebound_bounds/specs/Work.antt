@@ -1,4 +1,4 @@
--- The work of a call for all bounds, as a measure: no number of steps.
+-- The work of a call for all bounds. It is a measure, and not a number of steps.
 use Rattle.std.specs.Prelude.{ℕ, ◌+◌, ◌*◌, ◌^◌, List, map, find, Option, Some, None}
 use Rattle.std.specs.List.{range_with_len, sum}
 use Rattle.berge_tree.specs.declared.edges.Edge.{Edge}
@@ -7,7 +7,7 @@ use Rattle.join_graph.specs.Kept.{equalities_within, turn_count}
 use Rattle.safebound_bounds.specs.declared.arguments.ColumnList.{ColumnList}
 use Rattle.safebound_bounds.specs.Arguments.{is_of}
 
--- the runs of the list of a column
+-- how many runs the list of a column has
 abbrev pub length_if : Option ColumnList → ℕ
 length_if None = 0
 length_if (Some list) = list.length
@@ -15,17 +15,17 @@ length_if (Some list) = list.length
 abbrev pub runs_listed : List ColumnList → Place → ℕ
 runs_listed lists p = length_if (find (is_of p.entry p.column) lists)
 
--- of both columns of an equality
+-- how many runs the lists of both columns of an equality have
 abbrev pub runs_joined : List ColumnList → Edge → ℕ
 runs_joined lists e = runs_listed lists e.left + runs_listed lists e.right
 
--- a turn of a set: one, and the runs of its equalities
+-- the work of a turn of a set: 1, and the runs of the set's equalities
 abbrev pub turn_work : List ColumnList → List Edge → ℕ → ℕ
 turn_work lists es subset = 1 + sum (map (runs_joined lists) (equalities_within subset es))
 
 abbrev pub set_work : List ColumnList → List Edge → ℕ → ℕ
 set_work lists es subset = turn_count subset es * turn_work lists es subset
 
--- of all sets of n entries
+-- the work of all sets of n entries
 abbrev pub work_of : List ColumnList → List Edge → ℕ → ℕ
 work_of lists es n = sum (map (set_work lists es) (range_with_len 0 (2 ^ n)))

@@ -1,4 +1,4 @@
-//! What a caller hands in beside row bounds and runs.
+//! The equalities and lists that a caller hands in, beside row bounds and runs.
 
 /// An equality between columns of two different entries.
 #[repr(C)]
@@ -10,10 +10,10 @@ pub struct Equality {
     pub right_column: u32,
 }
 
-/// What stands in `first` of a list without runs: that of a column in which no row has a value.
+/// The value of `first` in a list without runs, for a column in which no row has a value.
 pub const NO_VALUES: u64 = u64::MAX;
 
-/// The list of an entry's column: so many of the call's runs, from one on.
+/// The list of an entry's column: `length` of the call's runs, from the run at place `first` on.
 #[repr(C)]
 #[derive(Clone, Copy, Debug, PartialEq, Eq)]
 pub struct ColumnList {

@@ -1,4 +1,4 @@
-//! The bounds of all sets, and of one.
+//! Bounds all sets of entries, or one set.
 ghost use Rattle.std.specs.Prelude.{◌≡◌, ◌⊎◌, ◌^◌, ◌<◌, ◌≤◌, ℕ, List, length, map, slice_index, IfErr, IfOk, OnErr, OnOk};
 ghost use Rattle.std.specs.List.{AllByRecursion};
 ghost use Rattle.entry_sets.specs.Sets.{entries_of_set};
@@ -29,7 +29,7 @@ use safebound_lists::{Refusal, Run};
 use set_bounds::{KnownInSets, bounds_in_sets, bounds_of_sets};
 use std::alloc::Global;
 
-// The first value that is wrong.
+// Refuses the first value that is wrong.
 fn first_wrong(
     rows: &[u64],
     equalities: &[Equality],
@@ -75,7 +75,7 @@ fn first_wrong(
     Ok(())
 }
 
-// The bounds where no list leaves rows without a value: what is known is the same in every set.
+// The bounds of all sets if no list leaves rows without a value. What is known is then the same in every set.
 fn full_bounds(alloc: Global, parts: &Parts, given: &Given) -> Result<Seq<u128>, NoMemory>
     requires right { IsRight given.now.rows.now given.now.equalities.now given.now.lists.now given.now.runs.now }
     requires edges { parts.now.equalities ≡ edges_of given.now.equalities.now }
@@ -86,7 +86,7 @@ fn full_bounds(alloc: Global, parts: &Parts, given: &Given) -> Result<Seq<u128>,
     bounds_of_sets(alloc, parts, &entries, given.rows.len() as u8)
 }
 
-// The bounds, whatever the lists leave.
+// The bounds of all sets, whether or not lists leave rows without a value.
 fn told_bounds(alloc: Global, parts: &Parts, given: &Given) -> Result<Seq<u128>, NoMemory>
     requires right { IsRight given.now.rows.now given.now.equalities.now given.now.lists.now given.now.runs.now }
     requires edges { parts.now.equalities ≡ edges_of given.now.equalities.now }
@@ -104,7 +104,7 @@ fn narrowed(bound: u128) -> u64
     bound.min(u128::from(u64::MAX)) as u64
 }
 
-// Writes bounds with 64 bits.
+// Writes bounds as numbers of 64 bits.
 fn write_bounds(bounds: &[u128], into: &mut [u64])
     requires { length bounds.now ≤ length into.old }
     ensures { IsFilled (map narrowed_of bounds.now) into.old into.new (length bounds.now) }
@@ -114,7 +114,7 @@ fn write_bounds(bounds: &[u128], into: &mut [u64])
     }
 }
 
-// Writes the bounds of right values.
+// Writes the bounds of all sets, from values that are right.
 fn fill(alloc: Global, parts: &Parts, given: &Given, into: &mut [u64]) -> Result<u64, Refusal>
     requires right { IsRight given.now.rows.now given.now.equalities.now given.now.lists.now given.now.runs.now }
     requires edges { parts.now.equalities ≡ edges_of given.now.equalities.now }
@@ -128,7 +128,7 @@ fn fill(alloc: Global, parts: &Parts, given: &Given, into: &mut [u64]) -> Result
     Ok(bounds.len() as u64)
 }
 
-// Whether the values are right and there is room.
+// Refuses wrong values, and a buffer with too little room for the bounds.
 fn may_write(
     rows: &[u64],
     equalities: &[Equality],
@@ -150,12 +150,12 @@ fn may_write(
     Ok(())
 }
 
-/// Writes the bounds of all sets of entries, each at the number whose bits are the set, in rows, and answers how many they are. A bound of
-/// 2^64 - 1 stands for all from there on.
+/// Writes the bounds of all sets of entries, in rows, each at the number whose bits are the set. It answers how many bounds these are. A bound
+/// of 2^64 - 1 stands for every number from there on.
 ///
-/// Where the row bounds and lists fit tables, in which rows may be without values, no set has more choices of one row for each of its
-/// entries that satisfy its equalities (SafeBound, SIGMOD 2023; Degree Sequence Bound, ICDT 2023). A comparison with a value that isn't
-/// there isn't true (SQL-92, 8.2).
+/// No bound is too low for tables that the row bounds and lists fit, even if rows are without values. Of all choices of one row for each entry
+/// of a set, no more satisfy the set's equalities than its bound says (SafeBound, SIGMOD 2023; Degree Sequence Bound, ICDT 2023). A comparison
+/// with a value that isn't there isn't true (SQL-92, 8.2).
 pub fn bounds(
     alloc: Global,
     rows: &[u64],
@@ -187,7 +187,7 @@ pub fn bounds(
     fill(alloc, &parts, &given, into)
 }
 
-// Whether a call has at most so much to do.
+// Refuses a call whose work passes the limit.
 fn may_work(alloc: Global, parts: &Parts, given: &Given, limit: u64) -> Result<(), Refusal>
     requires right { IsRight given.now.rows.now given.now.equalities.now given.now.lists.now given.now.runs.now }
     requires edges { parts.now.equalities ≡ edges_of given.now.equalities.now }
@@ -204,7 +204,7 @@ fn may_work(alloc: Global, parts: &Parts, given: &Given, limit: u64) -> Result<(
     Ok(())
 }
 
-/// The same, if its work is within a limit. The work is counted first, and no set is bounded where it passes the limit.
+/// Does what `bounds` does, if its work is within a limit. The work is counted first. If it passes the limit, no set is bounded.
 pub fn bounds_within(
     alloc: Global,
     rows: &[u64],

@@ -1,4 +1,4 @@
-//! Which value is the first wrong one. None of this takes memory.
+//! Finds the first wrong value. No function here allocates memory.
 ghost use Rattle.std.specs.Prelude.{◌≡◌, ◌<◌, ◌≤◌, ◌↔◌, ℕ, find, length, IsTrue, MatchOption};
 ghost use Rattle.std.specs.List.{list_any};
 ghost use Rattle.safebound_lists.specs.First.{IsFirstWrong};
@@ -41,7 +41,7 @@ pub(crate) fn first_wrong_equality(entries: usize, equalities: &[Equality]) -> O
     None
 }
 
-// Whether one of the lists is of a column.
+// Whether a column has one of the lists.
 fn is_listed(lists: &[ColumnList], entry: u32, column: u32) -> bool
     ensures { result ≡ list_any (is_of entry column) lists.now }
 {
@@ -98,7 +98,7 @@ pub(crate) fn list_of(lists: &[ColumnList], place: Place) -> Option<ColumnList>
     None
 }
 
-/// The runs of a list that are there; none of a column in which no row has a value.
+/// The runs of a list. If no row has a value in the column, there are no runs.
 pub(crate) fn own_runs<'a>(runs: &'a [Run], list: ColumnList) -> &'a [Run]
     requires { AreRunsThere (length runs.now) list }
     ensures { result.now ≡ runs_of runs.now list }

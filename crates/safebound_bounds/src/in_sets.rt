@@ -1,5 +1,5 @@
-//! What is known of the entries in a set: rows without a value in a column that an equality of the set names are joined with nothing, and
-//! aren't counted.
+//! What is known of the entries in a set. A row that has no value in a column that an equality of the set names joins with no row, so it isn't
+//! counted.
 ghost use Rattle.std.specs.Prelude.{◌≡◌, ◌∷◌, [], ◌<◌, ◌≤◌, ℕ, length, true, IfOk};
 ghost use Rattle.std.specs.List.{sum};
 ghost use Rattle.limits.specs.Profile.{most_entries};
@@ -29,7 +29,7 @@ pub(crate) struct Given<'a> {
     pub runs: &'a [Run],
 }
 
-// How many rows runs are of.
+// How many rows these runs count.
 fn total(runs: &[Run]) -> u64
     requires { AreRight runs.now }
     ensures { result ≡ sum (list_of_runs runs.now) }
@@ -53,7 +53,7 @@ fn rows_with_value(lists: &[ColumnList], runs: &[Run], place: Place) -> u64
     }
 }
 
-// A row bound of an entry, or how many of its rows have a value in this column, if it is one of its columns.
+// A row bound of an entry, or the number of its rows with a value in this column, if the column is the entry's and the number is smaller.
 fn fewer_at(lists: &[ColumnList], runs: &[Run], entry: u8, place: Place, rows: u64) -> u64
     requires there { (i : ℕ) → i < length lists.now → AreRunsThere (length runs.now) (list_at lists.now i) }
     requires right { (i : ℕ) → i < length lists.now → AreRunsRightAt lists.now runs.now i }
@@ -65,7 +65,7 @@ fn fewer_at(lists: &[ColumnList], runs: &[Run], entry: u8, place: Place, rows: u
     rows.min(rows_with_value(lists, runs, place))
 }
 
-// A row bound of an entry, cut by one equality.
+// A row bound of an entry, lowered by an equality if both entries of the equality are in the set.
 fn met_at(
     lists: &[ColumnList],
     runs: &[Run],
@@ -105,7 +105,7 @@ fn rows_met(
     rows
 }
 
-// The same of each entry.
+// How many rows of each entry the equalities of a set can join, at most.
 fn rows_in_set(
     alloc: Global,
     given: &Given,
@@ -144,7 +144,7 @@ impl KnownInSets for Given<'_> {
     }
 }
 
-// Whether the list has a row for each that its entry has at most.
+// Whether the list sums to at least its entry's row bound.
 fn is_full(rows: &[u64], runs: &[Run], list: ColumnList) -> bool
     requires entry { list.entry < length rows.now }
     requires there { AreRunsThere (length runs.now) list }
@@ -154,7 +154,7 @@ fn is_full(rows: &[u64], runs: &[Run], list: ColumnList) -> bool
     total(own_runs(runs, list)) >= rows[list.entry as usize]
 }
 
-/// Where it is true, no list leaves rows without a value, so what is known is the same in every set.
+/// Whether no list leaves rows without a value. If so, what is known is the same in every set.
 pub(crate) fn are_full(rows: &[u64], lists: &[ColumnList], runs: &[Run]) -> bool
     requires lists { (i : ℕ) → i < length lists.now → IsRightListAt (length rows.now) (length runs.now) lists.now i }
     requires runs { (i : ℕ) → i < length lists.now → AreRunsRightAt lists.now runs.now i }

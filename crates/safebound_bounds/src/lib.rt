@@ -6,9 +6,9 @@
 //! A list may count fewer rows than its entry's row bound. The other rows then have no value in that column (NULL) and match nothing, so a
 //! set in which an equality names the column doesn't count them. A list that counts more rows is cut.
 //!
-//! Callers cite `known_in` for what the values mean in a set, `all_bounds` and `bound_in` for the answers, `IsBoundsCause`, `IsWithinCause`
-//! and `IsSetCause` for refusals, `work_of` for the number that is compared with the limit of work, and `ValuesFit` for tables to which the
-//! bounds apply.
+//! Callers cite `known_in` for what the values mean in a set, and `all_bounds` and `bound_in` for the answers. `IsBoundsCause`,
+//! `IsWithinCause` and `IsSetCause` are the causes of refusals. `work_of` is the number that is compared with the limit of work. `ValuesFit`
+//! says to which tables the bounds apply.
 #![tactic(auto)]
 
 mod arguments;

@@ -1,4 +1,4 @@
-//! What is known of the entries, from values that are right.
+//! Makes what is known of the entries, from values that are right.
 ghost use Rattle.std.specs.Prelude.{◌≡◌, [], ◌<◌, ◌≤◌, ℕ, length, IfOk};
 ghost use Rattle.std.specs.List.{sum};
 ghost use Rattle.limits.specs.Profile.{greatest_rows, most_entries};
@@ -17,7 +17,7 @@ use piece_math::Pieces;
 use safebound_lists::{Run, pieces_of};
 use std::alloc::Global;
 
-// The list of a column for so many rows.
+// The list of a column, fitted to this many rows.
 fn fitted(alloc: Global, rows: u64, runs: &[Run]) -> Result<Pieces, NoMemory>
     requires rows { rows ≤ greatest_rows }
     requires right { AreRight runs.now }
@@ -33,7 +33,7 @@ fn fitted(alloc: Global, rows: u64, runs: &[Run]) -> Result<Pieces, NoMemory>
     Ok(cut)
 }
 
-// The row bounds, and no lists.
+// The row bounds of the entries, without lists.
 fn with_rows(alloc: Global, rows: &[u64]) -> Result<EntryLists, NoMemory>
     requires { length rows.now ≤ most_entries }
     ensures { IfOk result (λ known. HoldsListed rows.now (length rows.now) [] [] known) }
@@ -45,7 +45,7 @@ fn with_rows(alloc: Global, rows: &[u64]) -> Result<EntryLists, NoMemory>
     Ok(known)
 }
 
-/// The row bounds and the lists.
+/// The row bounds of the entries, and the lists of their columns.
 pub(crate) fn entry_lists(
     alloc: Global,
     rows: &[u64],
@@ -85,7 +85,7 @@ fn edge_of(equality: Equality) -> Edge
     }
 }
 
-/// The equalities as those of a query that has nothing else.
+/// The parts of a query that has these equalities and no other conjuncts.
 pub(crate) fn parts_of(alloc: Global, equalities: &[Equality]) -> Result<Parts, NoMemory>
     requires { (i : ℕ) → i < length equalities.now → IsEqualityRight most_entries (equality_at equalities.now i) }
     ensures { IfOk result (λ parts. parts.equalities ≡ edges_of equalities.now) }

@@ -1,4 +1,4 @@
--- The joins as include/safebound.h numbers them.
+-- The kinds of joins, as include/safebound.h numbers them.
 use Rattle.std.specs.Prelude.{◌≡◌, ℕ, ◌==◌, if◌then◌else◌, Option, Some, None}
 use Rattle.safebound_bounds.specs.Meaning.{in_64_bits}
 use Rattle.safebound_lists.specs.declared.refusal.Refusal.{Refusal}
@@ -7,17 +7,17 @@ use Rattle.joined_tables.specs.Bounds.{most_joined}
 use Rattle.joined_tables.specs.declared.joins.Join.{Join}
 use Rattle.joined_tables.specs.declared.joins.Join.TheVariants.{Anti, Full, Left, Right, Semi}
 
--- the join of a number
+-- the kind of join that has this number
 abbrev pub join_of : ℕ → Option Join
 join_of kind = if kind == 1 then Some Left else if kind == 2 then Some Right else if kind == 3 then Some Full else if kind == 4 then Some Semi else if kind == 5 then Some Anti else None
 
--- the bound that is answered of a kind of join
+-- the bound that is answered for a kind of join
 pub record IsJoined (kind inner left right bound : ℕ) : Type 0 where
   pub join : Join
   pub named : join_of kind ≡ Some join
   pub exact : bound ≡ in_64_bits (most_joined join inner left right)
 
--- why none is: no join has the number
+-- why no bound is answered: no kind of join has the number
 abbrev pub IsKindCause : ℕ → Refusal → Type 0
 IsKindCause kind (refusal.JoinKind given) = (given ≡ kind) × (join_of kind ≡ None)
 IsKindCause kind _ = ⊥

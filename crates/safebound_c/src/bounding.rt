@@ -18,8 +18,8 @@ use std::alloc::Global;
 
 /// Writes the bounds of all sets of entries, in rows, each at the number whose bits are the set.
 ///
-/// Never under: where the row bounds and lists fit tables, in which rows may be without values, no set has more choices of one row for each
-/// of its entries that satisfy its equalities than its bound says, or the bound is 2^64 - 1.
+/// No bound is too low for tables that the row bounds and lists fit, even if rows are without values. Of all choices of one row for each entry
+/// of a set, no more satisfy the set's equalities than its bound says, or the bound is 2^64 - 1.
 #[unsafe(no_mangle)]
 pub extern "C" fn safebound_bounds(
     alloc: Global,

@@ -61,7 +61,7 @@ pub extern "C" fn safebound_append(
     told(append(alloc, runs, others, into), detail)
 }
 
-/// Writes the list of the rows that satisfy two conditions, from the lists of both.
+/// Writes the list whose running sums are the lesser of two lists' running sums. It dominates the rows that satisfy both lists' conditions.
 #[unsafe(no_mangle)]
 pub extern "C" fn safebound_lesser(
     alloc: Global,
@@ -77,7 +77,7 @@ pub extern "C" fn safebound_lesser(
     told(lesser_of(alloc, runs, others, into), detail)
 }
 
-/// Writes the list of the rows of one of two values, whichever of them it is, from the lists of both.
+/// Writes the greater of two lists, rank by rank. It dominates the rows of either list, for example those of either of two values.
 #[unsafe(no_mangle)]
 pub extern "C" fn safebound_greater(
     alloc: Global,
@@ -93,7 +93,7 @@ pub extern "C" fn safebound_greater(
     told(greater_of(alloc, runs, others, into), detail)
 }
 
-/// Writes the list of at most so many rows that a list dominates.
+/// Writes a list that is cut at `rows`. It dominates any `rows` or fewer of the rows that the list dominates.
 #[unsafe(no_mangle)]
 pub extern "C" fn safebound_cut(
     alloc: Global,

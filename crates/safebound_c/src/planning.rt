@@ -40,7 +40,7 @@ pub extern "C" fn safebound_tree(
     told(tree(alloc, bounds, budget, into), detail)
 }
 
-/// The bytes that an engine's buffers take for an order: of its lists of so many rows of each entry, its levels and its chains.
+/// The bytes that an engine's buffers take for an order: those of a list of rows for each entry, of the levels and of the chains.
 #[unsafe(no_mangle)]
 pub extern "C" fn safebound_memory(rows: &[u64], levels: &[Level], detail: &mut u64) -> u32
     ensures exact { TellsAnswer (IsOrderMemory rows.now levels.now) (IsOrderMemoryCause rows.now levels.now)
@@ -49,7 +49,7 @@ pub extern "C" fn safebound_memory(rows: &[u64], levels: &[Level], detail: &mut 
     told(order_memory(rows, levels), detail)
 }
 
-/// The same for a join tree.
+/// The bytes that an engine's buffers take for a join tree.
 #[unsafe(no_mangle)]
 pub extern "C" fn safebound_tree_memory(rows: &[u64], joins: &[JoinNode], detail: &mut u64) -> u32
     ensures exact { TellsAnswer (IsTreeMemory rows.now joins.now) (IsTreeMemoryCause rows.now joins.now)

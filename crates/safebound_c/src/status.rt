@@ -85,7 +85,7 @@ fn status(refusal: Refusal) -> u32
     }
 }
 
-// The number that goes with a refusal, or the old one where none does.
+// The number that goes with a refusal, or the old number if the refusal has no number.
 fn detail_with(refusal: Refusal, old: u64) -> u64
     ensures { result ≡ detail_of_refusal refusal old }
 {
@@ -116,7 +116,7 @@ fn detail_with(refusal: Refusal, old: u64) -> u64
     }
 }
 
-/// The status of an answer, whose number is put behind `detail`.
+/// The status of an answer. The answer's number is written to `detail`.
 pub(crate) fn told(answer: Result<u64, Refusal>, detail: &mut u64) -> u32
     ensures status { result ≡ status_of answer }
     ensures detail { detail.new ≡ detail_of answer detail.old }

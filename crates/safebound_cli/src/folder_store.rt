@@ -24,7 +24,7 @@ pub struct FolderStore<'a, R: Files> {
 }
 
 impl<'a, R: Files + AllocGlobal> FolderStore<'a, R> {
-    /// No file is open yet, and nothing has failed.
+    /// A store with no open file and no failure so far.
     pub fn new(rt: &'a R) -> FolderStore<'a, R>
         ensures faults { result.faults ≡ 0 }
     {

@@ -12,7 +12,7 @@ pub struct StreamSink<W> {
 }
 
 impl<W: Write> StreamSink<W> {
-    /// Nothing has failed yet.
+    /// A sink with no failed write so far.
     pub fn new(stream: W) -> StreamSink<W>
         ensures faults { result.faults ≡ 0 }
     {

@@ -84,13 +84,13 @@ was_cut_and_told_behind : (name : ℕ) (before : List ℕ) (after : Option (List
 was_cut_and_told_behind name before after f f' None line h = h
 was_cut_and_told_behind name before after f f' (Some text) line h = cut_behind name before after text line h
 
--- what is told after a text, where there is one
+-- a line that was told after a text, if there is a text
 told_after_behind : (name : ℕ) (before : List ℕ) (after : Option (List ℕ)) (f f' : ℕ) (text : Option (List ℕ)) (line : List ℕ)
     → GrewOrWasCut (grown (Some (name ∷ before)) text) after f f' line → GrewOrWasCut (grown (Some before) text) (behind after) f f' line
 told_after_behind name before after f f' None line h = tells_behind name before after f f' line h
 told_after_behind name before after f f' (Some text) line h = tells_behind name (before ++ text) after f f' line h
 
--- a value of which more holds
+-- if P implies Q, a result with P is a result with Q
 and_more : {A E : Type 0} (P Q : A → Type 0) (r : Result A E) → ((x : A) → P x → Q x) → IsOkAnd r P → IsOkAnd r Q
 and_more P Q (Ok x) more h = more x h
 and_more P Q (Err e) more h = h
@@ -109,7 +109,7 @@ LeftByCutOut out notes line outcome = WasCut out (out_text outcome)
 
 -- ---- the headline
 
--- the call, as the streams tell it, and of the bytes alone
+-- the call as the streams tell it, and the same call with streams of the bytes alone
 module _ (words : List (List ℕ)) (status : Status) (store : Reading)
     (out_name : ℕ) (out_before : List ℕ) (out_after : Option (List ℕ)) (o o' : ℕ)
     (notes_name : ℕ) (notes_before : List ℕ) (notes_after : Option (List ℕ)) (n n' : ℕ) where

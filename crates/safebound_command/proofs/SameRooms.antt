@@ -50,7 +50,7 @@ told_after_name : (name : ℕ) (before : List ℕ) (after : Option (List ℕ)) (
 told_after_name name before after f f' None line h = prefix_name name before after line h.prefix
 told_after_name name before after f f' (Some text) line h = prefix_name name (before ++ text) after line h.prefix
 
--- what follows from a fact on the value
+-- Q holds if it follows from P, and P holds of the result's value
 from_ok : {A E : Type 0} (P : A → Type 0) (Q : Type 0) (r : Result A E) → ((x : A) → P x → Q) → IsOkAnd r P → Q
 from_ok P Q (Ok x) so h = so x h
 from_ok P Q (Err e) so h = absurd h
@@ -61,7 +61,7 @@ module _ (words : List (List ℕ)) (store : Reading) (files : Files) (tells : st
   abbrev call_with : Status → Call
   call_with s = named_call words s store out_name out_before out_after o o' notes_name notes_before notes_after n n'
 
-  -- both names
+  -- both streams still tell their names
   abbrev Same : Type 0
   Same = (name_in out_after ≡ out_name) × (name_in notes_after ≡ notes_name)
 
@@ -118,7 +118,7 @@ files_told (Some number) store files is = (demo_files number, refl)
 
 -- ---- over rooms: the names are the same, and the streams that began empty have the headline
 
--- a call whose streams told these names and texts, and then these
+-- a call whose streams told names and texts before it, and others after it
 module _ (words : List (List ℕ)) (status : Status) (shop : Option ℕ) (store : Reading)
     (out_name : ℕ) (out_before : List ℕ) (out_name' : ℕ) (out_text : List ℕ) (o o' : ℕ)
     (notes_name : ℕ) (notes_before : List ℕ) (notes_name' : ℕ) (notes_text : List ℕ) (n n' : ℕ) where

@@ -20,7 +20,7 @@ read_from files after misses_before misses_after = record {
   misses_after = misses_after;
 }
 
--- a stream that began empty, has taken this text, and of which `faults` writes failed
+-- a stream that began empty and has taken this text; `faults` of its writes failed
 abbrev pub stream : List ℕ → ℕ → Growth
 stream text faults = record {
   taken_before = Some [];
@@ -70,6 +70,6 @@ pub record HasBadWord (words : List (List ℕ)) (out notes : Written) (code : �
   pub no_out : out.count ≡ 0
   pub no_notes : notes.count ≡ 0
 
--- the program was run, or a word isn't UTF-8. To copy the words takes no memory; where the run lacks some, its exit status says so
+-- the program was run, or a word isn't UTF-8. Copying the words takes no memory. If the run lacks memory, its exit status says so
 abbrev pub CallEnds : List (List ℕ) → Files → Written → Written → ℕ → Type 0
 CallEnds words files out notes code = ((misses : ℕ) × Ran words files out notes misses code) ⊎ HasBadWord words out notes code

@@ -9,7 +9,7 @@ use outcomes::NO_WORDS;
 use slice_devices::SliceFile;
 use std::alloc::Global;
 
-/// Runs the program over these files, and writes what it writes to its two streams into two rooms. Answers its exit status.
+/// Runs the program over these files, with the two rooms as its two streams. Answers its exit status.
 #[unsafe(no_mangle)]
 pub extern "C" fn safebound_command(
     alloc: Global,

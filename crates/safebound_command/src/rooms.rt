@@ -1,4 +1,4 @@
-//! The program over files and rooms.
+//! Runs the program over files, and writes its texts into rooms.
 ghost use Rattle.std.specs.Prelude.{◌<◌, length, map};
 ghost use Rattle.outcomes.specs.Statuses.{code_of};
 ghost use Rattle.slice_devices.specs.Slices.{files_of};
@@ -43,7 +43,7 @@ pub(crate) fn run_over(
     }
 }
 
-/// Refuses a command line that has too many words. It reads no file, and writes nothing to the other room.
+/// Refuses a command line that has too many words. It reads no file, and writes only to the room for notes.
 pub(crate) fn refuse_over(
     words: &[&[u8]],
     files: &[SliceFile<'_>],

@@ -1,4 +1,4 @@
-//! The top call over lent memory.
+//! The top call over files and buffers that the caller lends.
 ghost use Rattle.std.specs.Prelude.{◌≡◌, ◌<◌, [], None, length, map, take};
 ghost use Rattle.safebound_top.specs.Headline.{Headline};
 ghost use Rattle.prepared_runs.specs.Kept.{KeepsItsBuffers};
@@ -12,7 +12,7 @@ use safebound_words::MOST_WORDS;
 use slice_devices::{SliceFile, SliceSink, SliceStore};
 use std::alloc::Global;
 
-/// Runs the program. Afterwards both streams still have their rooms, with what was written in them. It hands out the buffers of the joins.
+/// Runs the program. Afterwards both streams still have their rooms, which hold what was written. `kept` gets the buffers of the joins.
 pub(crate) fn run(
     alloc: Global,
     words: &[&str],
@@ -40,7 +40,7 @@ pub(crate) fn run(
     safebound(alloc, words, store, out, notes, kept)
 }
 
-/// Refuses a command line that has too many words. Afterwards the stream still has its room, with what was written in it.
+/// Refuses a command line that has too many words. Afterwards the stream still has its room, which holds what was written.
 pub(crate) fn refuse(
     _words: &[&[u8]],
     _files: &[SliceFile<'_>],

@@ -1,4 +1,4 @@
-//! The words of a call as texts. They take no memory.
+//! The words of a call as texts, in an array of fixed size: no memory is allocated for them.
 ghost use Rattle.std.specs.Prelude.{◌≡◌, ◌<◌, Err, IfOk, false, length, map, Any};
 ghost use Rattle.std.specs.Str.{IsUtf8};
 ghost use Rattle.safebound_command.specs.declared.words.NoWords.TheVariants as no_words;
@@ -12,7 +12,7 @@ use std::str;
 pub(crate) enum NoWords {
     /// One of them isn't UTF-8.
     NotUtf8,
-    /// There are more of them than any command line has.
+    /// There are more than `MOST_WORDS`: no command line of the program has so many.
     TooMany,
 }
 

@@ -58,7 +58,7 @@ use Rattle.safebound_top.proofs.Promises.{declares, query_of_schema}
 use Rattle.safebound_laws.specs.Printed.{printed}
 use Rattle.safebound_laws.proofs.Databases.{database_found}
 
--- what `plan` asks
+-- the work that `plan` asks for
 abbrev task : ℕ → ℕ → Option ℕ → PlanWork
 task budget accuracy memory = record { budget = budget; accuracy = accuracy; source = sources.Columns; shape = shapes.Order; memory = memory; out = out.Nothing }
 
@@ -69,7 +69,7 @@ test_alike : (test : Bool) (r : Refusal) (x y : RunOutcome) → printed x ≡ pr
 test_alike true r x y same = ap (λ (p : Option (List ℕ) × Option (List ℕ)). Ok p) same
 test_alike false r x y same = refl
 
--- values that print alike, behind the same limit
+-- outcomes that print the same print the same within the same limit too
 limits_alike : (memory : Option ℕ) (bytes : ℕ) (x y : RunOutcome) → printed x ≡ printed y
     → seen printed (within_limit memory bytes x) ≡ seen printed (within_limit memory bytes y)
 limits_alike None bytes x y same = ap (λ (p : Option (List ℕ) × Option (List ℕ)). Ok p) same
@@ -78,7 +78,7 @@ limits_alike (Some limit) bytes x y same = test_alike (nat_le bytes limit) (refu
 -- ---- from the query on
 
 module _ (query : Query) (file : StatsFile) (rows : List (List Row)) (budget accuracy : ℕ) (memory : Option ℕ) where
-  -- from a plan that is made by a file, and by tables
+  -- the outcome of a plan from the file, and of a plan from the tables
   by_file : Result Plan PlanError → Result RunOutcome Refusal
   by_file answer = told stats_file_refusal (where_told answer) >>= λ plan. stats_file_plan_within query file plan memory
 

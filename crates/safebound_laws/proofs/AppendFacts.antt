@@ -40,7 +40,7 @@ module _ (schema : Schema) (stats : StatsFile) (table before : ℕ) (rows : List
   abbrev made : RunOutcome
   made = Appended (record { schema = schema; table = table; rows = rows; file = file_after stats table rows })
 
-  -- only where the rows are few enough something comes of them, and this is it
+  -- there is an outcome only if the rows are few enough, and the outcome is `made`
   grown_so : (outcome : RunOutcome) → grown_stage schema stats table before rows ≡ Ok outcome → (before + length rows ≤ most_rows) × (outcome ≡ made)
   unfolding grown_stage
   grown_so outcome is = elim (cases_Bool (nat_le (before + length rows) most_rows)) [

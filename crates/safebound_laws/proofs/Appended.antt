@@ -45,7 +45,7 @@ no_texts : IsPool []
 unfolding IsDistinct
 no_texts = record { utf8 = All-nil IsUtf8; once = tt }
 
--- a section that is there was found
+-- if the answer is a section, this section was found
 found_section : (found : Option TableStats) (section : TableStats) → or_missing found ≡ Ok section → found ≡ Some section
 found_section None section is = absurd (cc)
 found_section (Some s) section is = (let same : s ≡ section = cc in ap Some same)

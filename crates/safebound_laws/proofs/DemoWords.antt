@@ -22,7 +22,7 @@ audit_is : command_of audit_words ≡ Some audit
 unfolding command_of kind_of over_files parts_from reading_of
 audit_is = refl
 
--- a shop is no matter of what is read and planned
+-- over the same files, the number of a shop changes nothing of what is read and planned
 same_run : (number : ℕ) (files : Files) → command_run (demo_of number) files ≡ command_run audit files
 unfolding command_run
 same_run number files = refl

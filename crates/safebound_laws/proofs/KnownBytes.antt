@@ -138,7 +138,7 @@ has_added query tables table rows entry low = elim (cases_Bool (table_of query e
   | inr e ↦ rw e (append-nil (tables entry))
 ]
 
--- one addition behind others
+-- one addition and then more is the same as all of them together
 added_then : (query : Query) (tables : Tables) (one : Added) (more : List Added) → with_added query (with_added query tables (one ∷ [])) more ≡ with_added query tables (one ∷ more)
 added_then query tables one more = fun_ext (λ entry.
     let first : List Row = cond (table_of query entry == one.table) one.rows [] in

@@ -1,4 +1,4 @@
--- A plan from the file that `stats` wrote is the one that the tables themselves have.
+-- A plan from the file that `stats` wrote is the plan from the tables themselves.
 use Rattle.std.proofs.Common.{◌≡◌, ℕ, ◌<◌, false, List, length, Some, Ok, ap, sym, ◌∙◌, subst}
 use Rattle.appended_stats.specs.Appended.{alone}
 use Rattle.csv_tables.specs.Rows.{Row}

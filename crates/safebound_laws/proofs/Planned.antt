@@ -1,4 +1,4 @@
--- A plan from a statistics file of which it is known what it stands for.
+-- A plan from a statistics file, if it is known for which tables the file stands.
 use Rattle.std.proofs.Common.{◌≡◌, ℕ, ◌<◌, ◌==◌, ◌++◌, true, false, List, [], length, get_or, Option, None, Some, Result, Ok, Err, refl, ap, sym, ◌∙◌, subst, arith}
 use Rattle.std.specs.Prelude.{unwrap_or}
 use Rattle.std.proofs.lemmas.Bool.{eq-eqb}
@@ -121,7 +121,7 @@ added_same : (query : Query) (tables : Tables) (other : Query) (also : Tables) (
 added_same query tables other also added have entry place low within same =
     ap (λ (rows : List Row). rows ++ added_rows (table_of query entry) added) (have entry place low within same) ∙ ap (λ (t : ℕ). also place ++ added_rows t added) same
 
--- what is read of the table of an entry is in its file
+-- the rows that were read for an entry are in the file of its table
 in_file : (files : Files) (schema : Schema) (query : Query) (entry : ℕ) (rows : List Row) → IsOf schema query → entry < length query.from
     → table_rows schema (table_of query entry) files ≡ Ok rows → AreInFile files schema query entry rows
 in_file files schema query entry rows of low staged =
@@ -141,7 +141,7 @@ in_file files schema query entry rows of low staged =
 
 -- ---- the plan
 
--- from a file of which it is known that it stands for tables of the query that `stats` read
+-- from a file that is known to stand for tables of the query that `stats` read
 module _ (made : StatsCall) (schema : Schema) (first_bytes : List ℕ) (start : FromStats made first_bytes schema) (bytes : List ℕ) (tables : Tables)
     (known : Known schema start.query bytes tables) (planned : PlanCall) (from : PlannedFrom schema bytes planned) where
   abbrev command : Command

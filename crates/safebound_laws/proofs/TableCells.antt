@@ -48,12 +48,12 @@ use Rattle.table_files.proofs.FewRows.{then_ok, with_keys}
 
 -- ---- pools
 
--- UTF-8 texts, none of them twice
+-- UTF-8 texts, each of them once
 pub record IsPool (texts : List (List ℕ)) : Type 0 where
   pub utf8 : All IsUtf8 texts
   pub once : IsDistinct bytes_eq texts
 
--- a pool that begins with the old texts, and has at most so many more
+-- a pool that begins with the old texts, and has at most `most` more
 pub record GrowsByFile (old new : List (List ℕ)) (most : ℕ) : Type 0 where
   pub pool : IsPool new
   pub begins : PoolBeginsWith old new

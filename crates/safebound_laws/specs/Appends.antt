@@ -1,4 +1,4 @@
--- What an append comes to, in the verdict's words: what was read, what is written, and what this stands for.
+-- What `append` does, by the verdict: what it reads, what it writes, and for which rows the new file stands.
 use Rattle.std.specs.Prelude.{ℕ, ◌≡◌, ◌+◌, ◌≤◌, List, length, Ok}
 use Rattle.appended_stats.specs.Appended.{file_after}
 use Rattle.appended_stats.specs.Conditions.{HasNewRows}
@@ -20,8 +20,8 @@ use Rattle.prepared_runs.specs.StatsFiles.{stats_stage}
 use Rattle.prepared_runs.specs.RunOutcome.{Appended, PlanFromStatsFile, RunOutcome, PlannedFromStats}
 use Rattle.prepared_runs.specs.Verdict.{schema_stage, verdict}
 
--- the schema, the statistics file, its section of the table and the new rows are those in the files that the command names, the table has no more
--- rows with them than a table may have, and what is written is that file after these rows
+-- the command's files hold the schema, the statistics file with its section of the table, and the new rows. With these rows the table has at most as
+-- many rows as a table may have. The outcome is that statistics file after these rows
 pub record GrowsByFile (files : Files) (schema_file stats_file name rows_file : List ℕ) (outcome : RunOutcome) : Type 0 where
   pub schema : Schema
   pub schema_is : schema_stage schema_file files ≡ Ok schema
@@ -36,12 +36,12 @@ pub record GrowsByFile (files : Files) (schema_file stats_file name rows_file : 
   pub after_is : after ≡ file_after before section.table rows
   pub written : outcome ≡ Appended (record { schema = schema; table = section.table; rows = rows; file = after })
 
--- for whatever tables of a query the one file stood, the other stands for them with the new rows after those of their table
+-- if `before` stands for the tables of a query, `after` stands for these tables with the new rows at the end of their table
 abbrev pub StandsAfter : StatsFile → ℕ → List Row → StatsFile → Type 0
 StandsAfter before table rows after = (query : Query) (tables grown : Tables) → StandsFor query before tables → HasNewRows query table rows tables grown
     → StandsFor query after grown
 
--- and each plan from the other file has no bound that is too low for the grown tables
+-- if `before` stands for the tables of a plan's query, no bound of a plan from `after` is too low for the tables with the new rows
 abbrev pub PlansAfter : StatsFile → ℕ → List Row → StatsFile → Type 0
 PlansAfter before table rows after = (words : List (List ℕ)) (files : Files) (plan : PlanFromStatsFile) (tables grown : Tables)
     → verdict words files ≡ Ok (PlannedFromStats plan) → plan.file ≡ after

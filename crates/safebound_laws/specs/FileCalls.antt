@@ -1,5 +1,5 @@
--- Calls of `stats`, `append` and `plan --stats` that ended with Done. What connects them is the bytes of a statistics file: those that the one
--- wrote and the other read.
+-- Calls of `stats`, `append` and `plan --stats` that ended with Done. They are connected by the bytes of a statistics file, which one call wrote and
+-- the next one read.
 use Rattle.std.specs.Prelude.{ℕ, ◌≡◌, ◌++◌, List, [], ◌∷◌, Option, None, Some, ⊤}
 use Rattle.base_io.specs.Devices.{Growth}
 use Rattle.base_io.specs.Files.{Files, file_of}
@@ -18,7 +18,7 @@ use Rattle.safebound_top.specs.Promise.{DeclaresSchema}
 abbrev pub Took : Growth → List ℕ → Type 0
 Took sink bytes = (before : List ℕ) × (sink.taken_before ≡ Some before) × (sink.taken_after ≡ Some (before ++ bytes))
 
--- a call that keeps the headline was asked for this, and ended with Done over these files, which its store told
+-- the headline holds of the call, its words ask for this command, and it ended with Done over these files, which its store tells
 pub record IsDone (call : Call) (command : Command) (files : Files) : Type 0 where
   pub headline : Headline call
   pub asked : AskFor call.words command
@@ -58,12 +58,12 @@ pub record AppendedTo (schema : Schema) (before : List ℕ) (append : AppendCall
   pub there : file_of append.files append.names.stats_file ≡ Some before
   pub wrote : Took append.call.out append.bytes
 
--- each read the bytes that the one before it wrote, and the first one read these
+-- each call of `append` read the bytes that the call before it wrote, and the first one read the given bytes
 abbrev pub AppendedEach : Schema → List ℕ → List AppendCall → Type 0
 AppendedEach schema before [] = ⊤
 AppendedEach schema before (append ∷ appends) = AppendedTo schema before append × AppendedEach schema append.bytes appends
 
--- the bytes that the last one wrote
+-- the bytes that the last call of `append` wrote, or the given ones if there is no call
 abbrev pub last_bytes : List ℕ → List AppendCall → List ℕ
 last_bytes before [] = before
 last_bytes before (append ∷ appends) = last_bytes append.bytes appends

@@ -7,7 +7,7 @@ ghost use Rattle.prepared_runs.specs.RunOutcome.{RunOutcome};
 ghost use Rattle.prepared_runs.specs.Verdict.{verdict};
 ghost use Rattle.safebound_laws.specs.Appends.{GrowsByFile, PlansAfter, StandsAfter};
 
-/// If `append` writes a file, then it read the schema, the statistics file and the new rows from the files that its words name, and the file
+/// Suppose that `append` writes a file. Then it read the schema, the statistics file and the new rows from the files that its words name. The file
 /// that it writes is that statistics file after these rows.
 pub fn appended_files_are_read()
     ensures { (words : List (List ℕ)) (files : Files) (schema stats name rows : List ℕ) (outcome : RunOutcome)
@@ -15,8 +15,8 @@ pub fn appended_files_are_read()
         → GrowsByFile files schema stats name rows outcome }
 {}
 
-/// If a section of the file that `append` read stood for the rows of its table, then the section in the file that it writes stands for these
-/// rows followed by the new ones. The same holds of the whole file and the tables of a query.
+/// Suppose that the file that `append` read stands for the tables of a query. Then the file that it writes stands for these tables with the new rows
+/// at the end of their table.
 pub fn appended_files_stand()
     ensures { (files : Files) (schema stats name rows : List ℕ) (outcome : RunOutcome) (grows : GrowsByFile files schema stats name rows outcome)
         → StandsAfter grows.before grows.section.table grows.rows grows.after }

@@ -1,4 +1,4 @@
-//! What follows from the headline and the verdict. Each call does nothing.
+//! What follows from the headline and the verdict: no law computes anything, and its contract is the law.
 ghost use Rattle.std.specs.Prelude.{◌≡◌, ◌≢◌, ℕ, List, Option, Ok, Some};
 ghost use Rattle.base_io.specs.Files.{Files};
 ghost use Rattle.outcomes.specs.declared.names.FileId.{FileId};
@@ -20,7 +20,7 @@ ghost use Rattle.prepared_runs.specs.declared.shapes.AnyPlan.TheVariants as shap
 ghost use Rattle.safebound_words.specs.declared.command.ListSource.TheVariants as sources;
 ghost use Rattle.safebound_words.specs.declared.command.PlanWork.{PlanWork};
 
-/// A call that has the headline keeps the promise of `run`, which names no stage of the program.
+/// If the headline holds of a call, then the promise of `run` holds of it too. The promise names no stage of the program.
 pub fn the_headline_keeps_the_promise()
     ensures { (call : Call) → Headline call → Promise call }
 {}
@@ -33,7 +33,7 @@ pub fn demo_meets_no_read_fault()
         → (file : FileId) → call.status ≢ status.Refused (refusal.Missing file) }
 {}
 
-/// Printed bounds are near the uncompressed ones, if no conjunct names one entry alone and neither `--reduce` nor `--keys` is given. At
+/// Printed bounds are near the uncompressed ones, if no conjunct names one entry alone and none of `--keys`, `--reduce` and `--count` is given. At
 /// accuracy K, K^n times the printed bound of a level or inner node of n entries is at most (K + 1)^n times its uncompressed bound.
 pub fn printed_bounds_are_near()
     ensures levels { (words : List (List ℕ)) (files : Files) (shop : Option ℕ) (schema query : List ℕ) (task : PlanWork) (run : AcceptedQuery) (plan : Plan)

@@ -7,23 +7,23 @@ ghost use Rattle.safebound_top.specs.Promise.{AsksQuery};
 ghost use Rattle.safebound_laws.specs.FileCalls.{AppendCall, AppendedEach, PlanCall, PlannedFrom, StatsCall, WroteStats, last_bytes};
 ghost use Rattle.safebound_laws.specs.FilePlans.{GrownPlanHolds, PlanHolds, PlanIsNear, PlanIsOfTables};
 
-/// `stats`, then `plan --stats`: suppose that the second call read the bytes that the first one wrote, as its statistics file, and that both
-/// declare the same schema. Then for every query that the second call accepts, no scan and no level has more rows than the plan text says,
-/// over the rows in the files that `stats` read.
+/// `stats`, then `plan --stats`: suppose that the second call read the bytes that the first one wrote, as its statistics file, and that both declare
+/// the same schema. Then, for every query that the second call accepts, no scan and no level over the rows that `stats` read has more rows than the
+/// plan text says.
 pub fn plans_from_written_files_hold()
     ensures { (schema : Schema) (bytes : List ℕ) (made : StatsCall) (planned : PlanCall)
         → WroteStats made schema bytes → PlannedFrom schema bytes planned → PlanHolds made planned schema }
 {}
 
-/// `stats`, then `append` any number of times, then `plan --stats`: the same over the rows that `stats` read with all new rows behind them.
+/// `stats`, then `append` any number of times, then `plan --stats`: the same holds over the rows that `stats` read, followed by all new rows.
 pub fn plans_from_appended_files_hold()
     ensures { (schema : Schema) (bytes : List ℕ) (made : StatsCall) (appends : List AppendCall) (planned : PlanCall)
         → WroteStats made schema bytes → AppendedEach schema bytes appends → PlannedFrom schema (last_bytes bytes appends) planned
         → GrownPlanHolds made appends planned schema }
 {}
 
-/// The plan is the one that the tables have. For every query that the later call accepts, it is the plan that `plan` makes of the rows that
-/// `stats` read, at the accuracy of `stats` and within the later call's budget.
+/// Such a plan is the same as the plan from the tables. For every query that the later call accepts, `plan` makes this plan of the rows that `stats`
+/// read, at the accuracy of `stats` and within the later call's budget.
 pub fn plans_from_written_files_are_those_of_the_tables()
     ensures { (schema : Schema) (bytes : List ℕ) (made : StatsCall) (planned : PlanCall)
         → WroteStats made schema bytes → PlannedFrom schema bytes planned → PlanIsOfTables made planned schema }

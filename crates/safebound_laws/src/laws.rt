@@ -57,9 +57,9 @@ pub fn sources_stand()
         → tables_stage schema query.from files ≡ Ok rows → Needs source schema query (tables_in rows) }
 {}
 
-/// The program may run out of memory, but the definitions that specify it never give the error `NoMemory`. This holds for the texts of a schema,
-/// a query and statistics, for a table's bytes, for a plan of any source and shape, and for a plan from a statistics file. So each refusal of
-/// the verdict is about the words or about a file.
+/// The program may run out of memory, but the definitions that specify it never give the error `NoMemory`. This holds for the texts of a schema, a
+/// query and statistics, a table's bytes, a plan of any source and shape, and a plan from a statistics file. So each refusal of the verdict is about
+/// the words or about a file.
 pub fn no_reader_wants_memory()
     ensures schemas { (text : List ℕ) → schema_answer text ≢ Err schema_error.NoMemory }
     ensures queries { (schema : Schema) (text : List ℕ) → query_answer schema text ≢ Err query_error.NoMemory }

@@ -1,4 +1,4 @@
-//! What the laws on plans rest on: no law computes anything, and the contract is the law.
+//! What the laws of `file_plans` rest on: no law computes anything, and the contract is the law.
 ghost use Rattle.std.specs.Prelude.{◌≡◌, ℕ, List, Ok};
 ghost use Rattle.base_io.specs.Files.{Files};
 ghost use Rattle.stats_file_of_query.specs.Standing.{StandsFor};
@@ -24,8 +24,8 @@ pub fn appended_texts_are_read_back()
         → stats_answer grows.schema (file_text grows.schema grows.after) ≡ Ok grows.after }
 {}
 
-/// If a file that is made of a query's tables stands for them, it stands for the tables of any other query too, as long as a table that both
-/// queries name has the same rows in both.
+/// Suppose that a file has sections only of tables that a query names, and stands for the query's tables. Then it stands for the tables of any other
+/// query too, as long as a table that both queries name has the same rows in both.
 pub fn files_stand_for_other_queries()
     ensures { (query other : Query) (file : StatsFile) (tables also : Tables) → StandsFor query file tables → IsOfTables query file
         → HaveSameRows query tables other also → StandsFor other file also }

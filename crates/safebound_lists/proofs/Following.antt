@@ -38,7 +38,7 @@ sum_more before run =
     ∙ sum_by-append (λ (x : ℕ). x) (list_of before) (replicate run.keys run.degree)
     ∙ ap (λ n. sum (list_of before) + n) (sum_by-replicate (λ (x : ℕ). x) run.keys run.degree)
 
--- each element of the list is at least what each degree is
+-- if v is at most the run's degree and each element of the list, it is at most each element of both together
 elements_of_run : (v d n : ℕ) → v ≤ d → (s : List ℕ) → AllByRecursion (λ x. v ≤ x) s → AllByRecursion (λ x. v ≤ x) (replicate n d ++ s)
 elements_of_run v d zero h s all = all
 elements_of_run v d (suc n) h s all = (h, elements_of_run v d n h s all)
@@ -50,7 +50,7 @@ elements_at_least v (x ∷ xs) all = elements_of_run v x.degree x.keys all.0 (li
 pub may_be_pushed : (v : ℕ) (xs : List Run) → AllByRecursion (λ e. v ≤ e.degree) xs → All (λ x. v ≤ x) (list_of xs)
 may_be_pushed v xs all = All-from_recursion (λ x. v ≤ x) (list_of xs) (elements_at_least v xs all)
 
--- positive numbers are no more than their sum
+-- there are at most as many positive numbers as their sum
 pub no_more_than_sum : (s : List ℕ) → AllByRecursion (λ x. 1 ≤ x) s → length s ≤ sum s
 no_more_than_sum [] all = omega arith
 no_more_than_sum (x ∷ s) all = omega (arith, all.0, no_more_than_sum s all.1, sum_by-cons (λ (y : ℕ). y) x s)
@@ -59,7 +59,7 @@ keys_within : (keys degree : ℕ) → 0 < degree → keys ≤ keys * degree
 keys_within zero degree h = omega arith
 keys_within (suc keys) degree h = omega (arith, keys_within keys degree h)
 
--- so a run that may follow finds room
+-- so with a run that may follow, the list has at most 2^48 elements
 pub room_for : (before : List Run) (run : Run) → MayFollow before run → length (list_of before) + run.keys ≤ 2 ^ 48
 room_for before run may =
     omega (

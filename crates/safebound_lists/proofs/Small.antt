@@ -69,7 +69,7 @@ maximum_elements [] t n a b = b
 maximum_elements (x ∷ s) [] n a b = a
 maximum_elements (x ∷ s) (y ∷ t) n a b = (omega (arith, a.0, b.0), maximum_elements s t n a.1 b.1)
 
--- what is known of two lists, which stand for these, once their maximum is told
+-- what is known of two lists s and t, which are `these` and `others`, once their maximum was computed with saturation
 pub record AreSmallLists (s t these others both : List ℕ) : Type 0 where
   pub first : s ≡ these
   pub second : t ≡ others

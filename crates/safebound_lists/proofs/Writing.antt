@@ -74,7 +74,7 @@ as_cause P needed room f (Ok x) h = tt
 as_cause P needed room f (Err (refusal.Room n)) h = f n h.0 h.1
 as_cause P needed room f (Err e) h = absurd h
 
--- what is known before a last call is known where it is done
+-- what is known before the last call is known after it, if it succeeds
 pub if_done : {P : Type 0} (r : Result ℕ Refusal) → P → OnOk r P
 if_done (Ok x) h = h
 if_done (Err e) h = tt
@@ -90,7 +90,7 @@ filled_more {A} front old new i x d so_far low = record {
   filled = ap (λ (s : List A). set s i x) so_far.filled ∙ one_more_in front old i x d so_far.counted low;
 }
 
--- each element is made of one of a list
+-- each element is made from the element at the same place of a list
 pub one_more_made : {A B : Type 0} (f : A → B) (xs : List A) (old new : List B) (i : ℕ) (x : B) (a : A) (b : B) → IsFilled (map f (take i xs)) old new i → i < length xs → i < length old
     → x ≡ f (get_or xs i a) → IsFilled (map f (take (i + 1) xs)) old (set new i x) (i + 1)
 one_more_made {A} {B} f xs old new i x a b so_far low room is =

@@ -1,4 +1,4 @@
--- Lists as runs: a run says that so many keys stand in so many rows each.
+-- Lists as runs: a run has a degree, and the number of keys that stand in that many rows each.
 use Rattle.std.specs.Prelude.{ℕ, ◌+◌, ◌<◌, ◌≤◌, List, [], ◌∷◌, ◌++◌, map, length, take, slice_index_or}
 use Rattle.std.specs.List.{AllByRecursion, sum}
 use Rattle.limits.specs.Profile.{greatest_rows, most_accuracy}
@@ -7,7 +7,7 @@ use Rattle.piece_math.specs.declared.pieces.Piece.{Piece}
 use Rattle.piece_math.specs.Expanded.{expanded}
 use Rattle.safebound_lists.specs.declared.runs.Run.{Run}
 
--- a run as the piece of a list
+-- a run as a piece of a list
 abbrev pub piece_of : Run → Piece
 piece_of run = record { value = run.degree; count = run.keys }
 
@@ -15,7 +15,7 @@ piece_of run = record { value = run.degree; count = run.keys }
 abbrev pub list_of : List Run → List ℕ
 list_of runs = expanded (map piece_of runs)
 
--- the run at a place. Past the end there is none
+-- the run at a place, and `no_run` past the end
 abbrev pub no_run : Run
 no_run = record { degree = 0; keys = 0 }
 
@@ -33,7 +33,7 @@ pub record MayFollow (before : List Run) (run : Run) : Type 0 where
 abbrev pub IsRightAt : List Run → ℕ → Type 0
 IsRightAt runs i = MayFollow (take i runs) (run_at runs i)
 
--- each run may
+-- each run may follow those before it
 abbrev pub AreRight : List Run → Type 0
 AreRight runs = (i : ℕ) → i < length runs → IsRightAt runs i
 
@@ -51,12 +51,12 @@ pub record MayBeAdded (runs others : List Run) : Type 0 where
   pub others_right : AreRight others
   pub small : sum (list_of runs) + sum (list_of others) ≤ greatest_rows
 
--- a lesser list: two right ones
+-- a lesser list: two right lists
 pub record AreBothRight (runs others : List Run) : Type 0 where
   pub right : AreRight runs
   pub others_right : AreRight others
 
--- a greater list: two right ones, of which the greater degrees sum to at most 2^48
+-- a greater list: two right lists, whose greater degrees, rank by rank, sum to at most 2^48
 pub record MayBeRaised (runs others : List Run) : Type 0 where
   pub both : AreBothRight runs others
   pub small : sum (rank_maximum (list_of runs) (list_of others)) ≤ greatest_rows

@@ -6,19 +6,19 @@ use Rattle.safebound_lists.specs.declared.refusal.Refusal.TheVariants as refusal
 use Rattle.safebound_lists.specs.declared.runs.Run.{Run}
 use Rattle.safebound_lists.specs.Runs.{list_of, piece_of}
 
--- so many elements of the room are these, and the others are as they were
+-- the room now begins with the elements of `front`, `count` of them, and the others are as they were
 pub record IsFilled {A : Type 0} (front old new : List A) (count : ℕ) : Type 0 where
   pub counted : length front ≡ count
   pub filled : new ≡ front ++ drop count old
 
--- so many elements of the room are the runs of a list, whose degrees strictly fall, and the others are as they were
+-- the room now begins with `count` runs that stand for the list; their degrees strictly fall, and the other elements are as they were
 pub record IsWritten (list : List ℕ) (old new : List Run) (count : ℕ) : Type 0 where
   pub front : List Run
   pub stands_for : list_of front ≡ list
   pub falls : AreRuns (map piece_of front)
   pub filled : IsFilled front old new count
 
--- the room is too small, and how much is needed
+-- the refusal says that the room is too small, and how many elements are needed
 abbrev pub NeedsRoom : ℕ → ℕ → Refusal → Type 0
 NeedsRoom needed room (refusal.Room n) = (n ≡ needed) × (room < needed)
 NeedsRoom needed room _ = ⊥

@@ -12,7 +12,7 @@ use crate::written::write_runs;
 use limits::GREATEST_ROWS;
 use std::alloc::Global;
 
-/// The list of the rows that satisfy two conditions, each of which has a list: its running sums are the lesser ones.
+/// Writes the list of the rows that satisfy two conditions, from the lists of both. Each of its running sums is the lesser of the two lists' sums.
 pub fn lesser_of(
     alloc: Global,
     runs: &[Run],
@@ -40,7 +40,7 @@ pub fn lesser_of(
     write_runs(&both, into)
 }
 
-/// The list of the rows of one of two values, whichever of them it is: rank by rank the greater degree.
+/// Writes a list that holds for the rows of either of two values, from the lists of both. It has the greater degree at each rank.
 pub fn greater_of(
     alloc: Global,
     runs: &[Run],

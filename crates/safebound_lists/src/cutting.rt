@@ -10,7 +10,8 @@ use crate::runs::{Run, first_wrong_run, pieces_of};
 use crate::written::write_runs;
 use std::alloc::Global;
 
-/// The list of at most so many rows that a list dominates: no running sum is above their number.
+/// Writes the list, cut at a number of rows: no running sum is above `rows`. If the list dominates at most `rows` keys, the cut list dominates them
+/// too.
 pub fn cut(alloc: Global, runs: &[Run], rows: u64, into: &mut [Run]) -> Result<u64, Refusal>
     ensures done { IfOk result (IsWritten (cut_at (list_of runs.now) rows) into.old into.new) }
     ensures right { OnOk result (AreRight runs.now) }

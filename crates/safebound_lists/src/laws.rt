@@ -1,4 +1,4 @@
-//! Why lists that calls make of others still say what is true, as laws. The calls do nothing.
+//! Laws: the lists that this crate's calls make still dominate the keys that they are made for. A function here does nothing.
 ghost use Rattle.std.specs.Prelude.{◌≡◌, ◌⊎◌, ◌≤◌, ◌==◌, ◌&&◌, ◌||◌, ℕ, Bool, List, ◌++◌, length, map};
 ghost use Rattle.std.specs.List.{filter};
 ghost use Rattle.degree_sequences.specs.ByRank.{rank_maximum, rank_sum};
@@ -8,7 +8,8 @@ ghost use Rattle.degree_sequences.specs.Domination.{DominatesKeys};
 ghost use Rattle.degree_sequences.specs.Falling.{IsFalling};
 ghost use Rattle.degree_sequences.specs.RunningSums.{cut_at, lesser};
 
-/// Degrees dominate their keys, a compressed list dominates what the list dominates, and a sum of two lists the keys of both.
+/// A degree sequence dominates its keys. A compressed list dominates what the list dominates. The sum of two lists dominates the keys of both
+/// together.
 pub fn lists_dominate()
     ensures degrees { (keys : List ℕ) → DominatesKeys (degree_list keys) keys }
     ensures compressed { (list : List ℕ) (accuracy : ℕ) (keys : List ℕ) → IsFalling list
@@ -17,9 +18,9 @@ pub fn lists_dominate()
         → DominatesKeys list keys → DominatesKeys later more → DominatesKeys (rank_sum list later) (keys ++ more) }
 {}
 
-/// What lists of conditions make known of rows, which are told by their numbers and have a key each: the lesser list dominates the rows that
-/// satisfy both conditions, the sum those that satisfy at least one. The greater list dominates the rows of any one of two values, and a list
-/// that is cut dominates what has no more rows.
+/// Rows are given by their numbers, and each has a key. If two lists dominate the rows of two conditions, the lesser list dominates the rows that
+/// satisfy both, and the sum those that satisfy at least one. The greater list dominates the rows of either of two values. A list that is cut at a
+/// number of rows still dominates its keys, if there are at most so many.
 pub fn conditions_dominate()
     ensures both { (rows : List ℕ) (key : ℕ → ℕ) (first second : ℕ → Bool) (list other : List ℕ)
         → DominatesKeys list (map key (filter first rows)) → DominatesKeys other (map key (filter second rows))

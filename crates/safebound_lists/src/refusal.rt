@@ -10,7 +10,7 @@ use std::alloc::AllocError;
 pub enum Refusal {
     /// The room is too small: the answer has `needed` elements.
     Room { needed: u64 },
-    /// Memory was wanting.
+    /// Memory ran out.
     NoMemory,
     /// There are more than 2^48 keys.
     Keys { count: u64 },

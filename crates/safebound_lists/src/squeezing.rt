@@ -12,7 +12,7 @@ use limits::{Accuracy, MOST_ACCURACY};
 use piece_compress::compress_runs;
 use std::alloc::Global;
 
-/// A list compressed by heads with an accuracy from 1 to 64: it has the same sum, dominates what the list dominates, and has few runs.
+/// Writes the list compressed by heads, at an accuracy from 1 to 64. It has the same sum and few runs, and dominates what the list dominates.
 pub fn compress(
     alloc: Global,
     runs: &[Run],

@@ -1,4 +1,4 @@
--- Costs over bounds of 64 bits: what 128 bits tell of them, 64 bits do.
+-- Costs over bounds of 64 bits: a cost that is below the greatest number of 128 bits has 64 bits.
 use Rattle.std.proofs.Common.{◌≡◌, ◌⊎◌, inl, inr, ℕ, zero, suc, ◌+◌, ◌-◌, ◌<◌, ◌≤◌, ◌^◌, Bool, true, false, eqb, max, List, [], ◌∷◌, map, get_or, refl, arith}
 use Rattle.std.specs.List.{AllByRecursion}
 use Rattle.std.specs.Prelude.{if◌then◌else◌}
@@ -8,7 +8,7 @@ use Rattle.bushy_plan.specs.BestTree.{cost as tree_cost, inner_greatest}
 use Rattle.bushy_plan.specs.PlanTrees.{PlanTree, leaf_set, leaf, node}
 use Rattle.safebound_plans.specs.Bits.{all_widened, no_bound, in_128_bits}
 
--- 64 bits tell it, or not even 128 do
+-- the number has 64 bits, or it is the greatest of 128 bits, which stands for all from there on
 abbrev IsNarrow : ℕ → Type 0
 IsNarrow x = (x < 2 ^ 64) ⊎ (x ≡ 2 ^ 128 - 1)
 

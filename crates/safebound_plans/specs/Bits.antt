@@ -2,11 +2,11 @@
 use Rattle.std.specs.Prelude.{ℕ, ◌-◌, ◌^◌, ◌==◌, if◌then◌else◌, List, map}
 use Rattle.limits.specs.Profile.{top_bound}
 
--- the bound that stands for all from there on, in 64 bits
+-- the greatest bound of 64 bits, which stands for every number from there on
 abbrev pub no_bound : ℕ
 no_bound = 2 ^ 64 - 1
 
--- where 64 bits tell no bound, 128 bits don't
+-- the bound in 128 bits: the greatest of 64 bits becomes the greatest of 128 bits
 abbrev pub in_128_bits : ℕ → ℕ
 in_128_bits bound = if bound == no_bound then top_bound else bound
 

@@ -1,4 +1,4 @@
--- Why calls for plans refuse. A cause says too that none applies which the call looks for before it, so one answer at most is right, beside
+-- Why calls for plans refuse. A cause also says that no cause applies which the call looks for earlier. So at most one refusal is right, apart from
 -- want of memory.
 use Rattle.std.specs.Prelude.{◌≡◌, ℕ, ◌+◌, ◌<◌, ◌≤◌, ⊤, List, length}
 use Rattle.limits.specs.Profile.{greatest_budget}
@@ -10,7 +10,7 @@ use Rattle.safebound_lists.specs.declared.refusal.Refusal.TheVariants as refusal
 use Rattle.safebound_plans.specs.Given.{AreOfSets, MayPlan}
 use Rattle.safebound_plans.specs.Bits.{all_widened}
 
--- there are not as many bounds as sets of 1 to 12 entries
+-- there are `count` bounds, which isn't the number of sets of n entries for any n from 1 to 12
 abbrev pub AreOfNoSets : List ℕ → ℕ → Type 0
 AreOfNoSets bounds count = (count ≡ length bounds) × ((n : ℕ) → ¬ AreOfSets bounds n)
 
@@ -18,8 +18,8 @@ AreOfNoSets bounds count = (count ≡ length bounds) × ((n : ℕ) → ¬ AreOfS
 abbrev pub IsBudgetCause : List ℕ → ℕ → ℕ → Type 0
 IsBudgetCause bounds budget given = (n : ℕ) × AreOfSets bounds n × (given ≡ budget) × (greatest_budget < budget)
 
--- of an order over bounds: another number of bounds than of sets, a budget that is too large, too little room, a budget that no order is
--- within, no order within 128 bits, or want of memory, which needs no cause
+-- why a call for an order refuses: a wrong number of bounds, a budget that is too large, too little room, no order within the budget, or no order
+-- within 128 bits. Want of memory needs no cause
 abbrev pub IsOrderCause : List ℕ → ℕ → ℕ → Refusal → Type 0
 IsOrderCause bounds budget room (refusal.Bounds count) = AreOfNoSets bounds count
 IsOrderCause bounds budget room (refusal.GivenBudget given) = IsBudgetCause bounds budget given
@@ -31,7 +31,7 @@ IsOrderCause bounds budget room refusal.PastBits =
 IsOrderCause bounds budget room refusal.NoMemory = ⊤
 IsOrderCause bounds budget room _ = ⊥
 
--- of a tree: likewise
+-- why a call for a tree refuses: likewise
 abbrev pub IsTreeCause : List ℕ → ℕ → ℕ → Refusal → Type 0
 IsTreeCause bounds budget room (refusal.Bounds count) = AreOfNoSets bounds count
 IsTreeCause bounds budget room (refusal.GivenBudget given) = IsBudgetCause bounds budget given

@@ -1,4 +1,4 @@
--- The bytes of a plan that is given by its levels or its joins, and why a call for them refuses.
+-- How many bytes a plan takes, given its levels or its joins, and why a call for this number refuses.
 use Rattle.std.specs.Prelude.{◌≡◌, ℕ, ◌+◌, ◌^◌, ◌<◌, ◌≤◌, List, [], ◌∷◌, length, map, slice_index_or}
 use Rattle.limits.specs.Profile.{most_entries}
 use Rattle.reserve_plan.specs.Memory.{plan_bytes}
@@ -11,23 +11,23 @@ use Rattle.safebound_plans.specs.declared.ordering.Level.{Level}
 use Rattle.safebound_plans.specs.declared.shaping.JoinNode.{JoinNode}
 use Rattle.safebound_plans.specs.Orders.{bounds_in, entries_in}
 
--- past the end there is no level and no node
+-- what a lookup past the end of a list gives
 abbrev pub no_level : Level
 no_level = record { entry = 0; bound = 0 }
 
 abbrev pub no_node : JoinNode
 no_node = record { left = 0; right = 0; bound = 0 }
 
--- the entry of this level is there
+-- the level at this place is of an entry that exists
 abbrev pub IsLevelRightAt : ℕ → List Level → ℕ → Type 0
 IsLevelRightAt entries levels place = (slice_index_or levels place no_level).entry < entries
 
--- this join is of two nodes before it
+-- the join at this place is of two nodes before it
 abbrev pub IsJoinRightAt : ℕ → List JoinNode → ℕ → Type 0
 IsJoinRightAt entries joins place =
     let join = slice_index_or joins place no_node in (join.left < entries + place) × (join.right < entries + place)
 
--- rows of 1 to 12 entries
+-- there is a number of rows for each of 1 to 12 entries
 abbrev pub AreOfEntries : List ℕ → Type 0
 AreOfEntries rows = (1 ≤ length rows) × (length rows ≤ most_entries)
 
@@ -40,21 +40,21 @@ join_of node = record { left = node.left; right = node.right; bound = node.bound
 abbrev pub nodes_bytes : List ℕ → List JoinNode → ℕ
 nodes_bytes rows joins = joins_bytes rows (map join_of joins)
 
--- a level for each entry, and the bytes of the order
+-- there is a level for each entry, each level is of an entry that exists, and the bytes are those of the order
 pub record IsOrderMemory (rows : List ℕ) (levels : List Level) (bytes : ℕ) : Type 0 where
   pub entries : AreOfEntries rows
   pub as_many : length levels ≡ length rows
   pub right : (place : ℕ) → place < length levels → IsLevelRightAt (length rows) levels place
   pub are : bytes ≡ order_bytes rows levels
 
--- a join fewer than entries, and the bytes of the tree
+-- there is one join fewer than entries, each join is of two nodes before it, and the bytes are those of the tree
 pub record IsTreeMemory (rows : List ℕ) (joins : List JoinNode) (bytes : ℕ) : Type 0 where
   pub entries : AreOfEntries rows
   pub as_many : length joins + 1 ≡ length rows
   pub right : (place : ℕ) → place < length joins → IsJoinRightAt (length rows) joins place
   pub are : bytes ≡ nodes_bytes rows joins
 
--- of an order: no entries or too many, another number of levels, a level of an entry that isn't there, or more bytes than 64 bits tell
+-- why a call for an order's bytes refuses: no entries or too many, a wrong number of levels, a level of no entry, or 2^64 bytes or more
 abbrev pub IsOrderMemoryCause : List ℕ → List Level → Refusal → Type 0
 IsOrderMemoryCause rows levels (refusal.Entries count) = (count ≡ length rows) × ¬ AreOfEntries rows
 IsOrderMemoryCause rows levels (refusal.Levels count) = (count ≡ length levels) × AreOfEntries rows × ¬ (length levels ≡ length rows)
@@ -65,7 +65,7 @@ IsOrderMemoryCause rows levels refusal.PastBits =
     × (2 ^ 64 ≤ order_bytes rows levels)
 IsOrderMemoryCause rows levels _ = ⊥
 
--- of a tree: likewise
+-- why a call for a tree's bytes refuses: likewise, with joins in place of levels
 abbrev pub IsTreeMemoryCause : List ℕ → List JoinNode → Refusal → Type 0
 IsTreeMemoryCause rows joins (refusal.Entries count) = (count ≡ length rows) × ¬ AreOfEntries rows
 IsTreeMemoryCause rows joins (refusal.Joins count) = (count ≡ length joins) × AreOfEntries rows × ¬ (length joins + 1 ≡ length rows)

@@ -1,4 +1,4 @@
--- The best order in a caller's room.
+-- The best order, as a call writes it into the caller's room.
 use Rattle.std.specs.Prelude.{◌≡◌, ℕ, ◌≤◌, List, map, length}
 use Rattle.order_search.specs.Orders.{IsBest, cost, levels}
 use Rattle.safebound_lists.specs.Written.{IsFilled}
@@ -12,14 +12,14 @@ entries_in front = map (λ (level : Level). level.entry) front
 abbrev pub bounds_in : List Level → List ℕ
 bounds_in front = map (λ (level : Level). level.bound) front
 
--- the room begins with an order and its levels, and goes on as it was
+-- the room now begins with an order and the bounds of its levels, and the rest is as it was
 pub record AreLevels (order levels : List ℕ) (old new : List Level) : Type 0 where
   pub front : List Level
   pub entries : entries_in front ≡ order
   pub bounds : bounds_in front ≡ levels
   pub filled : IsFilled front old new (length order)
 
--- the room begins with the levels of the best order over bounds of all sets of so many entries, within the budget
+-- the room now begins with the levels of the best order over bounds of all sets of `count` entries, and its cost is within the budget
 pub record IsBestOrder (bounds : List ℕ) (budget : ℕ) (old new : List Level) (count : ℕ) : Type 0 where
   pub given : MayPlan bounds count budget
   pub order : List ℕ

@@ -14,7 +14,7 @@ use safebound_lists::Refusal;
 use tree_plans::Join;
 use tree_rows::joins_memory;
 
-// The first level whose entry isn't there.
+// The place of the first level whose entry doesn't exist.
 fn first_wrong_level(levels: &[Level], entries: u64) -> Option<u64>
     ensures { MatchOption result ((place : ℕ) → place < length levels.now → IsLevelRightAt entries levels.now place)
         (IsFirstWrong (IsLevelRightAt entries levels.now) (length levels.now)) }
@@ -27,7 +27,7 @@ fn first_wrong_level(levels: &[Level], entries: u64) -> Option<u64>
     None
 }
 
-// The first join that isn't of two nodes before it.
+// The place of the first join that isn't of two nodes before it.
 fn first_wrong_join(joins: &[JoinNode], entries: u64) -> Option<u64>
     requires few { entries + length joins.now ≤ 2 ^ 32 }
     ensures { MatchOption result ((place : ℕ) → place < length joins.now → IsJoinRightAt entries joins.now place)
@@ -80,7 +80,7 @@ fn write_joins(nodes: &[JoinNode], into: &mut [Join])
     }
 }
 
-// The number, where 64 bits tell it.
+// The number in 64 bits, if it fits.
 fn told(bytes: u128) -> Result<u64, Refusal>
     ensures done { IfOk result (λ told. told ≡ bytes) }
     ensures refused { IfErr result (λ e. (e ≡ refusal.PastBits) × (2 ^ 64 ≤ bytes)) }
@@ -91,8 +91,8 @@ fn told(bytes: u128) -> Result<u64, Refusal>
     Ok(bytes as u64)
 }
 
-/// The bytes that an engine's buffers take for an order, where each entry's list has at most so many rows: the lists, the levels, the chains
-/// of the lists that are joined after the first, and the keys of one of them.
+/// How many bytes an engine's buffers take for an order, if `rows` has the most rows of each entry's list. The buffers are for the lists, the levels,
+/// the chains of the lists that are joined after the first, and the keys of one of these.
 pub fn order_memory(rows: &[u64], levels: &[Level]) -> Result<u64, Refusal>
     ensures done { IfOk result (IsOrderMemory rows.now levels.now) }
     ensures refused { IfErr result (IsOrderMemoryCause rows.now levels.now) }
@@ -120,7 +120,7 @@ pub fn order_memory(rows: &[u64], levels: &[Level]) -> Result<u64, Refusal>
     told(plan_memory(order, rows, bounds))
 }
 
-/// The same for a join tree, by its joins.
+/// The same for a join tree, given by its joins.
 pub fn tree_memory(rows: &[u64], joins: &[JoinNode]) -> Result<u64, Refusal>
     ensures done { IfOk result (IsTreeMemory rows.now joins.now) }
     ensures refused { IfErr result (IsTreeMemoryCause rows.now joins.now) }
@@ -151,8 +151,8 @@ pub fn tree_memory(rows: &[u64], joins: &[JoinNode]) -> Result<u64, Refusal>
 
 /// The bytes of two small plans. It does nothing.
 ///
-/// The tree has 44 bytes of lists, 96 of pairs, 80 of the chain, 8 of row numbers and 40 of keys; and the lists of buffers, 64 of row
-/// numbers, 40 of inner nodes, 96 of chains and 39 of the entries below each node.
+/// The tree takes 44 bytes for lists, 96 for pairs, 80 for the chain, 8 for row numbers and 40 for keys. Its lists of buffers take 64 for row
+/// numbers, 40 for inner nodes, 96 for chains and 39 for the entries below each node.
 pub fn small_plans()
     ensures order { six_and_five_bytes ≡ 556 }
     ensures tree { six_with_five_bytes ≡ 507 }

@@ -7,7 +7,7 @@ use base_io::{NoMemory, Seq};
 use limits::{MOST_ENTRIES, TOP_BOUND};
 use std::alloc::Global;
 
-/// How many entries there are, from 1 to 12, where there are as many bounds as sets of them.
+/// The number n of entries, from 1 to 12, if there are 2^n bounds: one for each set of entries.
 pub(crate) fn entries_of(bounds: &[u64]) -> Option<u8>
     ensures { MatchOption result ((n : ℕ) → ¬ AreOfSets bounds.now n) (AreOfSets bounds.now) }
 {
@@ -19,7 +19,7 @@ pub(crate) fn entries_of(bounds: &[u64]) -> Option<u8>
     None
 }
 
-// A bound of 64 bits. Its greatest number stands for all from there on, as that of 128 bits does.
+// The bound with 128 bits. The greatest number of 64 bits stands for every number from there on, so it becomes the greatest of 128 bits.
 fn widened(bound: u64) -> u128
     ensures { result ≡ widened_of bound }
 {
@@ -41,7 +41,7 @@ pub(crate) fn widened_bounds(alloc: Global, bounds: &[u64]) -> Result<Seq<u128>,
     Ok(Seq::from_vec(wide))
 }
 
-/// A scan of nothing for each entry, of which a search looks at the number alone.
+/// A scan of no rows for each entry. A search looks only at how many scans there are.
 pub(crate) fn no_scans(alloc: Global, entries: u8) -> Result<Seq<u64>, NoMemory>
     ensures { IfOk result (λ scans. length scans ≡ entries) }
 {

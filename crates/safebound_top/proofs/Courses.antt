@@ -28,7 +28,7 @@ unasked_verdict : (words : List (List ℕ)) (files : Files) → command_stage wo
 unfolding verdict
 unasked_verdict words files is = rw is refl
 
--- and they are told as no other refusal
+-- and if they are refused as r, then r is Usage
 unasked_is : (r : Refusal) → status.Refused refusal.Usage ≡ status.Refused r → r ≡ refusal.Usage
 unasked_is r is = cc
 

@@ -191,7 +191,7 @@ module _ (task : PlanWork) (query : Query) (rows : List (List Row)) where
           h.plan.scans (node_fits k join is);
     }
 
--- a view of a value
+-- if a result seen through a view is a value, the result is a value that is seen so
 seen_ok : {A B E : Type 0} (view : A → B) (r : Result A E) (y : B) → seen view r ≡ Ok y → (x : A) × (view x ≡ y)
 seen_ok view (Ok x) y e = (x, cc)
 seen_ok view (Err s) y e = cc
@@ -269,7 +269,7 @@ ok_and P (Err e) h = absurd h
 if_ok : {A E : Type 0} (P : A → Type 0) (r : Result A E) (x : A) → r ≡ Ok x → IfOk r P → P x
 if_ok P r x e h = subst (λ s. IfOk s P) e h
 
--- the rows text goes out where it is asked for
+-- the rows text is written to out, if it is asked for
 rows_written : (task : PlanWork) (query : Query) (rows : List (List Row)) (plan : AnyPlan) (out : Growth) → task.out ≡ out_texts.Rows
     → GrewWhole out (out_text (Planned (run_asked task query rows plan))) → Grew out (rows_text (run_asked task query rows plan))
 rows_written task query rows plan out is written = subst (λ (t : OutText). GrewWhole out (text_for t (run_asked task query rows plan))) is written

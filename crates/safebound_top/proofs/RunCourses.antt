@@ -26,7 +26,7 @@ use Rattle.safebound_words.specs.declared.command.Command.{Command}
 use Rattle.safebound_words.specs.declared.command.Aim.TheVariants as aims
 use Rattle.prepared_runs.specs.Verdict.{IsAimFile, IsReached, aim_run, command_run, command_stage, schema_read, schema_stage, verdict}
 
--- the line of want of memory names nothing
+-- the line for want of memory names no file
 memory_line : (ask : Option Command) (schema : Option Schema) → status_line status.NoMemory ask schema ≡ codes "error memory\n"
 unfolding error_line
 memory_line None schema = refl
@@ -69,7 +69,7 @@ module _ (ask : Command) (words : List (List ℕ)) (command : command_stage word
   pub no_usage : command_stage words ≡ Err refusal.Usage → ⊥
   no_usage is = let no : ◌≡◌ {A = Result Command Refusal} (Ok ask) (Err refusal.Usage) = sym command ∙ is in cc
 
-  -- ---- the verdict comes to these files
+  -- ---- the verdict reads these files
 
   reached_schema : (files : Files) (id : FileId) → id ≡ file.Schema → IsReached words files id
   reached_schema files id at' = rw command (inl at')

@@ -23,7 +23,7 @@ pub told_of : (g : Growth) (line : List ℕ) (r : Result (Unit {0}) Failed) → 
 told_of g line (Ok u) h = record { tells = record { prefix = h.prefix; whole = λ calm. h.ok }; later = h.later }
 told_of g line (Err e) h = record { tells = record { prefix = h.prefix; whole = λ calm. absurd (calm h.failed) }; later = h.later }
 
--- a text that was cut is also one with what follows it
+-- if a write of a text was cut, so was the write of a longer text that begins with it
 pub cut_first : {t0 t1 : Option (List ℕ)} {f0 f1 : ℕ} {a : List ℕ} {e : Failed} (b : List ℕ) → Wrote (between t0 t1 f0 f1) a (Err e) → Wrote (between t0 t1 f0 f1) (a ++ b) (Err e)
 cut_first {t0} {t1} {f0} {f1} {a} {e} b h = record { ok = tt; prefix = prefix_of_first t0 t1 a b h.prefix; later = h.later; failed = h.failed }
 
@@ -85,7 +85,7 @@ module _ (t0 t1 t2 : Option (List ℕ)) (f0 f1 f2 : ℕ) (line : List ℕ) (told
   cut_then_told None cut = cut
   cut_then_told (Some text) cut = record { mid = t1; cut = cut; told = told.tells.prefix }
 
-  -- after what stands in the notes
+  -- what the notes tell after their text
   told_after : (text : Option (List ℕ)) → GrewWhole (between t0 t1 f0 f1) text → t1 ≡ grown t0 text
   told_after None still = still.0
   told_after (Some text) whole = whole

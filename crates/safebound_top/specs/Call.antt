@@ -10,14 +10,14 @@ pub record GrewOrWasCut (old new : Option (List ℕ)) (before now : ℕ) (text :
   pub prefix : GrewByPrefix old new text
   pub whole : (Rose before now → ⊥) → new ≡ appended old text
 
--- a prefix of a text, and then a prefix of another
+-- a sink took a prefix of a text, and then a prefix of a line
 pub record CutThenTold (old new : Option (List ℕ)) (text line : List ℕ) : Type 0 where
   pub mid : Option (List ℕ)
   pub cut : GrewByPrefix old mid text
   pub told : GrewByPrefix mid new line
 
--- a call: its words, its status, the store that it read (for `demo` its own), and the two sinks that it wrote: `run` writes its plan to `notes`
--- and its rows to `out`
+-- a call: its words, its status, the store that it read (`demo` reads a store of its own), and the two sinks that it wrote. `run` writes its plan to
+-- `notes` and its rows to `out`
 pub record Call : Type 0 where
   pub words : List (List ℕ)
   pub status : Status
@@ -25,6 +25,6 @@ pub record Call : Type 0 where
   pub out : Growth
   pub notes : Growth
 
--- a sink took exactly the text; of one that doesn't tell its bytes this says only that it tells none afterwards
+-- the sink took exactly the text. If it didn't tell its bytes before the call, this says only that it doesn't tell them afterwards
 abbrev pub Grew : Growth → List ℕ → Type 0
 Grew sink text = sink.taken_after ≡ appended sink.taken_before text

@@ -21,12 +21,12 @@ use Rattle.prepared_runs.specs.RunOutcome.{RunOutcome}
 use Rattle.safebound_top.specs.OutcomeTexts.{notes_text, out_text}
 use Rattle.prepared_runs.specs.Verdict.{IsReached, command_stage, verdict}
 
--- a status was told in the notes
+-- a line was written to the notes, to its end or up to a failed write
 pub record StatusTold (notes : Growth) (line : List ℕ) : Type 0 where
   pub tells : GrewByLine notes line
   pub later : notes.faults_before ≤ notes.faults_after
 
--- its texts were handed to the sinks, the one for notes and then the one for out, where there are such; the first failure ends it
+-- an outcome's text for notes was written, if it has one, and then its text for out; the first failed write ended this
 abbrev pub AreWritten : Growth → Growth → RunOutcome → Result (Unit {0}) SinkId → Type 0
 AreWritten out notes outcome (Ok u) = GrewWhole notes (notes_text outcome) × GrewWhole out (out_text outcome)
 AreWritten out notes outcome (Err sink.Notes) = FaultsRose notes × DidNotGrow out × WasCut notes (notes_text outcome)
@@ -37,12 +37,12 @@ pub record TextsWritten (out notes : Growth) (outcome : RunOutcome) (result : Re
   pub later_out : out.faults_before ≤ out.faults_after
   pub later_notes : notes.faults_before ≤ notes.faults_after
 
--- a text was handed to a sink, if there is one
+-- a text was written to a sink, if there is a text
 abbrev pub WroteIfAny : Growth → Option (List ℕ) → Result (Unit {0}) Failed → Type 0
 WroteIfAny out None result = DidNotGrow out × (result ≡ Ok tt)
 WroteIfAny out (Some text) result = Wrote out text result
 
--- the same, and a failed write told in the notes
+-- the texts of an outcome were written, and a failed write was told in the notes
 pub data TextsEnded (s : Status) (out notes : Growth) (outcome : RunOutcome) (line : List ℕ) : Type 0 where
   Done : s ≡ status.Done → GrewWhole notes (notes_text outcome) → GrewWhole out (out_text outcome) → TextsEnded s out notes outcome line
   CutInNotes : s ≡ status.WriteFault sink.Notes → FaultsRose notes → DidNotGrow out
@@ -51,7 +51,7 @@ pub data TextsEnded (s : Status) (out notes : Growth) (outcome : RunOutcome) (li
       → GrewOrWasCut (grown notes.taken_before (notes_text outcome)) notes.taken_after notes.faults_before notes.faults_after line
       → TextsEnded s out notes outcome line
 
--- a stage was read to its end and its texts were handed to the sinks, or its reading ended and that was told
+-- a stage was read to its end and its texts were written, or its reading ended early and a line told why
 pub data StageRan (s : Status) (store : Reading) (out notes : Growth) (stage : Files → Result RunOutcome Refusal) (ComesTo : Files → FileId
     → Type 0)
     (line : List ℕ) : Type 0 where
@@ -60,7 +60,7 @@ pub data StageRan (s : Status) (store : Reading) (out notes : Growth) (stage : F
   Went : (outcome : RunOutcome) → Reads store stage ComesTo (Ok outcome) → TextsEnded s out notes outcome line
       → StageRan s store out notes stage ComesTo line
 
--- the words are refused: no name was missed, and that was told
+-- the words are refused: the store missed no name, out didn't grow, and a line told the refusal
 pub record IsUnasked (call : Call) (line : List ℕ) : Type 0 where
   pub status : call.status ≡ status.Refused refusal.Usage
   pub words : command_stage call.words ≡ Err refusal.Usage
@@ -77,7 +77,7 @@ pub data How (call : Call) (line : List ℕ) : Type 0 where
   Unasked : IsUnasked call line → How call line
   Asked : IsAsked call line → How call line
 
--- the whole course, and that its line is the fault text
+-- the whole course of a call, whose line is the fault text
 pub record Course (call : Call) : Type 0 where
   pub line : List ℕ
   pub is_line : (files : Files) → call.store.files ≡ Some files → line ≡ fault_text call.status call.words files

@@ -1,4 +1,4 @@
--- The line that tells a status of these words over these files.
+-- The line that tells the status of a call, from its words and its files.
 use Rattle.std.specs.Prelude.{ℕ, List, [], Option, None, Some, Result, Ok, Err}
 use Rattle.base_io.specs.Files.{Files}
 use Rattle.schema_types.specs.declared.types.Schema.{Schema}
@@ -11,14 +11,14 @@ use Rattle.safebound_words.specs.declared.command.Aim.TheVariants as aims
 use Rattle.safebound_words.specs.declared.command.Work.TheVariants as works
 use Rattle.prepared_runs.specs.Verdict.{command_stage, schema_read}
 
--- the name of the statistics file that is read, where one is
+-- the name of the statistics file that is read, empty if no such file is read
 abbrev pub stats_file_of : Work → List ℕ
 stats_file_of (works.Plan task) = []
 stats_file_of (works.WriteStats accuracy) = []
 stats_file_of (works.PlanFromStats file budget memory) = file
 
--- what a line names, where there is a command and a schema: the files of the command, and the schema's tables. Where rows are appended the
--- command names the file of a table's rows
+-- the names that a line may use: those of the command's files, and those in the schema. Only a command that appends rows names the file of a table's
+-- rows
 abbrev pub names_by : List ℕ → Aim → Option Schema → Names
 names_by name (aims.Query query work) schema =
     record { schema_file = name; query_file = query; stats_file = stats_file_of work; rows_file = None; schema = schema }
@@ -37,6 +37,6 @@ where_ok (Err e) = None
 abbrev pub status_line : Status → Option Command → Option Schema → List ℕ
 status_line s command schema = fault_line s (names_of command schema)
 
--- with the command of these words, and the schema that the verdict reads
+-- the line of a status, with the command of these words and the schema that the verdict reads
 abbrev pub fault_text : Status → List (List ℕ) → Files → List ℕ
 fault_text s words files = status_line s (where_ok (command_stage words)) (where_ok (schema_read words files))

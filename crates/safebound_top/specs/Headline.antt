@@ -1,7 +1,7 @@
 -- What a call of the program answers, and why: nine sentences about the words, the files and the two streams.
 --
--- Where a sentence speaks of the verdict, the store tells its files: of a store that tells none it says nothing. Where one speaks of
--- what a stream took, the stream tells that.
+-- If the store doesn't tell its files, a sentence about the verdict says nothing. If a stream doesn't tell its bytes, a sentence about what it took
+-- says nothing.
 use Rattle.std.specs.Prelude.{ℕ, ◌≡◌, ◌≢◌, ◌↔◌, ◌⊎◌, List, codes, Option, None, Some, Result, Ok, Err, IfOk, IsOkAnd}
 use Rattle.base_io.specs.Causes.{Rose}
 use Rattle.base_io.specs.Files.{Files}
@@ -21,20 +21,20 @@ use Rattle.prepared_runs.specs.RunOutcome.{KeepsItsLimit, NoBoundIsTooLow, RunOu
 use Rattle.safebound_top.specs.OutcomeTexts.{notes_text, out_text}
 use Rattle.prepared_runs.specs.Verdict.{IsReached, command_stage, verdict}
 
--- for the files that the store tells, and the verdict of the words over them
+-- P holds of the files that the store tells, if it tells them, and of the verdict of the words over these files
 abbrev pub OverFiles : Call → (Files → Result RunOutcome Refusal → Type 0) → Type 0
 OverFiles call P = (files : Files) → call.store.files ≡ Some files → P files (verdict call.words files)
 
--- it has the bytes that it had, where it tells them, and its count of faults is as before
+-- the sink has the bytes that it had, if it tells them, and its count of faults is as before
 abbrev pub DidNotGrow : Growth → Type 0
 DidNotGrow sink = (sink.taken_after ≡ sink.taken_before) × (sink.faults_after ≡ sink.faults_before)
 
--- it grew by exactly the text, if there is one, and else it took nothing
+-- the sink grew by exactly the text; if there is no text, it took nothing
 abbrev pub GrewWhole : Growth → Option (List ℕ) → Type 0
 GrewWhole sink None = DidNotGrow sink
 GrewWhole sink (Some text) = Grew sink text
 
--- what it took, and then the text, if there is one
+-- what a sink took, and then the text, if there is one
 abbrev pub grown : Option (List ℕ) → Option (List ℕ) → Option (List ℕ)
 grown taken None = taken
 grown taken (Some text) = appended taken text
@@ -52,24 +52,24 @@ WasCutAndTold sink (Some text) line = CutThenTold sink.taken_before sink.taken_a
 abbrev pub FaultsRose : Growth → Type 0
 FaultsRose sink = Rose sink.faults_before sink.faults_after
 
--- a prefix of the line, all of it where the count didn't rise
+-- the sink grew by a prefix of the line, and by the whole line if its count of faults didn't rise
 abbrev pub GrewByLine : Growth → List ℕ → Type 0
 GrewByLine sink line = GrewOrWasCut sink.taken_before sink.taken_after sink.faults_before sink.faults_after line
 
--- 1. Done comes only where the verdict is accepted. The notes grew by exactly its plan text; for `stats` and `append` they took nothing. For
---    `run`, out grew by exactly its rows text; for `audit` and `demo`, by exactly its audit text; for `stats` and `append`, by exactly the
---    text of the statistics file; for `plan`, out took nothing.
+-- 1. Done comes only where the verdict is accepted. The notes grew by exactly its plan text; for `stats` and `append` they took nothing. For `run`,
+--    out grew by exactly its rows text; for `audit` and `demo`, by exactly its audit text; for `stats` and `append`, by exactly the text of the
+--    statistics file. For `plan`, out took nothing.
 abbrev pub DoneIsExact : Call → Type 0
 DoneIsExact call = call.status ≡ status.Done
     → OverFiles call (λ files v. IsOkAnd v (λ outcome. GrewWhole call.notes (notes_text outcome) × GrewWhole call.out (out_text outcome)))
 
--- 2. Where the verdict is accepted, the scan of each FROM entry and each level of the plan's order have at most as many rows as the plan
---    text of 1 prints for it; for `plan` too, though they are never listed. With `--bushy` the plan is a join tree, and each of its inner
---    nodes stands for a level. Scans, levels and nodes are those of the query over whole tables. With `--reduce` a scan is the reduced one,
---    which has exactly as many rows, and the rows of levels and nodes are from these. `--keys` makes bounds of levels lower, and not their
---    rows. The audit text of 1 prints the number of rows of each level or inner node beside its bound. With `--stats` scans and levels are
---    those over all tables for which the statistics file stands, whatever wrote it. The file that `stats` writes stands for the tables that
---    were read; and for whatever tables a file stands, the one that `append` makes of it stands for these with the new rows after them.
+-- 2. If the verdict is accepted, the scan of each FROM entry and each level of the order have at most as many rows as the plan text of 1 says. That
+--    holds for `plan` too, which lists no rows. With `--bushy` the plan is a join tree, and its inner nodes take the place of levels. Without
+--    `--reduce` and `--count`, scans, levels and nodes are those of the query over whole tables. With either, scans are the reduced ones, the text
+--    prints exactly their numbers of rows, and levels and nodes are over them. `--keys` makes bounds of levels lower, and not their rows. The audit
+--    text of 1 prints the number of rows of each level or inner node beside its bound. With `--stats` bounds hold over all tables for which the
+--    statistics file stands, whoever wrote it. The file that `stats` writes stands for the tables that were read. If a file stands for some tables,
+--    the one that `append` makes of it stands for these with the new rows after them.
 abbrev pub EveryBoundHolds : Call → Type 0
 EveryBoundHolds call = OverFiles call (λ files v. IfOk v NoBoundIsTooLow)
 
@@ -77,46 +77,46 @@ EveryBoundHolds call = OverFiles call (λ files v. IfOk v NoBoundIsTooLow)
 abbrev pub TheRowsAreTheAnswer : Call → Type 0
 TheRowsAreTheAnswer call = OverFiles call (λ files v. IfOk v PrintsTheAnswer)
 
--- 4. Want of memory: the notes grew by its line, and out didn't grow.
+-- 4. If the call ended for want of memory, the notes grew by its line, and out didn't grow.
 abbrev pub WantOfMemoryLeavesItsLine : Call → Type 0
 WantOfMemoryLeavesItsLine call = call.status ≡ status.NoMemory → GrewByLine call.notes (codes "error memory\n") × DidNotGrow call.out
 
 -- 5. A write fault comes only where the verdict is accepted and the named sink's count rose.
 pub record WriteFaultsHaveTheirCause (call : Call) : Type 0 where
-  -- of notes: a prefix of the plan text stands in them, and then a prefix of the line; out didn't grow
+  -- a fault of notes: they took a prefix of the plan text, and then a prefix of the line; out didn't grow
   pub of_notes : call.status ≡ status.WriteFault sink.Notes → FaultsRose call.notes × DidNotGrow call.out
       × OverFiles call (λ files v. IsOkAnd v (λ outcome. WasCutAndTold call.notes (notes_text outcome)
       (fault_text call.status call.words files)))
-  -- of out: the plan text stands in the notes, if there is one, and then the line; in out a prefix of its text
+  -- a fault of out: the notes took the plan text, if there is one, and then the line; out took a prefix of its text
   pub of_out : call.status ≡ status.WriteFault sink.Out → FaultsRose call.out
       × OverFiles call (λ files v. IsOkAnd v (λ outcome. WasCut call.out (out_text outcome)
       × GrewOrWasCut (grown call.notes.taken_before (notes_text outcome)) call.notes.taken_after call.notes.faults_before call.notes.faults_after
       (fault_text call.status call.words files)))
 
--- 6. A refusal comes only where the verdict is that refusal, with the same fields. The notes grew by its line, and out didn't grow. Usage is
---    a matter of the words alone.
+-- 6. A refusal comes only where the verdict is that refusal, with the same fields. The notes grew by its line, and out didn't grow. Whether it is
+--    Usage depends on the words alone.
 pub record RefusalsAreTheVerdict (call : Call) : Type 0 where
   pub usage : (call.status ≡ status.Refused refusal.Usage) ↔ (command_stage call.words ≡ Err refusal.Usage)
   pub told : (r : Refusal) → call.status ≡ status.Refused r → DidNotGrow call.out
       × OverFiles call (λ files v. (v ≡ Err r) × GrewByLine call.notes (fault_text call.status call.words files))
-  -- a store that doesn't tell its files never answers that one is missing
+  -- a file is refused as missing only if the store tells its files
   pub untold : (file : FileId) → call.status ≡ status.Refused (refusal.Missing file) → call.store.files ≢ None
 
--- 7. A read fault comes only where the store's count rose and the verdict comes to this file. The notes grew by its line, and out didn't
---    grow. No count of the store that `demo` reads rises.
+-- 7. A read fault comes only where the store's count of faults rose and the verdict reads this file. The notes grew by its line, and out didn't grow.
+--    The store that `demo` reads never counts a fault.
 pub record ReadFaultsHaveTheirCause (call : Call) : Type 0 where
   pub told : (file : FileId) → call.status ≡ status.ReadFault file
       → Rose call.store.faults_before call.store.faults_after × DidNotGrow call.out
       × OverFiles call (λ files v. IsReached call.words files file × GrewByLine call.notes (fault_text call.status call.words files))
-  -- no name is invented: where the verdict misses no file, the store's count of misses is as before
+  -- no other name is asked for: where the verdict misses no file, the store's count of misses is as before
   pub misses : OverFiles call (λ files v. MissesNothing v → call.store.misses_after ≡ call.store.misses_before)
 
 abbrev pub status_of : Result RunOutcome Refusal → Status
 status_of (Ok outcome) = status.Done
 status_of (Err r) = status.Refused r
 
--- 8. Nothing is refused without a cause: where the store's count didn't rise, the status is the verdict's, or a write fault, or want of
---    memory; where no sink's count rose either, it is the verdict's, or want of memory.
+-- 8. Nothing is refused without a cause. If the store's count of faults didn't rise, the status is the verdict's, or a write fault, or want of
+--    memory. If no sink's count rose either, it is the verdict's, or want of memory.
 pub record NothingIsRefusedWithoutCause (call : Call) : Type 0 where
   pub by_the_store : (Rose call.store.faults_before call.store.faults_after → ⊥)
       → OverFiles call (λ files v. (call.status ≡ status_of v) ⊎ ((which : SinkId) × (call.status ≡ status.WriteFault which))
@@ -124,9 +124,9 @@ pub record NothingIsRefusedWithoutCause (call : Call) : Type 0 where
   pub by_the_sinks : (Rose call.store.faults_before call.store.faults_after → ⊥) → (FaultsRose call.out → ⊥) → (FaultsRose call.notes → ⊥)
       → OverFiles call (λ files v. (call.status ≡ status_of v) ⊎ (call.status ≡ status.NoMemory))
 
--- 9. Where the verdict is accepted and `--memory N` stands, the bytes that the plan text of 1 prints are those that the plan's buffers take, and
---    they are at most N. A plan that takes more is refused as MemoryLimit, behind Budget and PastBits. That the buffers of a call that is done
---    hold exactly these bytes is the clause `buffers` of `safebound` (`KeepsItsBuffers` of prepared_runs).
+-- 9. If the verdict is accepted and `--memory N` is given, the plan text of 1 prints how many bytes the plan's buffers take, and this is at most N. A
+--    plan that takes more is refused as MemoryLimit, unless Budget or PastBits refuses it first. The clause `buffers` of `safebound`
+--    (`KeepsItsBuffers` of prepared_runs) says that after Done the buffers hold exactly these bytes.
 abbrev pub EveryLimitIsKept : Call → Type 0
 EveryLimitIsKept call = OverFiles call (λ files v. IfOk v KeepsItsLimit)
 

@@ -1,4 +1,4 @@
--- The texts of what a run comes to.
+-- The texts that a run writes, by its outcome.
 use Rattle.std.specs.Prelude.{ℕ, List, ◌++◌, Option, None, Some}
 use Rattle.printed_texts.specs.Memory.{memory_text}
 use Rattle.printed_texts.specs.Plans.{plan_lines}
@@ -7,7 +7,7 @@ use Rattle.stats_file.specs.FileText.{file_text}
 use Rattle.prepared_runs.specs.RunOutcome.{Appended, StatsMade, PlanFromStatsFile, RunOutcome, Planned, PlannedFromStats}
 use Rattle.safebound_top.specs.Texts.{out_text_of, plan_text}
 
--- the plan text of a plan from a file, and behind it the line of its bytes, where there is a limit of memory
+-- the plan text of a plan from a statistics file. With a limit of memory the line of its bytes comes last
 abbrev pub stats_file_plan_text : PlanFromStatsFile → List ℕ
 stats_file_plan_text made =
     plan_lines made.query.from made.plan ++ memory_text made.memory (plan_bytes made.plan.order made.plan.scans made.plan.levels)

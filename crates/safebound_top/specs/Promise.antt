@@ -1,30 +1,30 @@
--- What `run` promises, stated from its words, its files and SQL alone. Only the line that `--memory` adds speaks of the program: its number
--- is counted from the plan's bounds by the sizes of the program's own buffers and of their items.
+-- What `run` promises, stated from its words, its files and SQL alone. Only the line that `--memory` adds is about the program: its number is
+-- computed from the plan's bounds and the sizes of the program's own buffers and their items.
 --
--- Suppose that a call of `run` ends with Done, over files that the store tells. Then the schema's file declares one schema, the query's file
--- asks one query of it, and each FROM entry has the rows in its table's file. A plan was printed in which no bound is too low. And rows were
--- printed that are those of the answer, in any order, each as often as in the answer.
+-- Suppose that a call of `run` ends with Done, over files that the store tells. Then the schema's file declares one schema, the query's file asks one
+-- query of it, and each FROM entry has the rows in its table's file. A plan was printed in which no bound is too low. The printed rows are those of
+-- the answer, in any order, each as often as in the answer.
 --
--- - Bounds count rows that are kept, and not those that are tried. A choice has one scanned row of each entry of a level or node. It counts
---   where every conjunct holds that names no other entry. A conjunct that names no entry is tested at every level and node, but not in scans:
---   under `WHERE 1 = 2` every level and node is empty, and the scans are what they are without it.
+-- - Bounds count rows that are kept, and not those that are tried. A choice has one scanned row of each entry of a level or node. It counts if every
+--   conjunct holds that names no other entry. A conjunct that names no entry is tested at every level and node, but not in scans. Under `WHERE 1 = 2`
+--   every level and node is empty, and the scans are the same as without it.
 -- - With `--reduce` or `--count` the text looks the same. Its scan lines then speak of the reduced scans, and levels and nodes are over these.
 -- - With `--bushy` there is a line for each inner node. A tree of one FROM entry has none: then the scan's line is the bound of the answer.
--- - With `--keys` exactly the same is promised as without: scans, levels and choices are those of the query's own conjuncts.
--- - But for the limit of `--memory`, nothing is said of how high a bound may be. Budget, accuracy, that limit and the flags decide which
---   plan is printed, and whether one is; the headline says how.
--- - The answer is SQL-92's as the profile has it. From the standard or from usual engines it differs above all in what these definitions say:
---   reserved words that sql_tokens doesn't list (`read_words`, `reserved_words`) are plain names, texts are compared without padding
---   (`value_cmp` of csv_tables), all number types are one kind of 64 bits (`kind_of` of schema_types), and no row is tested against a
---   reference (`reference_of` there).
--- - Of a store that doesn't tell its files nothing is promised. Of a sink that doesn't tell its bytes nothing is said of what it took: then
---   `Grew` says just that it tells none afterwards. That a read gives the bytes of a told file is the contract of stores (`read_at` of
---   base_io, by `ReadsAt`). The program's own folder and streams tell nothing; docs/PROVED.md says what is trusted of them.
--- - Plan and rows are promised side by side. That the rows were found along the printed plan isn't said here, but by the clause `buffers`
---   (`KeepsItsBuffers`, in Kept.antt).
--- - Only Done is promised something here, and only of words that ask for `run`. Words with a flag or an option twice, with two that can't
---   stand together, or with a number out of its range ask for nothing. The headline says in which cases a call ends otherwise, and what the
---   other commands print. That each call keeps the promise is a clause of the top call (`promise` of `safebound`, in src/top_call.rt).
+-- - With `--keys` exactly the same is promised as without it: scans, levels and choices are those of the query as it is written.
+-- - Apart from the limit of `--memory`, nothing is said about how high a bound may be. Budget, accuracy, this limit and the flags decide whether a
+--   plan is printed, and which one; the headline says how.
+-- - The answer is that of SQL-92 as the profile has it. It differs from the standard or from usual engines mainly in these points. Reserved words
+--   that sql_tokens doesn't list (`read_words`, `reserved_words`) are plain names. Texts are compared without padding (`value_cmp` of
+--   csv_tables). All number types are one kind of 64 bits (`kind_of` of schema_types). No row is tested against a reference (`reference_of`
+--   there).
+-- - Nothing is promised over a store that doesn't tell its files. If a sink doesn't tell its bytes, `Grew` says just that it doesn't tell them
+--   afterwards. The contract of stores says that a read gives the bytes of a told file (`read_at` of base_io, by `ReadsAt`). The program's own folder
+--   and streams tell nothing; docs/PROVED.md says what is trusted of them.
+-- - Plan and rows are promised separately. The clause `buffers` (`KeepsItsBuffers`, in Kept.antt) says that the rows were found along the printed
+--   plan.
+-- - The promise is only about calls that end with Done, and only about words that ask for `run`. Words with a flag or an option twice, with two that
+--   can't stand together, or with a number out of its range ask for nothing. The headline says in which cases a call ends otherwise, and what the
+--   other commands print. A clause of the top call says that each call keeps the promise (`promise` of `safebound`, in src/top_call.rt).
 use Rattle.std.specs.Prelude.{ℕ, ◌≡◌, ◌+◌, ◌<◌, ◌≤◌, ◌++◌, List, length, slice_get, slice_index, take, Option, None, Some, Ok, IsPermutation}
 use Rattle.base_io.specs.Devices.{Growth}
 use Rattle.base_io.specs.Files.{Files, file_of}
@@ -69,7 +69,7 @@ use Rattle.prepared_runs.specs.Limits.{IsWithinLimit}
 
 -- ---- what the files say
 
--- the value is such, and no other one is
+-- IsSuch holds of this value, and of no other value
 pub record IsTheOne {A : Type 0} (IsSuch : A → Type 0) (value : A) : Type 0 where
   pub is : IsSuch value
   pub only : (other : A) → IsSuch other → other ≡ value
@@ -98,9 +98,9 @@ pub record AreInFile (files : Files) (schema : Schema) (query : Query) (entry : 
 
 -- ---- what the plan text says
 
--- the rows that are joined: for each FROM entry those for which every conjunct holds that names just this entry. With `--reduce`, and with
--- `--count`, they are the greatest lists of such rows in which each row has, for every conjunct that says that a column of its entry equals
--- one of another entry, a row of equal value in the other's list
+-- the rows that are joined: for each FROM entry those for which every conjunct holds that names just this entry. With `--reduce` or `--count` they
+-- are the largest lists of these rows in which each row has a match across each equality of its entry: a row with an equal value in the other entry's
+-- list
 abbrev pub AreScans : ListSource → Query → Tables → List (List ℕ) → Type 0
 AreScans sources.Columns query tables scans = scans ≡ scans_of query tables
 AreScans sources.Keyed query tables scans = scans ≡ scans_of query tables
@@ -115,25 +115,25 @@ choices_over query tables scans entries = level_over (conjuncts_of query tables)
 abbrev pub ScansFit : Query → List (List ℕ) → List ℕ → Type 0
 ScansFit query scans bounds = (entry : ℕ) → entry < length query.from → length (list_at scans entry) ≤ slice_index bounds entry
 
--- an order of all entries. No scan has more rows than its bound; and for each k from 0 on the first k + 1 entries have at most as many choices
--- as `levels` says at place k. The text numbers levels from 1, so this is its line `level` k + 1
+-- an order of all entries. No scan has more rows than its bound. For each k from 0 on, the first k + 1 entries have at most as many choices as
+-- `levels` says at place k. The text numbers levels from 1, so place k is in its line `level` k + 1
 pub record HoldsAlong (query : Query) (tables : Tables) (scans : List (List ℕ)) (plan : Plan) : Type 0 where
   pub each_entry : IsPlan (length query.from) plan
   pub scans_fit : ScansFit query scans plan.scans
   pub levels_fit : (k : ℕ) → k < length query.from
       → length (choices_over query tables scans (take (k + 1) plan.order)) ≤ slice_index plan.levels k
 
--- a join tree of all entries. No scan has more rows than its bound; and for each inner node the entries at its leaves have at most as many
--- choices as its bound says
+-- a join tree of all entries. No scan has more rows than its bound. For each inner node, the entries at its leaves have at most as many choices as
+-- its bound says
 pub record HoldsOver (query : Query) (tables : Tables) (scans : List (List ℕ)) (plan : BushyPlan) : Type 0 where
   pub each_entry : IsTreePlan (length query.from) plan
   pub scans_fit : ScansFit query scans plan.scans
   pub nodes_fit : (k : ℕ) (join : Join) → slice_get plan.joins k ≡ Some join
       → length (choices_over query tables scans (entries_at plan (length query.from + k))) ≤ join.bound
 
--- a plan with its text: an order, or with `--bushy` a join tree. With `--memory` a last line has the number that `plan_bytes` or `tree_bytes`
--- counts from the plan. That number is at most the limit. That the buffers of the joins hold so many bytes isn't said here: the
--- clause `buffers` says it (`KeepsItsBuffers`, in Kept.antt). What reading and planning take isn't counted
+-- a plan with its text: an order, or with `--bushy` a join tree. With `--memory` a last line has the number that `plan_bytes` or `tree_bytes` counts
+-- from the plan. That number is at most the limit. The clause `buffers` (`KeepsItsBuffers`, in Kept.antt) says that the buffers of the joins hold so
+-- many bytes. Memory for reading and planning isn't counted
 pub record PrintsOrder (limit : Option ℕ) (query : Query) (tables : Tables) (scans : List (List ℕ)) (text : List ℕ) : Type 0 where
   pub plan : Plan
   pub holds : HoldsAlong query tables scans plan
@@ -152,7 +152,7 @@ PrintsPlan shapes.Tree limit query tables scans text = PrintsTree limit query ta
 
 -- ---- what the rows text says
 
--- a header, and then rows that are those of the answer, in any order, each as often as in the answer
+-- a header, and then the rows of the answer, in any order, each as often as in the answer
 pub record PrintsAnswer (query : Query) (tables : Tables) (text : List ℕ) : Type 0 where
   pub rows : List Row
   pub is_answer : IsPermutation rows (answer query tables)
@@ -178,8 +178,8 @@ pub record RanWhole (files : Files) (schema_file query_file : List ℕ) (work : 
   pub answer : PrintsAnswer query tables rows_text
   pub answer_written : Grew out rows_text
 
--- each call of `run` that ends with Done over told files ran so, whatever its budget and its accuracy, with or without `--keys`. Words of
--- `run` ask for a plan over the query in a file, with the rows for out
+-- each call of `run` that ends with Done over told files printed a plan and the answer (RanWhole), at any budget and accuracy, with or without
+-- `--keys`. The words of `run` ask for a plan of the query in a file, and for its rows in out
 abbrev pub Promise : Call → Type 0
 Promise call = (schema_file query_file : List ℕ) (work : PlanWork) (files : Files)
     → AskFor call.words (over_query None schema_file query_file (works.Plan work)) → work.out ≡ out_text.Rows

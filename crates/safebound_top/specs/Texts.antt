@@ -7,8 +7,8 @@ use Rattle.prepared_runs.specs.Shapes.{shape_audits, shape_bytes, shape_lines}
 use Rattle.safebound_words.specs.declared.command.OutText.{OutText}
 use Rattle.safebound_words.specs.declared.command.OutText.TheVariants as out_text
 
--- for notes: a line for each scan, and then one for each level of the plan's order, or inner node of its tree, with their bounds; behind them
--- the line of the plan's bytes, where there is a limit of memory
+-- for notes: a line with the bound of each scan, and then a line with the bound of each level of the plan's order, or inner node of its tree. With a
+-- limit of memory the line of the plan's bytes comes last
 abbrev pub plan_text : AcceptedQuery → List ℕ
 plan_text run = shape_lines run.query.from run.plan ++ memory_text run.memory (shape_bytes run.plan)
 

@@ -63,7 +63,7 @@ fn write_sizes<O: Sink>(joined: &Joined, sources: &[Source], out: &mut O) -> Res
     }
 }
 
-// Does what is left to do. If that is a join, it hands out the buffers with the rows.
+// If joins are left to do, it does them, writes the rows text or the audit text, and hands out the buffers with the rows.
 fn write_rest<O: Sink>(
     rest: PendingOutput,
     query: &Query,
@@ -116,7 +116,7 @@ fn write_shaped<N: Sink>(plan: &AnyPlan, sources: &[Source], notes: &mut N) -> R
     }
 }
 
-// Writes the plan text of what is left to do.
+// Writes the plan text of the plan in `rest`, without the line of its bytes.
 fn write_bounds<N: Sink>(
     rest: &PendingOutput,
     sources: &[Source],
@@ -132,7 +132,7 @@ fn write_bounds<N: Sink>(
     }
 }
 
-// Writes the plan text of what is left to do. If memory is limited, it adds the line with the bytes of the plan.
+// Writes the plan text of the plan in `rest`. If memory is limited, it adds the line with the bytes of the plan.
 fn write_plan_text<N: Sink>(
     rest: &PendingOutput,
     memory: Option<u64>,
@@ -148,7 +148,7 @@ fn write_plan_text<N: Sink>(
     write_memory(memory, bytes, notes)
 }
 
-// Writes the plan text to `notes`. Then it does what is left to do, writes its text to `out`, and hands out the buffers of the joins.
+// Writes the plan text to `notes`. Then it joins, if that is left to do, writes the text for `out`, and hands out the buffers of the joins.
 fn write_texts<O: Sink, N: Sink>(
     prepared: PreparedQuery,
     out: &mut O,

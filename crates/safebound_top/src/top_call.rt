@@ -23,7 +23,7 @@ use safebound_words::{Command, read_words};
 use schema_types::Schema;
 use std::alloc::Global;
 
-// Tells how a reading ended.
+// Writes the line that tells why a reading ended early, and answers the status.
 fn stopped<N: Sink>(
     ending: Ending,
     command: &Command,
@@ -64,7 +64,7 @@ fn written<O: Sink, N: Sink>(
     }
 }
 
-// Runs a command over its schema.
+// Runs a command whose schema was read.
 fn run_over<S: Store, O: Sink, N: Sink>(
     alloc: Global,
     command: &Command,
@@ -144,7 +144,7 @@ fn run_shop<O: Sink, N: Sink>(
     }
 }
 
-// Runs a command over the files that it asks for.
+// Runs a command over the files of its shop, if it asks for a shop, and otherwise over those of this store.
 fn run_command<S: Store, O: Sink, N: Sink>(
     alloc: Global,
     command: &Command,
@@ -172,7 +172,7 @@ fn run_command<S: Store, O: Sink, N: Sink>(
     }
 }
 
-/// Tells that words are no command.
+/// Writes the line for words that are no command.
 pub fn refuse_words<N: Sink>(notes: &mut N) -> Status
     ensures status { result ≡ Status.Refused Refusal.Usage }
     ensures told { StatusTold (growth N.taken N.faults notes.old notes.new) (status_line result None None) }

@@ -14,7 +14,7 @@ own : IsNumeralModel (λ ds. list_all is_ascii_digit ds ≡ true) number_of
 unfolding number_of
 own = numerals_by_weight _ (search rules) number_of (search rules)
 
--- what `parse` says of digits: the number, where there is a digit and the number has 64 bits
+-- what `parse` says of digits: the number, if there is a digit and the number fits in 64 bits
 pub read_digits : (E : Type 0) (word : List ℕ) (r : Result ℕ E) → ParsesUnsigned 64 10 word r → list_all is_ascii_digit word ≡ true
     → SomeIff (result_ok r) (IsTrue (is_number word) × (number_of word < 2 ^ 64)) (number_of word)
 read_digits E word (Ok number) read digits =

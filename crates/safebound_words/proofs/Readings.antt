@@ -123,7 +123,7 @@ read_spelled name words parts e = spelled_from name None words parts tt e
 
 -- Whole lines.
 
--- a first value that is there, and the rest
+-- if a value comes of a first step and the rest, the first step gave a value, and the rest gave this one
 pub bind_so : {A B : Type 0} (from : Option A) (rest : A → Option B) (b : B) → from >>= rest ≡ Some b → (a : A) × (from ≡ Some a) × (rest a ≡ Some b)
 bind_so None rest b e = cc
 bind_so (Some a) rest b e = (a, refl, e)

@@ -1,4 +1,4 @@
--- One word more: what is asked for by what was collected and what is left stays the same, or nothing can be.
+-- One more word: what is asked for by the collected words and the words left stays the same, or nothing can be asked for.
 use Rattle.std.proofs.Common.{◌≡◌, ℕ, ◌+◌, ◌<◌, ◌≤◌, ◌==◌, ◌&&◌, ◌||◌, not, nat_le, Bool, true, false, if◌then◌else◌, option_map, List, [], ◌∷◌, ◌++◌, length, map, drop, Option, Some, None, Result, Ok, Err, Bor, sym, refl, ap, ◌∙◌, append_assoc, append-nil, length-append, suc, zero, arith}
 use Rattle.std.proofs.Math.Path.{fun_ext}
 use Rattle.std.proofs.lemmas.Bool.{false≢true, ne_eqb}
@@ -39,12 +39,12 @@ same_asks name places places' given given' same values times =
     ∙ ap (λ (v : OptionName → List Word). (command_row name).asks places' (record { values = v; times = given.times })) (fun_ext values)
     ∙ ap (λ (t : FlagName → ℕ). (command_row name).asks places' (record { values = given'.values; times = t })) (fun_ext times)
 
--- a line after one word more behind which nothing else changed
+-- one more place word changes nothing of options and flags
 pub record IsSameBeside (new old : Line) : Type 0 where
   pub values : (o : OptionName) → given_to new o ≡ given_to old o
   pub times : (f : FlagName) → times_of new f ≡ times_of old f
 
--- an item that is no flag is there, and the flags behind it
+-- an item that isn't a flag changes nothing of how often each flag is given
 no_more_times : (new old : Line) (item : Item) (items : List Item) → ((f : FlagName) → times_of new f ≡ times_of old f)
     → ((f : FlagName) → set_by f item ≡ 0) → (f : FlagName) → (given_with new items).times f ≡ (given_with old (item ∷ items)).times f
 no_more_times new old item items same none f = rw (same f) (omega (arith, sum_by-cons (set_by f) item items, none f))
@@ -116,7 +116,7 @@ one_more_value name new old item o value parts none unset by places times given 
     ∙ append_assoc (given_to old other) (given_by other item) (flat_map (given_by other) parts.0))
     (no_more_times new old item parts.0 times unset)
 
--- nothing comes of a value that isn't there
+-- without a first value there is no result
 none_first : {A B : Type 0} (first : Option A) (rest : A → Option B) → first ≡ None → first >>= rest ≡ None
 none_first first rest is = rw is refl
 
@@ -189,7 +189,7 @@ too_often o [] many = absurd (omega arith)
 too_often o (a ∷ []) many = absurd (omega arith)
 too_often o (a ∷ b ∷ rest) many = refl
 
--- the options with numbers that each command over files has a value of
+-- the options with numbers that each command over files reads, apart from the limit of memory
 abbrev HasNumbers : OptionName → Type 0
 HasNumbers option.Budget = Unit {0}
 HasNumbers option.Accuracy = Unit {0}
@@ -218,7 +218,7 @@ no_file_limit : (out : OutText) (places : List Word) (given : Given) → 1 < len
 unfolding over_files
 no_file_limit out places given many = no_limit (over_schema_and_query out) places given many
 
--- nothing comes of a flag that stands twice
+-- a flag that stands twice gives no value
 set_once : (n : ℕ) → 1 < n → is_set n ≡ None
 set_once zero many = absurd (omega arith)
 set_once (suc zero) many = absurd (omega arith)

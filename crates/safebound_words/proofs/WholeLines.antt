@@ -29,7 +29,7 @@ pub no_line : command_of [] ≡ None
 unfolding command_of reading_of
 no_line = refl
 
--- what is computed is asked for, and where nothing is, nothing is
+-- what `command_of` computes is asked for; if it computes nothing, nothing is asked for
 pub asks : (words : List Word) (request : Command) → Some request ≡ command_of words → AskFor words request
 asks words request is = computed_asked words request (sym is)
 

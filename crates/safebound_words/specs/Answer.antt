@@ -21,7 +21,7 @@ option_named name word = find (λ option. bytes_eq word (option_row option).word
 abbrev pub flag_named : CommandName → Word → Option FlagName
 flag_named name word = find (λ flag. bytes_eq word (flag_word flag)) (command_row name).flags
 
--- a word up to its first `=`, and what stands behind that, where it has one
+-- a word up to its first `=`, and what comes after the `=`, if there is one
 abbrev pub split_value : Word → Word × Option Word
 split_value [] = ([], None)
 split_value (first ∷ rest) = if first == 61 then ([], Some rest) else (first ∷ (split_value rest).0, (split_value rest).1)
@@ -58,7 +58,7 @@ Parts = List Item × List Word
 abbrev pub in_front : Item → Option Parts → Option Parts
 in_front item parts = option_map (λ p. (item ∷ p.0, p.1)) parts
 
--- what a word and the words behind it are read as, by what the word is
+-- how a word and the words behind it are read, by what the word is
 abbrev pub read_by : Kind → Word → List Word → (Option OptionName → Option Parts) → Option Parts
 read_by Ends word words read_on = Some ([], words)
 read_by IsPlace word words read_on = in_front (Place word) (read_on None)
@@ -67,7 +67,7 @@ read_by (Wants option) word words read_on = read_on (Some option)
 read_by (Gives option value) word words read_on = in_front (Joined option value) (read_on None)
 read_by Unknown word words read_on = None
 
--- what is read from here on, where an option may want its value
+-- how the words from here on are read; if an option wants its value, the next word is it
 unfoldable pub parts_from : CommandName → Option OptionName → List Word → Option Parts
 parts_from name None [] = Some ([], [])
 parts_from name (Some option) [] = None

@@ -1,4 +1,4 @@
--- What the code has collected of a line, and what is asked for by that and by what is still to be read.
+-- What the code has collected from a command line, and what is asked for by this and by the words that are still to be read.
 use Rattle.std.specs.Prelude.{ℕ, ◌+◌, if◌then◌else◌, List, [], ◌∷◌, ◌++◌, Option, Some, None}
 use Rattle.std.specs.Borrow.{Bor}
 use Rattle.std.specs.Bool.{IsTrue}
@@ -37,7 +37,7 @@ given_to line option.Accuracy = option_words line.accuracy
 given_to line option.Memory = option_words line.memory
 given_to line option.Stats = option_words line.stats
 
--- how often a flag was there
+-- how often a flag was given
 abbrev pub times_of : Line → FlagName → ℕ
 times_of line flag.Reduce = if line.reduce then 1 else 0
 times_of line flag.Bushy = if line.bushy then 1 else 0
@@ -54,7 +54,7 @@ given_with line items = record {
   times = λ flag. times_of line flag + sum_by (set_by flag) items;
 }
 
--- what is read from here on, by what comes next
+-- how the words from here on are read, by what has to come next
 abbrev pub parts_next : CommandName → Next → List Word → Option Parts
 parts_next name next.Item words = parts_from name None words
 parts_next name (next.Value option) words = parts_from name (Some option) words
@@ -78,7 +78,7 @@ asked_from name line next words = parts_next name next words >>= asked_with name
 unfoldable pub asked_by : CommandName → List Word → Option Command
 asked_by name words = parts_from name None words >>= λ parts. requested (record { command = name; items = parts.0; behind = parts.1 })
 
--- an option that wants its value is one of the command
+-- if an option wants its value, it is an option of the command
 abbrev pub FitsNext : CommandName → Next → Type 0
 FitsNext name next.Item = Unit {0}
 FitsNext name (next.Value option) = IsTrue (has_option name option)

@@ -24,7 +24,7 @@ spelling (Alone flag) = flag_word flag ∷ []
 spelling (Beside option value) = (option_row option).word ∷ value ∷ []
 spelling (Joined option value) = ((option_row option).word ++ codes "=" ++ value) ∷ []
 
--- options are one where they have one word
+-- two options are the same if they have the same word
 abbrev pub same_option : OptionName → OptionName → Bool
 same_option one other = bytes_eq (option_row one).word (option_row other).word
 
@@ -32,7 +32,7 @@ same_option one other = bytes_eq (option_row one).word (option_row other).word
 abbrev pub has_option : CommandName → OptionName → Bool
 has_option command option = list_any (same_option option) (command_row command).options
 
--- flags are one where they have one word
+-- two flags are the same if they have the same word
 abbrev pub same_flag : FlagName → FlagName → Bool
 same_flag one other = bytes_eq (flag_word one) (flag_word other)
 
@@ -40,7 +40,7 @@ same_flag one other = bytes_eq (flag_word one) (flag_word other)
 abbrev pub has_flag : CommandName → FlagName → Bool
 has_flag command flag = list_any (same_flag flag) (command_row command).flags
 
--- an item of the command's row: a place word isn't dashed
+-- the item may stand in a line of the command; a place word isn't dashed
 abbrev pub IsItemOf : CommandName → Item → Type 0
 IsItemOf command (Place word) = is_dashed word ≡ false
 IsItemOf command (Alone flag) = IsTrue (has_flag command flag)
@@ -53,11 +53,11 @@ pub record CommandReading : Type 0 where
   pub items : List Item
   pub behind : List Word
 
--- behind the items stands nothing, or `--` and any words
+-- what follows the items is nothing, or `--` and any words
 abbrev pub IsEnd : List Word → List Word → Type 0
 IsEnd rest behind = ((rest ≡ []) × (behind ≡ [])) ⊎ (rest ≡ codes "--" ∷ behind)
 
--- the words are read so
+-- the words are read as the command's word, these items, and the end
 pub record AreReadAs (words : List Word) (reading : CommandReading) : Type 0 where
   pub rest : List Word
   pub spelled : words ≡ (command_row reading.command).word ∷ (flat_map spelling reading.items ++ rest)

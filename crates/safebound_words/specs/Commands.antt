@@ -14,32 +14,32 @@ use Rattle.safebound_words.specs.declared.command.Shape.TheVariants as shapes
 use Rattle.safebound_words.specs.declared.command.Work.{Work}
 use Rattle.safebound_words.specs.declared.command.Work.TheVariants as works
 
--- of the query in a file, over a schema in a file, which are those of a shop where one has a number here
+-- the command to do this work on the query in a file, over the schema in a file. With a number these are files of the shop of this number
 abbrev pub over_query : Option ℕ → Word → Word → Work → Command
 over_query shop schema query work = record { schema_file = schema; aim = aims.Query query work; shop = shop }
 
--- new rows of a table in a statistics file
+-- the command to append new rows of a table to a statistics file
 abbrev pub with_rows : Word → NewRows → Command
 with_rows schema rows = record { schema_file = schema; aim = aims.Append rows; shop = None }
 
--- by the flags `--reduce`, `--keys` and `--count`, of which one stands at most: without one of them the statistics of whole columns
+-- the source by the flags `--reduce`, `--keys` and `--count`: a command has at most one. Without them it is the statistics of whole columns
 abbrev pub source_by : Bool → Bool → Bool → ListSource
 source_by false false false = sources.Columns
 source_by false true false = sources.Keyed
 source_by true keys false = sources.Reduced
 source_by reduce keys true = sources.Counted
 
--- by the flag `--bushy`: without it an order
+-- the shape by the flag `--bushy`: without it an order
 abbrev pub shape_by : Bool → Shape
 shape_by false = shapes.Order
 shape_by true = shapes.Tree
 
--- a text for out, a budget, an accuracy, a source, the flag `--bushy`, and a limit of memory, if there is one
+-- a plan with a text for out, a budget, an accuracy, a source, the flag `--bushy`, and a limit of memory, if there is one
 abbrev pub plan_work : OutText → ℕ → ℕ → ListSource → Bool → Option ℕ → Work
 plan_work out budget accuracy source bushy memory = works.Plan
     (record { budget = budget; accuracy = accuracy; source = source; shape = shape_by bushy; memory = memory; out = out })
 
--- the same by the flags `--reduce`, `--bushy` and `--keys`
+-- the same by the flags `--reduce`, `--bushy` and `--keys`, without `--count`
 abbrev pub plan_by : OutText → ℕ → ℕ → Bool → Bool → Bool → Option ℕ → Work
 plan_by out budget accuracy reduce bushy keys memory = plan_work out budget accuracy (source_by reduce keys false) bushy memory
 
@@ -48,7 +48,7 @@ abbrev pub demo_of : ℕ → Command
 demo_of number = over_query (Some number) (codes "schema.sql") (codes "query.sql")
     (plan_by out_text.Audit usual_budget usual_accuracy false false false None)
 
--- the greatest budget: no node of a tree may have more rows than a table
+-- the greatest budget: for a tree it is the most rows that a table may have
 abbrev pub most_budget_of : Shape → ℕ
 most_budget_of shapes.Order = most_budget
 most_budget_of shapes.Tree = most_rows

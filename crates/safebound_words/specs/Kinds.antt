@@ -1,4 +1,4 @@
--- What the code says of a word, as the definitions have it.
+-- The code's kind of a word, as the kind that the definitions have.
 use Rattle.safebound_words.specs.Answer.{Kind, Ends, IsPlace, Sets, Wants, Gives, Unknown}
 use Rattle.safebound_words.specs.declared.kind.Kind.{Kind as CodeKind}
 use Rattle.safebound_words.specs.declared.kind.Kind.TheVariants as code

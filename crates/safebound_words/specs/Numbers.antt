@@ -3,7 +3,7 @@ use Rattle.std.specs.Prelude.{ℕ, ◌+◌, ◌-◌, ◌*◌, ◌^◌, ◌&&◌,
 use Rattle.std.specs.Char.{is_ascii_digit}
 use Rattle.std.specs.List.{list_all}
 
--- each digit has the weight of its place
+-- the number that these digits spell in base ten
 unfoldable pub number_of : List ℕ → ℕ
 number_of [] = 0
 number_of (digit ∷ rest) = (digit - 48) * 10 ^ length rest + number_of rest
@@ -12,7 +12,7 @@ number_of (digit ∷ rest) = (digit - 48) * 10 ^ length rest + number_of rest
 abbrev pub is_number : List ℕ → Bool
 is_number word = list_all is_ascii_digit word && nat_lt 0 (length word)
 
--- the number that a word spells, where it spells one of at least and at most so much
+-- the number that a word spells, if it spells a number from `least` to `most`
 abbrev pub number_within : ℕ → ℕ → List ℕ → Option ℕ
 number_within least most word =
     if (is_number word && nat_le least (number_of word) && nat_le (number_of word) most) then Some (number_of word) else None

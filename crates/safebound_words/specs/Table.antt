@@ -1,4 +1,4 @@
--- The table of commands, options and flags, one line for each. A place word is an argument that is no option, no value of one and no flag.
+-- The table of commands, options and flags, one line for each. A place word is an argument that isn't an option, an option's value, or a flag.
 use Rattle.std.specs.Prelude.{ℕ, ◌^◌, ◌-◌, ◌==◌, ◌&&◌, ◌||◌, not, nat_le, if◌then◌else◌, suc, zero, Bool, true, false, List, [], ◌∷◌, length, Option, Some, None, codes}
 use Rattle.std.specs.Option.{option_map}
 use Rattle.limits.specs.Profile.{least_accuracy, least_budget, most_accuracy, most_budget, usual_accuracy, usual_budget}
@@ -56,7 +56,7 @@ pub record Given : Type 0 where
   pub values : OptionName → List Word
   pub times : FlagName → ℕ
 
--- the value of an option, which is given at most once: the number in its word, which is in its range; the default where it isn't given
+-- the value of an option, which is given at most once: the number in its word, which has to be in its range, or else the default
 abbrev pub value_of : OptionName → List Word → Option ℕ
 value_of option [] = Some (option_row option).otherwise
 value_of option (word ∷ []) = number_within (option_row option).least (option_row option).most word
@@ -66,12 +66,12 @@ value_of option (word ∷ another ∷ words) = None
 abbrev pub limit_of : ℕ → Option ℕ
 limit_of bytes = if bytes == 0 then None else Some bytes
 
--- a file's name as a value is not empty, and begins with no dash
+-- a file's name as a value isn't empty, and doesn't begin with a dash
 abbrev pub is_file : Word → Bool
 is_file [] = false
 is_file (first ∷ rest) = not (first == 45)
 
--- the file that such an option names, if it is given; it is given at most once
+-- the file that an option names, if the option is given; it is given at most once
 abbrev pub option_file : List Word → Option (Option Word)
 option_file [] = Some None
 option_file (word ∷ []) = if is_file word then Some (Some word) else None
@@ -83,7 +83,7 @@ is_set zero = Some false
 is_set (suc zero) = Some true
 is_set (suc (suc more)) = None
 
--- a command: its word, its options, its flags, and what it asks for with these place words and with what is given, if anything
+-- a command: its word, its options, its flags, and what it asks for, if anything, with these place words and what is given
 pub record CommandRow : Type 0 where
   pub word : Word
   pub options : List OptionName
@@ -93,7 +93,7 @@ pub record CommandRow : Type 0 where
 abbrev pub named : Word → List OptionName → List FlagName → (List Word → Given → Option Command) → CommandRow
 named word options flags asks = record { word = word; options = options; flags = flags; asks = asks }
 
--- the rest is asked of the value, if there is one
+-- if there is a value, goes on with it to the rest
 infixl 10 ◌>>=◌
 abbrev pub ◌>>=◌ : {A B : Type 0} → Option A → (A → Option B) → Option B
 None >>= rest = None
@@ -103,7 +103,7 @@ None >>= rest = None
 abbrev pub count_alone : Given → Bool → Bool → Bool
 count_alone given reduce keys = not (reduce || (keys || not (length (given.values option.Accuracy) == 0)))
 
--- exactly two place words, SCHEMA and QUERY. With `--keys` no other flag is given. The budget is at most the greatest one for the plan's shape
+-- exactly two place words, SCHEMA and QUERY. With `--keys` no other flag is given; `--count` is as above. The budget is at most the shape's greatest
 abbrev pub over_schema_and_query : OutText → Option ℕ → List Word → Given → Option Command
 over_schema_and_query out limit (schema ∷ query ∷ []) given = do
   budget ← value_of option.Budget (given.values option.Budget)
@@ -126,7 +126,7 @@ with_limit asks places given = value_of option.Memory (given.values option.Memor
 unfoldable pub over_files : OutText → List Word → Given → Option Command
 over_files out places given = with_limit (over_schema_and_query out) places given
 
--- whether neither an accuracy nor a flag is given, as a statistics file requires: it has its accuracy. A budget and a limit of memory may be
+-- whether neither an accuracy nor a flag is given: a statistics file has its own accuracy. A budget and a limit of memory may be given
 abbrev pub stands_alone : Given → Bool
 stands_alone given =
     length (given.values option.Accuracy) == 0

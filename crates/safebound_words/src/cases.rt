@@ -111,7 +111,7 @@ pub fn small_keys()
     ensures of_demo { command_of (codes "demo" ∷ codes "7" ∷ codes "--keys" ∷ []) ≡ None }
     ensures of_stats { command_of (codes "stats" ∷ codes "s" ∷ codes "q" ∷ codes "--keys" ∷ []) ≡ None }
 
-    // It stands beside no other way to a plan.
+    // It can't stand beside `--reduce`, `--bushy` or `--stats`.
     ensures reduced { command_of (codes "run" ∷ codes "--keys" ∷ codes "s" ∷ codes "q" ∷ codes "--reduce" ∷ []) ≡ None }
     ensures tree { command_of (codes "plan" ∷ codes "--bushy" ∷ codes "s" ∷ codes "q" ∷ codes "--keys" ∷ []) ≡ None }
     ensures of_a_file { command_of (codes "plan" ∷ codes "s" ∷ codes "q" ∷ codes "--stats=f" ∷ codes "--keys" ∷ []) ≡ None }
@@ -131,7 +131,7 @@ pub fn small_counts()
     ensures of_demo { command_of (codes "demo" ∷ codes "7" ∷ codes "--count" ∷ []) ≡ None }
     ensures of_stats { command_of (codes "stats" ∷ codes "s" ∷ codes "q" ∷ codes "--count" ∷ []) ≡ None }
 
-    // It stands beside no other source, and nothing is compressed.
+    // It can't stand beside `--reduce`, `--keys` or `--stats`, nor beside `--accuracy`: nothing is compressed.
     ensures reduced { command_of (codes "run" ∷ codes "--count" ∷ codes "s" ∷ codes "q" ∷ codes "--reduce" ∷ []) ≡ None }
     ensures keyed { command_of (codes "plan" ∷ codes "--keys" ∷ codes "s" ∷ codes "q" ∷ codes "--count" ∷ []) ≡ None }
     ensures of_a_file { command_of (codes "plan" ∷ codes "s" ∷ codes "q" ∷ codes "--stats=f" ∷ codes "--count" ∷ []) ≡ None }
@@ -147,13 +147,13 @@ pub fn small_statistics()
     ensures joined { command_of (codes "plan" ∷ codes "--stats=a=b" ∷ codes "s" ∷ codes "q" ∷ [])
         ≡ Some (over_query None (codes "s") (codes "q") (works.PlanFromStats (codes "a=b") 1000000 None)) }
 
-    // The file is named, and its name is no option's word.
+    // The file's name isn't empty, and doesn't begin with a dash.
     ensures no_name { command_of (codes "plan" ∷ codes "s" ∷ codes "q" ∷ codes "--stats=" ∷ []) ≡ None }
     ensures a_dash { command_of (codes "plan" ∷ codes "s" ∷ codes "q" ∷ codes "--stats=-f" ∷ []) ≡ None }
     ensures next_word { command_of (codes "plan" ∷ codes "s" ∷ codes "q" ∷ codes "--stats" ∷ codes "--budget=5" ∷ []) ≡ None }
     ensures two_files { command_of (codes "plan" ∷ codes "s" ∷ codes "q" ∷ codes "--stats=f" ∷ codes "--stats=f" ∷ []) ≡ None }
 
-    // Beside it stands the budget alone, and `stats` has the accuracy alone.
+    // Only `--budget` and `--memory` may stand beside `--stats`, and `stats` has only `--accuracy`.
     ensures accuracy { command_of (codes "plan" ∷ codes "s" ∷ codes "q" ∷ codes "--stats=f" ∷ codes "--accuracy=1" ∷ []) ≡ None }
     ensures reduced { command_of (codes "plan" ∷ codes "s" ∷ codes "q" ∷ codes "--stats=f" ∷ codes "--reduce" ∷ []) ≡ None }
     ensures tree { command_of (codes "plan" ∷ codes "s" ∷ codes "q" ∷ codes "--stats=f" ∷ codes "--bushy" ∷ []) ≡ None }

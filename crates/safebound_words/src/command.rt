@@ -35,9 +35,9 @@ pub enum Shape {
     Tree,
 }
 
-/// How a query is planned over its tables: the budget, which is the most rows that a plan may cost; the accuracy of compression; what
-/// bounds are made from; the shape of the plan; the limit of memory, which is the most bytes that its buffers may take, if there is a
-/// limit; and which text goes to `out`.
+/// How a query is planned over its tables. `budget` is the most rows that a plan may cost, `accuracy` that of compression. `source` says what bounds
+/// are made from, `shape` how entries are joined, and `out` which text goes to `out`. `memory` is the most bytes that the plan's buffers may take, if
+/// there is a limit.
 #[derive(Clone, Copy, Debug)]
 pub struct PlanWork {
     pub budget: u64,
@@ -51,7 +51,7 @@ pub struct PlanWork {
 /// What is done with a query.
 #[derive(Debug, Drop)]
 pub enum Work<'a> {
-    /// It is planned over its tables, and joined where `out` takes a text.
+    /// It is planned over its tables, and joined if a text goes to `out`.
     Plan(PlanWork),
     /// The statistics file of its tables is written, at an accuracy of compression from 1 to 64.
     WriteStats {

@@ -22,7 +22,7 @@ pub(crate) enum Kind<'a> {
     Unknown,
 }
 
-// A dash and more.
+// Whether a word is a dash with more behind it.
 fn is_dashed(word: &str) -> bool
     ensures { result ≡ dashed word.now }
 {
@@ -54,7 +54,7 @@ fn option_kind(name: CommandName, word: &str) -> Kind<'_>
     }
 }
 
-/// What a word is to a command.
+/// What a word before `--` is in a line of this command.
 #[tactic(auto, unfolding(crate::specs::Answer::kind_of))]
 pub(crate) fn kind_of(name: CommandName, word: &str) -> Kind<'_>
     ensures { kind_seen result ≡ told_kind name word.now }

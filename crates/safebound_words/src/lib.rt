@@ -1,10 +1,9 @@
 //! The words of a command line: the first stage of a run.
 //!
-//! `read_words` takes the words behind the program's own name and gives a `Command`, or `Usage`. It takes no
-//! memory. A command says what is asked of a run: which text goes out, over which source and in which shape. Its words are
-//! seen as bytes (`Word`), so contracts speak of the command itself. Callers cite `AskFor` (in `specs/CommandLines.antt`:
-//! what words ask for) and, where they need a value, `command_of` (the same as a function of the words); and `HasRanges`
-//! (in `specs/InRange.antt`: which values a command may have). The commands, options and flags stand in one table,
+//! `read_words` takes the words behind the program's own name and gives a `Command`, or `Usage`. It takes no memory. A command says what is asked of
+//! a run: which text goes out, over which source and in which shape. Its words are seen as bytes (`Word`), so contracts speak of the command itself.
+//! For what words ask for, callers cite `AskFor` (in `specs/CommandLines.antt`), or `command_of`, which is the same as a function of the words. For
+//! the values that a command may have they cite `HasRanges` (in `specs/InRange.antt`). The commands, options and flags stand in one table,
 //! `specs/Table.antt`.
 #![tactic(auto)]
 

@@ -1,4 +1,4 @@
-//! The words behind a command's word, on their way from left to right.
+//! Reads the words behind a command's word, from left to right.
 ghost use Rattle.std.specs.Prelude.{◌≡◌, ◌+◌, ◌∷◌, ◌++◌, ℕ, [], length, List, map, if◌then◌else◌, IfOk, IfErr, IsTrue, None, false, true, OnErr, OnOk};
 ghost use Rattle.safebound_words.specs.Collected.{asked_by, asked_from, collected, FitsNext, given_to, option_words, times_of, words_of};
 ghost use Rattle.safebound_words.specs.CommandLines.{has_option, same_flag, same_option};
@@ -26,7 +26,7 @@ pub(crate) enum Next {
     Place,
 }
 
-/// The place words so far, the word that was given to each option, and whether each flag was there.
+/// The place words so far, the word that was given to each option, and whether each flag was given.
 #[derive(Clone, Copy)]
 pub(crate) struct Line<'a> {
     pub places: Places<'a>,
@@ -40,7 +40,7 @@ pub(crate) struct Line<'a> {
     pub count: bool,
 }
 
-// Puts a word if there is none.
+// Sets a word that isn't set yet. Otherwise the answer is `Usage`.
 fn put<'a>(given: &mut Option<&'a str>, word: &'a str) -> Result<(), WordsError>
     ensures ok { OnOk result (option_words given.new ≡ option_words given.old ++ word.now ∷ []) }
     ensures again { OnErr result (length (option_words given.old) ≡ 1) }
@@ -52,7 +52,7 @@ fn put<'a>(given: &mut Option<&'a str>, word: &'a str) -> Result<(), WordsError>
     Ok(())
 }
 
-// Marks what isn't marked.
+// Sets a mark that isn't set yet. Otherwise the answer is `Usage`.
 fn mark(marked: &mut bool) -> Result<(), WordsError>
     ensures ok { OnOk result ((marked.old ≡ false) × (marked.new ≡ true)) }
     ensures again { OnErr result (marked.old ≡ true) }
@@ -65,7 +65,7 @@ fn mark(marked: &mut bool) -> Result<(), WordsError>
 }
 
 impl<'a> Line<'a> {
-    // One place word more, where there are fewer than four.
+    // Adds a place word, if there are fewer than four.
     fn add_place(&mut self, word: &'a str) -> Result<(), WordsError>
         ensures ok { OnOk result (words_of self.new.places ≡ words_of self.old.places ++ word.now ∷ []) }
         ensures given { (option : OptionName) → given_to self.new option ≡ given_to self.old option }
@@ -82,7 +82,7 @@ impl<'a> Line<'a> {
         Ok(())
     }
 
-    // A word for an option that has none.
+    // Adds the word of an option that has no word yet.
     fn add_value(&mut self, option: OptionName, word: &'a str) -> Result<(), WordsError>
         ensures ok { OnOk result ((other : OptionName) → given_to self.new other
             ≡ given_to self.old other ++ (if same_option other option then word.now ∷ [] else [])) }
@@ -98,7 +98,7 @@ impl<'a> Line<'a> {
         }
     }
 
-    // A flag that wasn't there.
+    // Adds a flag that wasn't given yet.
     fn add_flag(&mut self, flag: FlagName) -> Result<(), WordsError>
         ensures ok { OnOk result ((other : FlagName) → times_of self.new other
             ≡ times_of self.old other + (if same_flag other flag then 1 else 0)) }
@@ -135,7 +135,7 @@ impl<'a> Line<'a> {
         }
     }
 
-    // Takes the next word before `--`, where no option wants its value.
+    // Takes the next word before `--`, if no option wants its value.
     fn take_item(&mut self, name: CommandName, word: &'a str) -> Result<Next, WordsError>
         ensures ok { IfOk result (λ after. (words : List Word) →
             asked_from name self.new after words ≡ asked_from name self.old Next.Item (word.now ∷ words)) }

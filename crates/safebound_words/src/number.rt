@@ -12,7 +12,7 @@ fn are_digits(word: &str) -> bool
     word.as_bytes().iter().all(|byte| byte.is_ascii_digit())
 }
 
-// The number that a word spells in digits, where it has 64 bits.
+// The number that a word spells in digits, if it fits in 64 bits.
 fn spelled(word: &str) -> Option<u64>
     ensures { SomeIff result (IsTrue (is_number word.now) × (number_of word.now < 2 ^ 64)) (number_of word.now) }
 {
@@ -25,7 +25,7 @@ fn spelled(word: &str) -> Option<u64>
     }
 }
 
-/// The number that a word spells in digits, where it is at least and at most so much.
+/// The number that a word spells in digits, if it is from `least` to `most`.
 pub(crate) fn number_within(least: u64, most: u64, word: &str) -> Option<u64>
     ensures value { result ≡ within least most word.now }
     ensures most { IfSome result (λ number. number ≤ most) }

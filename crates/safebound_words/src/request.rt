@@ -13,7 +13,7 @@ use crate::table::{CommandName, OptionName};
 use crate::word::Word;
 use limits::{MOST_BUDGET, MOST_ROWS, USUAL_ACCURACY, USUAL_BUDGET};
 
-// The value of an option, from the word that was given for it, if one was.
+// The value of an option, from the word that was given for it. If no word was given, it is the usual value.
 fn value_of(option: OptionName, given: Option<&str>) -> Option<u64>
     ensures value { result ≡ option_value option (option_words given.entry) }
     ensures most { IfSome result (λ value. value ≤ (option_row option).most) }
@@ -80,7 +80,7 @@ fn over<'a>(schema: &'a str, query: &'a str, work: Work<'a>) -> Command<'a>
     }
 }
 
-// A plan over SCHEMA and QUERY, if these are the place words and each option has a right value.
+// A plan over SCHEMA and QUERY, if these are the place words, each option has a right value, and the flags may stand together.
 #[tactic(auto, unfolding(crate::specs::Table::over_files))]
 fn over_files<'a>(out: OutText, line: &Line<'a>) -> Option<Command<'a>>
     ensures { result ≡ asked_over_files out (words_of line.now.places) (given_of line.now) }
@@ -112,7 +112,7 @@ fn over_files<'a>(out: OutText, line: &Line<'a>) -> Option<Command<'a>>
     Some(over(schema, query, Work::Plan(plan)))
 }
 
-// Whether a word may be a file's name as a value.
+// Whether an option's value may be a file's name: it isn't empty, and doesn't begin with a dash.
 fn is_file(word: &str) -> bool
     ensures { result ≡ is_file word.now }
 {
@@ -122,7 +122,7 @@ fn is_file(word: &str) -> bool
     }
 }
 
-// A plan from a statistics file: SCHEMA and QUERY, and only the budget and a limit of memory beside the file.
+// A plan from a statistics file, if the place words are SCHEMA and QUERY, and only the budget and a limit of memory stand beside the file.
 fn plan_from<'a>(line: &Line<'a>, stats: &'a str) -> Option<Command<'a>>
     ensures { result ≡ plan_from_stats_or_tables (Some stats.now) (words_of line.now.places) (given_of line.now) }
 {
@@ -159,7 +159,7 @@ fn plan_of<'a>(line: &Line<'a>) -> Option<Command<'a>>
     None
 }
 
-// The statistics of a query: SCHEMA and QUERY, and the accuracy.
+// The statistics of a query, if the place words are SCHEMA and QUERY, at the accuracy of the line.
 fn stats_of<'a>(line: &Line<'a>) -> Option<Command<'a>>
     ensures { result ≡ of_stats (words_of line.now.places) (given_of line.now) }
 {
@@ -176,7 +176,7 @@ fn stats_of<'a>(line: &Line<'a>) -> Option<Command<'a>>
     ))
 }
 
-// New rows of a table: SCHEMA, STATS, TABLE and ROWS.
+// The append of new rows to a table, if the place words are SCHEMA, STATS, TABLE and ROWS.
 fn append_of<'a>(line: &Line<'a>) -> Option<Command<'a>>
     ensures { result ≡ asked_of_append (words_of line.now.places) (given_of line.now) }
 {
@@ -212,7 +212,7 @@ fn demo<'a>(number: u32) -> Command<'a>
     }
 }
 
-// The shop of NUMBER, if that is the only place word.
+// The audit of the shop NUMBER, if this is the only place word.
 fn shop_of<'a>(line: &Line<'a>) -> Option<Command<'a>>
     ensures { result ≡ asked_of_number (words_of line.now.places) (given_of line.now) }
 {
@@ -223,7 +223,7 @@ fn shop_of<'a>(line: &Line<'a>) -> Option<Command<'a>>
     Some(demo(number as u32))
 }
 
-/// The command of this name over a line, if it is one.
+/// The command of this name that a line asks for, if it asks for any.
 pub(crate) fn command_of<'a>(name: CommandName, line: &Line<'a>) -> Option<Command<'a>>
     ensures { result ≡ collected name line.now }
 {

@@ -41,7 +41,7 @@ pub enum FlagName {
     Count,
 }
 
-/// The least and the greatest value of an option, and its value where it doesn't stand.
+/// The least and the greatest value of an option, and its value if it isn't given.
 #[derive(Clone, Copy)]
 pub(crate) struct Range {
     pub least: u64,
@@ -102,7 +102,7 @@ pub(crate) fn command_named(word: &str) -> Option<CommandName>
     }
 }
 
-// The accuracy, where a word names it.
+// The option for accuracy, if a word names it.
 fn accuracy_named(word: &str) -> Option<OptionName>
     ensures { result ≡ named_option CommandName.Stats word.now }
 {

@@ -11,7 +11,7 @@ use crate::line::read_line;
 use crate::request::command_of;
 use crate::table::command_named;
 
-/// No command line has more words.
+/// The most words that a command line may have.
 pub const MOST_WORDS: usize = 16;
 
 // The command that the words ask for.
@@ -29,8 +29,8 @@ fn command_in<'a>(words: &[&'a str]) -> Option<Command<'a>>
 /// Reads the words of a command line, without the program's own name, in one walk from left to right. It takes
 /// no memory.
 ///
-/// It answers `Usage` exactly if the words ask for nothing: they are no line of the table, an option is given twice,
-/// or a value is outside its range.
+/// It answers `Usage` exactly if the words ask for nothing. For example they name no command, an option is given twice, two flags can't stand
+/// together, or a value is outside its range.
 pub fn read_words<'a>(words: &[&'a str]) -> Result<Command<'a>, WordsError>
     ensures command { IfOk result (AskFor (map (λ w. w.now) words.now)) }
     ensures usage { OnErr result ((command : Command) → AskFor (map (λ w. w.now) words.now) command → ⊥) }

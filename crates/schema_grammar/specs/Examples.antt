@@ -1,4 +1,4 @@
--- Small lists of tokens, as they lie in the texts beside them.
+-- The tokens of small texts. The comment above a list has its text.
 use Rattle.std.specs.Prelude.{ℕ, List, [], ◌∷◌}
 use Rattle.ll_grammars.specs.declared.lexeme.Lexeme.{Lexeme}
 use Rattle.ll_grammars.specs.declared.terminal.Terminal.{Terminal}

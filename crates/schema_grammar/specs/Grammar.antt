@@ -18,9 +18,9 @@ use Rattle.schema_grammar.specs.declared.tree.Element.{Element}
 use Rattle.schema_grammar.specs.declared.tree.Element.TheVariants as element
 use Rattle.schema_grammar.specs.declared.tree.TableNode.{TableNode}
 
--- ---- the values of texts put together
+-- ---- how the values of parts are put together
 
--- a text that is read and dropped
+-- a part that is read, and whose value is dropped
 abbrev pub nothing : {A : Type 0} → A → Unit {0}
 nothing value = tt
 
@@ -74,7 +74,7 @@ tables parts = parts.0 ∷ parts.1.0
 
 -- ---- names
 
--- KEY, NO, ACTION and CASCADE are words only in their places, and names elsewhere
+-- KEY, NO, ACTION and CASCADE are keywords only in their places, and names elsewhere
 abbrev pub name_terminals : List Terminal
 name_terminals = terminal.Name ∷ terminal.Key ∷ terminal.No ∷ terminal.Action ∷ terminal.Cascade ∷ []
 

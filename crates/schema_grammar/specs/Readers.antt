@@ -1,4 +1,4 @@
--- The same rules, each read from left to right.
+-- The rules of the grammar, each as a reader from left to right.
 use Rattle.std.specs.Prelude.{◌≡◌, ◌<◌, length, Bool, true, false, List, [], ◌∷◌, Some}
 use Rattle.ll_grammars.specs.declared.lexeme.Lexeme.{Lexeme}
 use Rattle.ll_grammars.specs.declared.terminal.Terminal.{Terminal}
@@ -117,7 +117,7 @@ read_other_tables = read_tails (terminal.Semicolon ∷ []) (terminal.Create ∷ 
 unfoldable pub read_all_tables : Parser (List TableNode)
 read_all_tables = read_made all (read_then read_table read_other_tables)
 
--- whether another table follows, where its semicolon, or one at the end, was read
+-- whether another table follows; the semicolon before it, or one at the end, was read
 abbrev pub Follows : Bool → List Lexeme → List Lexeme → Type 0
 Follows true old new = (read_other_tables old ≡ (read_table new >>= read_others read_other_tables)) × (length new < length old)
 Follows false old new = read_other_tables old ≡ (Some [], new)

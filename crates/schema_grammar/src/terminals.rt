@@ -15,7 +15,7 @@ pub const CHANGE: &[Terminal] = &[Terminal::Delete, Terminal::Update];
 
 pub const NULL_OR_DEFAULT: &[Terminal] = &[Terminal::Null, Terminal::Default];
 
-/// What a rule of a column begins with.
+/// The terminals with which a rule of a column begins.
 pub const COLUMN_RULE: &[Terminal] = &[
     Terminal::Constraint,
     Terminal::Not,

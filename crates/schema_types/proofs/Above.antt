@@ -51,7 +51,7 @@ pub empty_right : (front rest : List ℕ) → front ++ rest ≡ [] → rest ≡ 
 empty_right [] rest e = e
 empty_right (x ∷ front) rest e = cc
 
--- where nothing is above a limit, no element has it
+-- if all elements together give nothing, each element gives nothing
 pub none_at : {X : Type 0} (f : X → List ℕ) (xs : List X) (i : ℕ) (x : X) → flat_map f xs ≡ [] → i < length xs → x ≡ get_or xs i x → f x ≡ []
 none_at f xs i x none within here =
     let cut : xs ≡ take i xs ++ (x ∷ drop (suc i) xs) = sym (take-append-drop i xs) ∙ ap (λ tail. take i xs ++ tail) (drop-cons xs i x within ∙ ap (λ y. y ∷ drop (suc i) xs) (sym here)) in

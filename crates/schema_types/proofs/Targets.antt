@@ -9,7 +9,7 @@ use Rattle.schema_types.specs.Declarations.{table_names}
 use Rattle.schema_types.specs.Names.{place_of}
 use Rattle.schema_types.proofs.Places.{place_of_within}
 
--- no place is no table
+-- without a place there is no table
 pub no_target : {A B : Type 0} (f : A → B) (xs : List A) (o : Option ℕ) → o ≡ None → None ≡ option_map f (option_and_then (slice_get xs) o)
 no_target f xs None e = refl
 no_target f xs (Some place) e = cc

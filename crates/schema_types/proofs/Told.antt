@@ -1,4 +1,4 @@
--- Checks that walk a list and are told what stood before.
+-- Checks that walk a list and know the elements before.
 use Rattle.std.proofs.Common.{◌≡◌, ℕ, suc, ◌+◌, ◌<◌, List, [], ◌∷◌, ◌++◌, length, get_or, take, drop, Err, refl, sym, ◌∙◌, ap, append_assoc}
 use Rattle.std.proofs.Math.Seq.{drop-cons}
 use Rattle.std.proofs.lemmas.List.{take-append-drop, append-nil, take_more}

@@ -1,4 +1,4 @@
--- What a check answers: `Ok` where it finds nothing, and else the first of what it finds. Memory may be wanting.
+-- What a check answers: `Ok` if it finds nothing, otherwise the first place or number that it finds, or that memory ran out.
 use Rattle.std.specs.Prelude.{◌≡◌, ℕ, List, [], Some, Result, Ok, Err, ⊤, option_map}
 use Rattle.schema_types.specs.declared.errors.LimitKind.{LimitKind}
 use Rattle.schema_types.specs.declared.errors.SchemaError.{SchemaError}

@@ -6,7 +6,7 @@ use Rattle.schema_types.specs.Names.{names_of}
 use Rattle.schema_types.specs.Declarations.{column_names, primary_key}
 use Rattle.schema_types.specs.Numbers.{numbers_in}
 
--- the names of a table's columns, those in its first primary key, and the numbers of these columns
+-- the names of a table's columns, the names in its first primary key, and the numbers of the columns in this key
 unfoldable pub table_index : List ℕ → TableNode → TableIndex
 table_index text table = record {
   columns = column_names text table.elements;

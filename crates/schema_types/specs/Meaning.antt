@@ -54,7 +54,7 @@ element_keys text declared (element.Rule rule) = table_rule_keys text declared r
 
 -- ---- references
 
--- the numbers of the columns of a table to which a reference leads, a left-out list resolved
+-- the numbers of the columns of a table to which a reference leads. If their list is left out, they are the primary key
 abbrev pub led_numbers : List ℕ → Option (List Lexeme) → Option TableNode → List ℕ
 led_numbers text written None = []
 led_numbers text written (Some table) =
@@ -90,7 +90,7 @@ element_references text tables declared (element.Rule rule) = table_rule_referen
 
 -- ---- the schema
 
--- all number types are one kind, of 64 bits; a text has at most so many characters
+-- the kind of a type: all number types are one kind, of 64 bits, and a text's kind has its greatest length in characters
 abbrev pub kind_of : List ℕ → TypeNode → Kind
 kind_of text type_text.Number = kind.Int
 kind_of text (type_text.Text length) = kind.Text (number_of (slice text length.start length.end))
@@ -115,7 +115,7 @@ schema_of text tables = record { tables = map (table_of text tables) tables }
 
 -- ---- the answer
 
--- refused with what was found, or else the rest
+-- a refusal with what was found, or the rest if nothing was found
 abbrev pub unless_found : Option ℕ → (ℕ → SchemaError) → Result Schema SchemaError → Result Schema SchemaError
 unless_found None cause rest = rest
 unless_found (Some found) cause rest = Err (cause found)

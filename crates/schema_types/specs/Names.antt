@@ -1,4 +1,4 @@
--- Names, as the bytes that they are after folding, and places in lists.
+-- Names, as their bytes after folding, and places in lists.
 use Rattle.std.specs.Prelude.{ℕ, ◌+◌, Bool, if◌then◌else◌, List, [], ◌∷◌, ◌++◌, map, Option, Some, None, option_map}
 use Rattle.std.specs.Str.{bytes_eq}
 use Rattle.ll_grammars.specs.declared.lexeme.Lexeme.{Lexeme}
@@ -9,7 +9,7 @@ abbrev pub first : {A : Type 0} → List A → Option A
 first [] = None
 first (x ∷ rest) = Some x
 
--- one thing under a condition, else none
+-- a list of one thing if the condition holds, and otherwise the empty list
 abbrev pub when : {A : Type 0} → Bool → A → List A
 when condition x = if condition then x ∷ [] else []
 
@@ -18,16 +18,16 @@ unfoldable pub place_of : List (List ℕ) → List ℕ → Option ℕ
 place_of [] name = None
 place_of (other ∷ rest) name = if bytes_eq name other then Some 0 else option_map (λ place. place + 1) (place_of rest name)
 
--- a place, or else that of a last name where it is the one
+-- a place that was found, or otherwise the place of the last name, if that is the same name
 abbrev pub or_last : Option ℕ → ℕ → Bool → Option ℕ
 or_last (Some place) last same = Some place
 or_last None last same = if same then Some last else None
 
--- the names that tokens are
+-- the names of tokens
 abbrev pub names_of : List ℕ → List Lexeme → List (List ℕ)
 names_of text tokens = map (name_of text) tokens
 
--- what each of a list gives, told those before it
+-- what f gives for each element of a list, given also the elements before it
 unfoldable pub told_from : {X : Type 0} → (List X → X → List ℕ) → List X → List X → List ℕ
 told_from f earlier [] = []
 told_from f earlier (x ∷ rest) = f earlier x ++ told_from f (earlier ++ x ∷ []) rest

@@ -4,7 +4,7 @@ use Rattle.ll_grammars.specs.declared.lexeme.Lexeme.{Lexeme}
 use Rattle.sql_tokens.specs.Words.{name_of}
 use Rattle.schema_types.specs.Names.{place_of}
 
--- the number of a column by its name, counted from 0 (0 where there is no such column, which is an offence)
+-- the number of a column by its name, counted from 0. It is 0 if no column has this name, which is an offence
 abbrev pub number_of_name : List (List ℕ) → List ℕ → ℕ
 number_of_name declared name = unwrap_or (place_of declared name) 0
 

@@ -28,7 +28,7 @@ is_taken name names = stands_in (upper_case name) (map upper_case names)
 
 -- ---- lists of columns
 
--- a column that isn't in its table, or that stands in the list before
+-- a column that isn't in its table, or that stands earlier in the list
 unfoldable pub listed_offences : List ℕ → List (List ℕ) → List Lexeme → Lexeme → List ℕ
 listed_offences text declared earlier column =
     when (is_none (place_of declared (name_of text column)) || stands_in (name_of text column) (names_of text earlier)) column.start
@@ -38,14 +38,14 @@ list_offences text declared columns = each_told (listed_offences text declared) 
 
 -- ---- references
 
--- the columns to which a reference of so many columns leads, in the table of these elements: as many, or an
--- offence at the target's name
+-- the offences of the columns to which a reference of `count` columns leads, in the table of these elements. If they aren't as many, the target's
+-- name offends
 abbrev pub led_offences : List ℕ → ℕ → Lexeme → Option (List Lexeme) → List Element → List ℕ
 led_offences text count name (Some columns) elements =
     when (not (length columns == count)) name.start ++ list_offences text (column_names text elements) columns
 led_offences text count name None elements = key_offences (primary_key elements)
   where
-    -- the list is left out: the primary key has as many columns
+    -- the list is left out: there must be a primary key of as many columns
     key_offences : Option (List Lexeme) → List ℕ
     key_offences None = name.start ∷ []
     key_offences (Some key) = when (not (length key == count)) name.start
@@ -54,7 +54,7 @@ abbrev pub target_offences_in : List ℕ → ℕ → TargetNode → Option Table
 target_offences_in text count target None = target.table.start ∷ []
 target_offences_in text count target (Some table) = led_offences text count target.table target.columns table.elements
 
--- a reference from so many columns
+-- the offences of a reference from `count` columns
 unfoldable pub target_offences : List ℕ → List TableNode → ℕ → TargetNode → List ℕ
 target_offences text tables count target = target_offences_in text count target (target_table text tables target)
 
@@ -67,20 +67,20 @@ is_primary (element.Rule (table_rule.PrimaryKey _ _)) = true
 is_primary (element.Rule (table_rule.Unique _)) = false
 is_primary (element.Rule (table_rule.ForeignKey _ _)) = false
 
--- a column's rule, where a primary key stands before the column or not, told the rules before it
+-- the offences of a column's rule, given the column's rules before it. `keyed` says whether a primary key stands before the column
 unfoldable pub rule_offences : List ℕ → List TableNode → Bool → List ColumnRule → ColumnRule → List ℕ
 rule_offences text tables keyed earlier column_rule.NotNull = []
 rule_offences text tables keyed earlier (column_rule.PrimaryKey word) = when (keyed || list_any is_primary_rule earlier) word.start
 rule_offences text tables keyed earlier column_rule.Unique = []
 rule_offences text tables keyed earlier (column_rule.References target) = target_offences text tables 1 target
 
--- a column: its name is equal to an earlier one, or one of its rules offends
+-- the offences of a column: its name is equal to an earlier column's, or one of its rules offends
 unfoldable pub column_offences : List ℕ → List TableNode → List Element → ColumnNode → List ℕ
 column_offences text tables earlier column =
     when (is_taken (name_of text column.name) (column_names text earlier)) column.name.start
     ++ each_told (rule_offences text tables (list_any is_primary earlier)) column.rules
 
--- a rule of a table of these columns
+-- the offences of a rule of a table with these columns
 unfoldable pub table_rule_offences : List ℕ → List TableNode → List (List ℕ) → List Element → TableRule → List ℕ
 table_rule_offences text tables declared earlier (table_rule.PrimaryKey word columns) =
     when (list_any is_primary earlier) word.start ++ list_offences text declared columns
@@ -88,14 +88,14 @@ table_rule_offences text tables declared earlier (table_rule.Unique columns) = l
 table_rule_offences text tables declared earlier (table_rule.ForeignKey columns target) =
     list_offences text declared columns ++ target_offences text tables (length columns) target
 
--- an element of a table of these columns, told the elements before it
+-- the offences of an element of a table with these columns, given the elements before it
 unfoldable pub element_offences : List ℕ → List TableNode → List (List ℕ) → List Element → Element → List ℕ
 element_offences text tables declared earlier (element.Column column) = column_offences text tables earlier column
 element_offences text tables declared earlier (element.Rule rule) = table_rule_offences text tables declared earlier rule
 
 -- ---- tables
 
--- a table, told the tables before it
+-- the offences of a table, given the tables before it
 unfoldable pub table_offences : List ℕ → List TableNode → List TableNode → TableNode → List ℕ
 table_offences text tables earlier table =
     when (not (is_plain (name_of text table.name)) || is_taken (name_of text table.name) (table_names text earlier)) table.name.start

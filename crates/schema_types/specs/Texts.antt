@@ -29,8 +29,8 @@ pub record Declares (text : List ℕ) (answer : Result Schema SchemaError) : Typ
   pub spells : Spells text tables
   pub answers : schema_or_refusal text tables ≡ answer
 
--- an answer to a schema text: its schema, or the first refusal, in the order Syntax, Name, Nullable, Limit; memory may be
--- wanting
+-- an answer to a schema text: its schema, or the first refusal in the order Syntax, Name, Nullable, Limit, or that memory ran
+-- out
 abbrev pub IsSchemaOf : List ℕ → Result Schema SchemaError → Type 0
 IsSchemaOf text (Ok schema) = Declares text (Ok schema)
 IsSchemaOf text (Err (error.Syntax at)) = IsBad text at ⊎ IsUngrammatical text at

@@ -29,7 +29,7 @@ pub record IsReference (tables : List Table) (table : Table) (reference : Refere
   pub exists : slice_get tables reference.table ≡ Some target
   pub targets : AreColumnsOf target reference.targets
 
--- a table that stands alone: from 1 to 64 columns with different names, and keys over its columns
+-- a table by itself: a plain name, from 1 to 64 columns with different names, and keys over its columns
 pub record IsValidTable (table : Table) : Type 0 where
   pub some : 0 < length table.columns
   pub few : length table.columns ≤ 64

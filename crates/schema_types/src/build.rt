@@ -26,7 +26,7 @@ pub struct Links {
 }
 
 impl Scope<'_> {
-    // The number of a column of a table of these columns.
+    // The number of a column in a table with these columns. It is 0 if there is no such column.
     fn number(&self, declared: &NameList, column: &Lexeme) -> Result<u32, NoMemory>
         requires { IsNameOf (IsLexemeOf self.now.text.now) column.now }
         ensures { IfOk result (λ found. found ≡ number_in self.now.text.now declared.now column.now) }
@@ -87,7 +87,7 @@ impl Scope<'_> {
         }
     }
 
-    // What a rule of the column with this number declares.
+    // Adds what a rule of the column with this number declares.
     fn add_rule(&self, number: u32, rule: &ColumnRule, links: &mut Links) -> Result<(), NoMemory>
         requires { IsColumnRuleOf (IsLexemeOf self.now.text.now) rule.now }
         ensures keys { OnOk result (links.new.keys ≡ links.old.keys ++ rule_keys number rule.now) }
@@ -112,7 +112,7 @@ impl Scope<'_> {
         }
     }
 
-    // What a column declares.
+    // Adds what a column declares.
     fn add_column(
         &self,
         declared: &NameList,
@@ -131,7 +131,7 @@ impl Scope<'_> {
         Ok(())
     }
 
-    // What a rule of a table of these columns declares.
+    // Adds what a rule of a table with these columns declares.
     fn add_table_rule(
         &self,
         declared: &NameList,
@@ -177,7 +177,7 @@ impl Scope<'_> {
         }
     }
 
-    /// The keys and references of a table of these columns.
+    /// The keys and references of a table with these columns.
     pub fn links(&self, declared: &NameList, elements: &[Element]) -> Result<Links, NoMemory>
         requires { All (IsElementOf (IsLexemeOf self.now.text.now)) elements.now }
         ensures keys { IfOk result (λ found. found.keys ≡ flat_map (element_keys self.now.text.now declared.now) elements.now) }

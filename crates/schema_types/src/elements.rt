@@ -1,4 +1,4 @@
-//! The elements of a table: columns and rules.
+//! Checks the elements of a table: columns and rules.
 ghost use Rattle.std.specs.Prelude.{◌≡◌, ℕ, ◌||◌, [], ◌∷◌, ◌++◌, Bool, List, All, map, OnOk};
 ghost use Rattle.std.specs.List.{list_any};
 ghost use Rattle.sql_tokens.specs.Words.{IsLexemeOf, name_of};
@@ -49,7 +49,7 @@ fn is_keyed_after(keyed: bool, element: &Element) -> bool
 }
 
 impl Scope<'_> {
-    // A column's rule, where a primary key stands before it or not.
+    // Checks a column's rule. `keyed` says whether a primary key stands before it.
     #[tactic(auto, unfolding(crate::specs::Offences::rule_offences))]
     fn check_rule(&self, keyed: bool, rule: &ColumnRule) -> Result<(), SchemaError>
         requires { IsColumnRuleOf (IsLexemeOf self.now.text.now) rule.now }
@@ -69,7 +69,7 @@ impl Scope<'_> {
         }
     }
 
-    // A column's rules, where a primary key stands before the column or not.
+    // Checks a column's rules. `keyed` says whether a primary key stands before the column.
     #[tactic(auto, using(crate::proofs::Told::told_none))]
     fn check_rules(&self, keyed: bool, rules: &[ColumnRule]) -> Result<(), SchemaError>
         requires { All (IsColumnRuleOf (IsLexemeOf self.now.text.now)) rules.now }
@@ -83,7 +83,7 @@ impl Scope<'_> {
         Ok(())
     }
 
-    /// A name that is to differ from those before it, in ASCII upper case.
+    /// Adds a name to the taken ones. It has to differ from them in ASCII upper case.
     #[tactic(auto, using(crate::proofs::Places::stands_in_is))]
     pub fn take_name(&self, taken: &mut NameList, token: &Lexeme) -> Result<(), SchemaError>
         requires { IsNameOf (IsLexemeOf self.now.text.now) token.now }
@@ -100,7 +100,7 @@ impl Scope<'_> {
         Ok(())
     }
 
-    // A column, where a primary key stands before it or not.
+    // Checks a column. `keyed` says whether a primary key stands before it.
     #[tactic(auto, unfolding(crate::specs::Offences::column_offences))]
     fn check_column(
         &self,
@@ -118,7 +118,7 @@ impl Scope<'_> {
         self.check_rules(keyed, column.rules.as_slice())
     }
 
-    // A rule of a table of these columns, where a primary key stands before it or not.
+    // Checks a rule of a table with these columns. `keyed` says whether a primary key stands before it.
     #[tactic(auto, unfolding(crate::specs::Offences::table_rule_offences))]
     fn check_table_rule(
         &self,
@@ -147,7 +147,7 @@ impl Scope<'_> {
         }
     }
 
-    // An element of a table of these columns.
+    // Checks an element of a table with these columns.
     #[tactic(auto, unfolding(crate::specs::Offences::element_offences))]
     fn check_element(
         &self,
@@ -168,7 +168,7 @@ impl Scope<'_> {
         }
     }
 
-    /// The elements of a table of these columns.
+    /// Checks the elements of a table with these columns.
     #[tactic(auto, using(crate::proofs::Told::told_none))]
     pub fn check_elements(
         &self,

@@ -23,13 +23,13 @@ pub enum LimitKind {
 /// Why no schema was read. Places are offsets in the text, in bytes from 0.
 #[derive(Clone, Copy, Debug, PartialEq, Eq)]
 pub enum SchemaError {
-    /// The text is no text of the grammar, from this place on.
+    /// The text isn't one of the grammar's: it goes wrong at this place.
     Syntax { at: u32 },
     /// A rule on names is broken here.
     Name { at: u32 },
     /// The column named here may be null.
     Nullable { at: u32 },
-    /// There are this many of a thing, or 2^64 - 1 where there are more.
+    /// This limit is passed: `found` is how many there are, or 2^64 - 1 if there are more.
     Limit { which: LimitKind, found: u64 },
     NoMemory,
 }

@@ -16,7 +16,7 @@ use schema_grammar::{ColumnNode, ColumnRule, Element, TableNode, TableRule};
 use sql_tokens::name;
 use std::alloc::Global;
 
-/// The names of a table's columns, those in its first primary key, and the numbers of these columns.
+/// The names of a table's columns, the names in its first primary key, and the numbers of the columns in this key.
 #[derive(Drop)]
 pub struct TableIndex {
     pub columns: NameList,
@@ -24,7 +24,7 @@ pub struct TableIndex {
     pub numbers: Seq<u32>,
 }
 
-/// The names that tokens are.
+/// The names of tokens.
 pub fn name_list(alloc: Global, text: &[u8], tokens: &[Lexeme]) -> Result<NameList, NoMemory>
     requires { All (IsNameOf (IsLexemeOf text.now)) tokens.now }
     ensures { IfOk result (λ found. found ≡ names_of text.now tokens.now) }
@@ -115,7 +115,7 @@ fn primary_key(
     Ok(None)
 }
 
-// The numbers of a key's columns, none without a key.
+// The numbers of a key's columns. Without a key the list is empty.
 #[tactic(auto, using(crate::proofs::Numbering::key_numbers_none, crate::proofs::Numbering::key_numbers_some))]
 fn key_numbers(
     alloc: Global,

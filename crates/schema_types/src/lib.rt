@@ -1,10 +1,9 @@
 //! Schema texts: from the bytes of a schema file to its tables.
 //!
-//! The first stage after the files are read: the tokens of a text (`sql_tokens`), the tables that they
-//! spell (`schema_grammar`), and then names, nullability and limits. Callers cite `IsSchemaOf` (in
-//! `specs/Texts.antt`), which says what each text is answered, and `IsValid` (in `specs/Validity.antt`),
-//! which says what holds of every schema that was read. `NameList`, a list of names that finds each one's place, is
-//! there for the stages after this one too.
+//! This is the first stage after the files are read. It finds the tokens of a text (`sql_tokens`) and the tables that they spell (`schema_grammar`),
+//! and then checks names, nullability and limits. Callers cite `IsSchemaOf` (in `specs/Texts.antt`), which says what each text is answered, and
+//! `IsValid` (in `specs/Validity.antt`), which says what holds of every schema that was read. `NameList` is a list of names that finds the place of a
+//! name. Later stages use it too.
 #![tactic(auto)]
 
 mod answer;

@@ -1,4 +1,4 @@
-//! Lists of columns in keys and references.
+//! Checks lists of columns in keys and references.
 ghost use Rattle.std.specs.Prelude.{◌≡◌, [], ◌∷◌, ◌++◌, All, List, OnOk};
 ghost use Rattle.ll_grammars.specs.declared.lexeme.Lexeme.{Lexeme};
 ghost use Rattle.sql_tokens.specs.Words.{IsLexemeOf, name_of};
@@ -13,7 +13,7 @@ use ll_grammars::Lexeme;
 use sql_tokens::name;
 use std::alloc::Global;
 
-// A column of a list; the names before it in the list are known.
+// Checks a column of a list, and adds it to the names before it.
 #[tactic(auto, using(crate::proofs::Places::stands_in_is), unfolding(crate::specs::Offences::listed_offences))]
 fn check_listed(
     alloc: Global,
@@ -37,7 +37,7 @@ fn check_listed(
     Ok(())
 }
 
-/// A list of columns of a table: each is declared there, and none stands twice.
+/// Checks a list of columns of a table: each is declared there, and no column stands twice.
 #[tactic(auto, using(crate::proofs::Told::told_none), unfolding(crate::specs::Offences::list_offences))]
 pub fn check_list(
     alloc: Global,

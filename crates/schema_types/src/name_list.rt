@@ -1,4 +1,4 @@
-//! A list of names that tells where each one stands.
+//! A list of names that finds the place of a name.
 ghost use Rattle.std.specs.Prelude.{◌≡◌, ℕ, List, [], ◌∷◌, ◌++◌, IfOk, OnOk, OnErr, length, map};
 ghost use Rattle.std.specs.HashMap.{get_by_text, IsUnchanged};
 ghost use Rattle.std.specs.Str.{bytes_eq};
@@ -10,7 +10,7 @@ use std::alloc::Global;
 use std::collections::HashMap;
 use std::marker::Model;
 
-/// A list of names, which contracts see as such. It finds a name's first place in the time of one look.
+/// A list of names, which contracts see as the bytes of each name. It finds a name's first place with one look-up.
 #[derive(Drop)]
 pub struct NameList {
     names: Vec<String>,
@@ -29,7 +29,7 @@ impl Model for NameList {
     ghost invariant = { λ s. (name : List ℕ) → get_by_text s.places name ≡ place_of (map string_bytes s.names.items) name };
 }
 
-// A name's place, where it has none yet.
+// Notes the place of a name that has no place yet.
 fn note_place(
     places: &mut HashMap<String, u32>,
     alloc: Global,
@@ -65,7 +65,7 @@ impl NameList {
         self.places.get(name).copied()
     }
 
-    /// The numbers of these names in another list, 0 where they are not there.
+    /// The places of these names in another list, and 0 for a name that isn't there.
     pub fn numbers_in(&self, alloc: Global, declared: &NameList) -> Result<Seq<u32>, NoMemory>
         ensures { IfOk result (λ found. found ≡ map (number_of_name declared.now) self.now) }
     {

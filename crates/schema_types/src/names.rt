@@ -1,4 +1,4 @@
-//! The rules on names, table by table.
+//! Checks the rules on names, table by table.
 ghost use Rattle.std.specs.Prelude.{◌≡◌, ℕ, not, ◌||◌, [], ◌∷◌, ◌++◌, List, All, map, OnOk};
 ghost use Rattle.sql_tokens.specs.Words.{IsLexemeOf, name_of};
 ghost use Rattle.schema_grammar.specs.declared.tree.TableNode.{TableNode};
@@ -28,7 +28,7 @@ fn is_plain(name: &str) -> bool
 }
 
 impl Scope<'_> {
-    // A table's name.
+    // Checks a table's name, and adds it to the taken ones.
     fn check_table_name(&self, taken: &mut NameList, token: &Lexeme) -> Result<(), SchemaError>
         requires { IsNameOf (IsLexemeOf self.now.text.now) token.now }
         ensures offence { (before : List (List ℕ)) → taken.old ≡ map upper_case before
@@ -44,7 +44,7 @@ impl Scope<'_> {
         self.take_name(taken, token)
     }
 
-    // A table, with its index.
+    // Checks a table, given its index.
     #[tactic(auto, unfolding(crate::specs::Offences::table_offences, crate::specs::Index::table_index))]
     fn check_table(
         &self,
@@ -62,7 +62,7 @@ impl Scope<'_> {
         self.check_elements(&index.columns, table.elements.as_slice())
     }
 
-    /// All rules on names.
+    /// Checks all rules on names.
     #[tactic(auto, using(crate::proofs::Told::told_none), unfolding(crate::specs::Offences::offences))]
     pub fn check_names(&self) -> Result<(), SchemaError>
         requires { All (IsTableOf (IsLexemeOf self.now.text.now)) self.now.tables.now }

@@ -1,4 +1,4 @@
-//! Columns that may be null.
+//! Checks that no column may be null.
 ghost use Rattle.std.specs.Prelude.{◌≡◌, [], All, IfOk, unwrap_or};
 ghost use Rattle.std.specs.List.{list_any, flat_map};
 ghost use Rattle.sql_tokens.specs.Words.{IsLexemeOf, name_of};
@@ -73,7 +73,7 @@ impl Scope<'_> {
         }
     }
 
-    // The elements of a table with this primary key.
+    // Checks the elements of a table with this primary key.
     fn check_elements_null(
         &self,
         key: &Option<NameList>,
@@ -88,7 +88,7 @@ impl Scope<'_> {
         Ok(())
     }
 
-    // A table, with its index.
+    // Checks a table, given its index.
     #[tactic(auto, using(crate::proofs::Flat::key_is), unfolding(crate::specs::Refusals::nullable_in, crate::specs::Index::table_index))]
     fn check_table_null(&self, table: &TableNode, index: &TableIndex) -> Result<(), SchemaError>
         requires tokens { IsTableOf (IsLexemeOf self.now.text.now) table.now }
@@ -98,7 +98,7 @@ impl Scope<'_> {
         self.check_elements_null(&index.key, table.elements.as_slice())
     }
 
-    /// All columns: none may be null.
+    /// Checks all columns: no column may be null.
     #[tactic(auto, unfolding(crate::specs::Refusals::nullable_places))]
     pub fn check_nullability(&self) -> Result<(), SchemaError>
         requires { All (IsTableOf (IsLexemeOf self.now.text.now)) self.now.tables.now }

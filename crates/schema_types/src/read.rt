@@ -1,4 +1,4 @@
-//! Schema texts as a whole.
+//! Reads a schema text as a whole.
 ghost use Rattle.std.specs.Prelude.{◌≡◌, ◌≤◌, All, IfOk, IfErr, length};
 ghost use Rattle.limits.specs.Profile.{most_text};
 ghost use Rattle.sql_tokens.specs.Words.{IsLexemeOf};

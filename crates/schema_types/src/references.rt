@@ -1,4 +1,4 @@
-//! The targets of references.
+//! Finds and checks the targets of references.
 ghost use Rattle.std.specs.Prelude.{◌≡◌, IfOk, Some, option_map};
 ghost use Rattle.std.specs.Option.{option_copied};
 ghost use Rattle.sql_tokens.specs.Words.{IsLexemeOf};
@@ -31,7 +31,7 @@ impl Scope<'_> {
         }
     }
 
-    // The columns to which a reference leads, in this table: as many as it has on its own side.
+    // Checks the columns of this table to which a reference leads: they must be as many as on its own side.
     #[tactic(auto, unfolding(crate::specs::Index::table_index))]
     fn check_led(
         &self,
@@ -63,7 +63,7 @@ impl Scope<'_> {
         }
     }
 
-    /// A reference from so many columns.
+    /// Checks a reference from `count` columns.
     pub fn check_target(&self, count: usize, target: &TargetNode) -> Result<(), SchemaError>
         requires { IsTargetOf (IsLexemeOf self.now.text.now) target.now }
         ensures { Finds result (target_offences self.now.text.now self.now.tables.now count target.now) }

@@ -69,7 +69,7 @@ impl Scope<'_> {
         Ok(found)
     }
 
-    // A table, with its index.
+    // A table of the schema, given its index.
     #[tactic(auto, unfolding(crate::specs::Meaning::table_of, crate::specs::Index::table_index))]
     fn table(&self, table: &TableNode, index: &TableIndex) -> Result<Table, NoMemory>
         requires tokens { IsTableOf (IsLexemeOf self.now.text.now) table.now }

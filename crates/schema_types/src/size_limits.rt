@@ -1,4 +1,4 @@
-//! Limits on tables, columns and lengths of texts.
+//! Checks the limits on tables, columns and lengths of texts.
 ghost use Rattle.std.specs.Prelude.{◌≡◌, [], ◌∷◌, All, length};
 ghost use Rattle.std.specs.List.{flat_map};
 ghost use Rattle.limits.specs.Profile.{most_columns, most_length, most_tables};
@@ -28,7 +28,7 @@ impl Scope<'_> {
         Ok(())
     }
 
-    // A table's number of columns.
+    // Checks a table's number of columns.
     fn check_column_count(&self, found: usize) -> Result<(), SchemaError>
         ensures { FindsAbove limit.Columns result (above most_columns (found ∷ [])) }
     {
@@ -51,7 +51,7 @@ impl Scope<'_> {
         Ok(())
     }
 
-    // The length that a type gives to its texts.
+    // Checks the length that a type gives to its texts.
     fn check_length(&self, kind: &TypeNode) -> Result<(), SchemaError>
         requires { IsTypeOf (IsLexemeOf self.now.text.now) kind.now }
         ensures { FindsAbove limit.TextLength result (above most_length (type_lengths self.now.text.now kind.now)) }

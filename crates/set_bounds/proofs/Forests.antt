@@ -1,4 +1,4 @@
--- Equalities that close no cycle close none when they are gone round, and none where some are left out; then all of them are kept.
+-- If equalities close no cycle, they close no cycle when they are rotated, nor when some are left out. Then all of them are kept.
 use Rattle.std.proofs.Common.{◌≡◌, ◌≢◌, ◌⊎◌, ℕ, Bool, true, false, not, List, [], ◌∷◌, ◌++◌, take, drop, refl, ap, sym, ◌∙◌, subst, inl, inr}
 use Rattle.std.specs.Prelude.{filter}
 use Rattle.std.specs.List.{AllByRecursion, Contains}
@@ -120,7 +120,7 @@ still_apart earlier e f s t = elim (same_or_not (s.side f.left.entry) (s.side f.
     so : (x y : ℕ) → s.side x ≡ s.side y → t.side x ≡ t.side y → side x ≡ side y
     so x y one other = ap (λ v. turned (beside v (t.side f.right.entry)) (s.side x)) other ∙ ap (turned (beside (t.side y) (t.side f.right.entry))) one
 
--- the equalities before, when these have come too
+-- the earlier equalities, after these were added to them
 abbrev pub onto : List Edge → List Edge → List Edge
 onto earlier [] = earlier
 onto earlier (e ∷ es) = onto (e ∷ earlier) es

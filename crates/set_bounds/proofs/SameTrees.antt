@@ -20,7 +20,7 @@ use Rattle.set_bounds.proofs.Forests.{AreAmong, all_among, all_in, among_round, 
 
 -- ---- trees go from some equalities to others
 
--- of the entries of Q, the first equalities name the same columns as the second, and make the same classes; the second name no others
+-- for the entries of Q, es and fs name the same columns and make the same classes. fs names no column that es doesn't
 pub record Carries (Q : ℕ → Type 0) (es fs : List Edge) : Type 0 where
   pub places_to : (q : Place) → Contains (places_of fs) q → Contains (places_of es) q
   pub places_from : (q : Place) → Q q.entry → Contains (places_of es) q → Contains (places_of fs) q
@@ -92,7 +92,7 @@ in_places (f ∷ es) e k = elim (one_in f es e k) [
       (in_rest f.left (f.right ∷ places_of es) e.left (in_rest f.right (places_of es) e.left later.0), in_rest f.left (f.right ∷ places_of es) e.right (in_rest f.right (places_of es) e.right later.1)))
 ]
 
--- the columns of those equalities of which the test tells that they are there
+-- if the equalities in xs that name the column q are in ys, then ys names q too
 pub places_where : (xs ys : List Edge) (q : Place) → ((e : Edge) → Contains xs e → ((q ≡ e.left) ⊎ (q ≡ e.right)) → Contains ys e) → Contains (places_of xs) q → Contains (places_of ys) q
 places_where xs ys q there k =
     let found : EndOf xs q = end_of xs q k in

@@ -27,7 +27,7 @@ kept_fewer name (e ∷ es) = elim (cases_Bool (eqb (name e.left.entry) (name e.r
   | inr n ↦ rw n (omega (arith, kept_fewer (joined_parts name e.left.entry e.right.entry) es))
 ]
 
--- where as many are kept as there are, all are
+-- if as many are kept as there are, all are kept
 kept_step : (name : ℕ → ℕ) (e : Edge) (es : List Edge)
     → ((name : ℕ → ℕ) → length (kept_by_names name es) ≡ length es → kept_by_names name es ≡ es)
     → (t : Bool) → eqb (name e.left.entry) (name e.right.entry) ≡ t → length (kept_by_names name (e ∷ es)) ≡ suc (length es) → kept_by_names name (e ∷ es) ≡ e ∷ es

@@ -1,4 +1,4 @@
--- A set's equalities alone are what it asks of all.
+-- Of all equalities a set asks only for its own.
 use Rattle.std.proofs.Common.{◌≡◌, ℕ, ◌-◌, min, max, List, [], ◌∷◌, length, refl, ap, sym, subst, inl, inr, ◌∙◌}
 use Rattle.std.specs.Prelude.{IsSome}
 use Rattle.std.proofs.lemmas.Bool.{cases_Bool}

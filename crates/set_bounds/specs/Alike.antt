@@ -14,7 +14,7 @@ pub record AreAlike (es fs : List Edge) : Type 0 where
   pub columns : (p : Place) → Contains (places_of es) p ↔ Contains (places_of fs) p
   pub classes : (p q : Place) → (class_of es p ≡ class_of es q) ↔ (class_of fs p ≡ class_of fs q)
 
--- both columns of an equality are in one class of the others
+-- both columns of the equality e are in one class of the equalities es
 abbrev pub AreInOneClass : List Edge → Edge → Type 0
 AreInOneClass es e = class_of es e.left ≡ class_of es e.right
 

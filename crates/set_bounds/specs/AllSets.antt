@@ -14,15 +14,15 @@ first_entries n = 2 ^ n - 1
 abbrev pub bound_told : EntryBounds → List Edge → ℕ → ℕ
 bound_told b es subset = saturated (bound_of_set b es subset)
 
--- of each set whose number is below k, where what is known of the entries may depend on the set in which they are joined
+-- the bounds of all sets whose numbers are below k. What is known of the entries may depend on the set in which they are joined
 abbrev pub bounds_below : (ℕ → EntryBounds) → List Edge → ℕ → List ℕ
 bounds_below b es k = map (λ subset. bound_told (b subset) es subset) (range_with_len 0 k)
 
--- of each set of the first n entries, at the number whose bits are the set
+-- the bounds of all sets of the first n entries, each at the number whose bits are the set
 abbrev pub bounds_in_sets : (ℕ → EntryBounds) → List Edge → ℕ → List ℕ
 bounds_in_sets b es n = bounds_below b es (2 ^ n)
 
--- what is known is the same in every set
+-- what is known of the entries, if it is the same in every set
 abbrev pub in_every_set : EntryBounds → ℕ → EntryBounds
 in_every_set b subset = b
 

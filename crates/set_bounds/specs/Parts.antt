@@ -1,4 +1,4 @@
--- Sets of entries whose equalities fall apart.
+-- Sets of entries that fall into parts which no equality joins.
 use Rattle.std.specs.Prelude.{◌≡◌, ℕ, Bool, false, ◌&&◌, ◌||◌, not, if◌then◌else◌, List, [], ◌∷◌}
 use Rattle.std.specs.List.{AllByRecursion}
 use Rattle.entry_sets.specs.Sets.{IsWithin, has_entry}
@@ -17,8 +17,8 @@ pub record FallsInto (es : List Edge) (subset part rest : ℕ) : Type 0 where
   pub others : (entry : ℕ) → has_entry rest entry ≡ (has_entry subset entry && not (has_entry part entry))
   pub unjoined : AreUnjoined es subset part
 
--- what is known of the entries of a set doesn't look past the parts into which it falls: each part has the bound that it has by what is
--- known in it alone
+-- what is known of the entries of a part doesn't depend on the rest of the set: by what is known in the set, each part has the same bound as by what
+-- is known in the part alone
 abbrev pub LooksAtParts : (ℕ → EntryBounds) → List Edge → Type 0
 LooksAtParts b es = (subset part rest : ℕ) → FallsInto es subset part rest
     → (bound_told (b part) es part ≡ bound_told (b subset) es part) × (bound_told (b rest) es rest ≡ bound_told (b subset) es rest)

@@ -8,7 +8,7 @@ ghost use Rattle.set_bounds.specs.Alike.{AreAlike, AreInOneClass, AreOfTurnsBefo
 
 use berge_tree::{Classed, Edge};
 
-// Where it is true, the columns of each equality are in one class of the others.
+// True only if the columns of each equality are in one class of the other equalities.
 fn are_in_classes(others: &Classed, edges: &[Edge]) -> bool
     ensures { result ≡ true → AllByRecursion (AreInOneClass others.now) edges.now }
 {
@@ -26,7 +26,7 @@ fn are_alike(a: &Classed, b: &Classed) -> bool
     are_in_classes(a, b.edges()) && are_in_classes(b, a.edges())
 }
 
-/// Where it is true, the turn is like one of the folded ones before it. Where it is false, nothing is promised.
+/// If it is true, the turn is like an earlier one, which was folded. If it is false, nothing is promised.
 pub(crate) fn is_like_earlier(kept: &Classed, folded: &[Classed]) -> bool
     ensures { result ≡ true → (es : List Edge) → (subset turn : ℕ) → kept.now ≡ kept_of subset turn es
         → AreOfTurnsBefore es subset turn folded.now → IsLikeEarlier es subset turn }

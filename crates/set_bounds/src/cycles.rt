@@ -1,4 +1,4 @@
-//! The bound of a set whose equalities close a cycle: the least over its turns, of which those that are alike are folded once.
+//! The bound of a set whose equalities close a cycle: the least over its turns. Turns that are alike are folded once.
 ghost use Rattle.std.specs.Prelude.{◌≡◌, ◌+◌, ◌-◌, ◌<◌, IfOk};
 ghost use Rattle.join_graph.specs.Kept.{equalities_within, kept_of};
 ghost use Rattle.bound_fold.specs.Lists.{bounds_of};
@@ -27,7 +27,7 @@ fn classed_turn(
     Classed::new(alloc, edges)
 }
 
-// The least over the turns up to this one, from that over those before it. A turn that is like an earlier one is not folded.
+// The least bound over the turns up to this one, from the least over the turns before it. A turn that is like an earlier one is not folded.
 fn least_with(
     alloc: Global,
     parts: &Parts,
@@ -53,7 +53,7 @@ fn least_with(
     Ok(least.min(bound))
 }
 
-// The least over the turns. Of turns that are alike the first alone is folded.
+// The least bound over the turns. Of turns that are alike only the first is folded.
 fn least_of_turns(
     alloc: Global,
     parts: &Parts,
@@ -81,7 +81,7 @@ fn equalities_of(alloc: Global, edges: &[Edge], subset: EntrySet) -> Result<Vec<
         .collect(alloc)
 }
 
-// A set's equalities alone.
+// Parts that have only the equalities of a set.
 fn only_within(alloc: Global, parts: &Parts, subset: EntrySet) -> Result<Parts, NoMemory>
     ensures { IfOk result (λ own. own.equalities ≡ equalities_within subset parts.now.equalities) }
 {
@@ -93,8 +93,7 @@ fn only_within(alloc: Global, parts: &Parts, subset: EntrySet) -> Result<Parts, 
     })
 }
 
-/// The bound of a set, the least over its turns. These go through the set's equalities alone, since each goes through all that it
-/// is given.
+/// The bound of a set: the least over its turns. A turn goes through all equalities that it is given, so here it is given only those of the set.
 pub(crate) fn cyclic_bound(
     alloc: Global,
     parts: &Parts,

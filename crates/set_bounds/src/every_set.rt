@@ -1,5 +1,5 @@
-//! The bound of every set, one after another. Where a set's equalities close no cycle, one fold for each connected set serves: the others
-//! have the products of what was found before. Where they close one, turns that are alike are folded once.
+//! The bound of every set, one after another. If a set's equalities close no cycle, the set is folded only if it is connected. Otherwise its bound is
+//! a product of bounds that were found before. If its equalities close a cycle, turns that are alike are folded once.
 ghost use Rattle.std.specs.Prelude.{◌≡◌, ◌⊎◌, ◌-◌, ◌^◌, ◌<◌, ◌≤◌, ℕ, List, length, slice_index, IfOk};
 ghost use Rattle.std.specs.List.{AllByRecursion};
 ghost use Rattle.limits.specs.Profile.{most_entries, top_bound};
@@ -20,11 +20,12 @@ use entry_sets::EntrySet;
 use join_graph::Parts;
 use std::alloc::Global;
 
-/// The bounds of all sets of the first `count` entries, each at the number whose bits are the set, in rows; `u128::MAX` where a bound is
-/// larger, and 1 for the empty set. What is known of the entries may depend on the set in which they are joined, but not on entries that
-/// no equality connects with them there: so one fold for each connected set serves, where no cycle is closed.
+/// The bounds, in rows, of all sets of the first `count` entries, each at the number whose bits are the set. It has `u128::MAX` where a bound is
+/// larger, and 1 for the empty set. What is known of the entries may depend on the set in which they are joined, but not on entries that no equality
+/// connects with them there. So, if no cycle is closed, only connected sets are folded.
 ///
-/// A set's bound is the least over its turns of the product over its trees (SafeBound, SIGMOD 2023; Degree Sequence Bound, ICDT 2023).
+/// A set's bound is the least over its turns. In a turn it is the product of the bounds of its trees (SafeBound, SIGMOD 2023; Degree Sequence Bound,
+/// ICDT 2023).
 pub fn bounds_in_sets<K: KnownInSets>(
     alloc: Global,
     parts: &Parts,
@@ -47,8 +48,8 @@ pub fn bounds_in_sets<K: KnownInSets>(
     Ok(Seq::from_vec(bounds))
 }
 
-/// The same, where what is known is the same in every set. Where the lists dominate tables, no join of a set's tables by all its
-/// equalities has more rows.
+/// The same, if what is known is the same in every set. If the lists dominate tables, no join of a set's tables by all its equalities has more rows
+/// than the set's bound, unless this is `u128::MAX`.
 pub fn bounds_of_sets(
     alloc: Global,
     parts: &Parts,

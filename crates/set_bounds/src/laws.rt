@@ -1,4 +1,4 @@
-//! Why the bounds of all sets are quick to find, as laws. Each call does nothing.
+//! Laws that make the bounds of all sets quick to find. A function here does nothing.
 ghost use Rattle.std.specs.Prelude.{◌≡◌, ◌*◌, ℕ, List};
 ghost use Rattle.entry_sets.specs.Sets.{IsWithin};
 ghost use Rattle.berge_tree.specs.declared.edges.Edge.{Edge};
@@ -9,25 +9,25 @@ ghost use Rattle.tree_bounds.specs.TreeBounds.{EntryBounds};
 ghost use Rattle.set_bounds.specs.Alike.{AreAlike};
 ghost use Rattle.set_bounds.specs.Parts.{FallsInto};
 
-/// Where the equalities of a set close no cycle, every turn keeps all of them and has the bound of the set.
+/// If the equalities of a set close no cycle, every turn has the bound of the set: it keeps all of them.
 pub fn one_turn_serves()
     ensures { (b : EntryBounds) (es : List Edge) (subset turn : ℕ) → ClosesNoCycle (equalities_within subset es)
         → bound_of_turn b es subset turn ≡ bound_of_set b es subset }
 {}
 
-/// Where the equalities of a set close no cycle, neither do those of a set within it. So one test of the whole query serves all its sets.
+/// If the equalities of a set close no cycle, those of a set within it close no cycle either. So one test of the whole query serves all its sets.
 pub fn fewer_entries_close_no_cycle()
     ensures { (es : List Edge) (subset whole : ℕ) → IsWithin subset whole → ClosesNoCycle (equalities_within whole es)
         → ClosesNoCycle (equalities_within subset es) }
 {}
 
-/// Where the equalities of a set close no cycle and fall apart, the set has the product of the bounds of its parts.
+/// If the equalities of a set close no cycle, and the set falls into two parts, its bound is the product of their bounds.
 pub fn parts_multiply()
     ensures { (b : EntryBounds) (es : List Edge) (subset part rest : ℕ) → ClosesNoCycle (equalities_within subset es)
         → FallsInto es subset part rest → bound_of_set b es subset ≡ bound_of_set b es part * bound_of_set b es rest }
 {}
 
-/// Turns that keep equalities with the same columns and the same classes have the same trees, and so one bound.
+/// Turns that keep equalities with the same columns and the same classes have the same trees, and so the same bound.
 pub fn alike_turns_have_the_same_trees()
     ensures trees { (es : List Edge) (subset turn other : ℕ) → AreAlike (kept_of subset turn es) (kept_of subset other es)
         → trees_of (kept_of subset turn es) subset ≡ trees_of (kept_of subset other es) subset }

@@ -1,4 +1,4 @@
-//! The bound of a set, from those of the sets of smaller numbers.
+//! The bound of a set, from the bounds of the sets with smaller numbers.
 ghost use Rattle.std.specs.Prelude.{◌≡◌, IfOk, true};
 ghost use Rattle.berge_tree.specs.Equalities.{ClosesNoCycle};
 ghost use Rattle.join_graph.specs.Kept.{equalities_within};
@@ -12,7 +12,8 @@ use entry_sets::EntrySet;
 use join_graph::Parts;
 use std::alloc::Global;
 
-// The product over its parts where the set falls apart, else its own fold.
+// The bound of a set whose equalities close no cycle. If it falls into two parts, this is the product of their bounds, and otherwise the set is
+// folded.
 fn forest_bound<K: KnownInSets>(
     alloc: Global,
     parts: &Parts,
@@ -38,7 +39,7 @@ fn forest_bound<K: KnownInSets>(
     Ok(bound)
 }
 
-// Whether the equalities of a set close no cycle, as none do where those of a larger set don't.
+// Whether the equalities of a set close no cycle. That is so if those of a larger set close no cycle (`whole`).
 fn is_forest_within(
     alloc: Global,
     parts: &Parts,
@@ -54,8 +55,7 @@ fn is_forest_within(
     is_forest(alloc, parts, subset)
 }
 
-/// The bound of a set, where those of all sets of smaller numbers are known. `whole` says that the equalities of a larger set close no
-/// cycle.
+/// The bound of a set, given the bounds of all sets with smaller numbers. `whole` says that the equalities of a larger set close no cycle.
 pub(crate) fn next_bound<K: KnownInSets>(
     alloc: Global,
     parts: &Parts,

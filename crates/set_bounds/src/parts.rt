@@ -1,4 +1,4 @@
-//! Whether the equalities of a set close no cycle, and into which parts they let it fall.
+//! Whether the equalities of a set close no cycle, and into which parts the set falls.
 ghost use Rattle.std.specs.Prelude.{◌≡◌, ◌<◌, ◌&&◌, ℕ, true, not, IfOk};
 ghost use Rattle.entry_sets.specs.Sets.{has_entry};
 ghost use Rattle.berge_tree.specs.Equalities.{ClosesNoCycle};
@@ -12,10 +12,10 @@ use entry_sets::EntrySet;
 use join_graph::{Parts, count_within, joins_within, kept};
 use std::alloc::Global;
 
-// An entry joins the part in one round at least with the entry that it hangs on.
+// A round that changes the part adds at least one entry to it, and there are at most 16 entries.
 const ROUNDS: u8 = 16;
 
-/// Whether the equalities of a set close no cycle: then all of them are kept.
+/// Whether the equalities of a set close no cycle: that is so if all of them are kept.
 pub(crate) fn is_forest(alloc: Global, parts: &Parts, subset: EntrySet) -> Result<bool, NoMemory>
     ensures { IfOk result (λ forest. forest ≡ true → ClosesNoCycle (equalities_within subset parts.now.equalities)) }
 {
@@ -23,7 +23,7 @@ pub(crate) fn is_forest(alloc: Global, parts: &Parts, subset: EntrySet) -> Resul
     Ok(edges.len() == count_within(parts.equalities.as_slice(), subset))
 }
 
-// The part with the entries of an equality, one of which is in it already.
+// The part with both entries of an equality, if one of them is in it already. Otherwise it is as before.
 fn with_edge(part: EntrySet, edge: Edge) -> EntrySet
     requires { IsNamed edge }
 {
@@ -45,7 +45,7 @@ fn with_neighbours(edges: &[Edge], subset: EntrySet, part: EntrySet) -> EntrySet
     part
 }
 
-/// The least entry of a set with all that its equalities connect with it. It is tested by `falls_into` before it is used.
+/// The least entry of a set, with all entries that the set's equalities connect with it. `falls_into` tests this part before it is used.
 pub(crate) fn first_part(edges: &[Edge], subset: EntrySet) -> EntrySet {
     let bits = subset.bits();
     let mut part = EntrySet::from_bits(bits & bits.wrapping_neg());
@@ -90,7 +90,7 @@ fn some_cross(edges: &[Edge], subset: EntrySet, part: EntrySet) -> bool
     false
 }
 
-/// Whether a set falls into a part and the rest, and both have smaller numbers.
+/// True only if the set falls into the part and the rest, and both have smaller numbers.
 pub(crate) fn falls_into(edges: &[Edge], subset: EntrySet, part: EntrySet, rest: EntrySet) -> bool
     requires others { (entry : ℕ) → has_entry rest entry ≡ (has_entry subset entry && not (has_entry part entry)) }
     ensures falls { result ≡ true → FallsInto edges.now subset part rest }

@@ -7,7 +7,7 @@ use Rattle.slice_devices.specs.declared.slice_store.SliceFile.{SliceFile}
 abbrev pub files_of : List SliceFile → Files
 files_of files = map (λ file. (file.name.now, file.bytes.now)) files
 
--- A sink tells the name of its loan, and then the bytes that were written. Who hands it on learns by the name that it still has the same
--- room, so that what it took stands there.
+-- A sink tells the ghost name of its room, and then the bytes that were written. By this name the lender knows that the sink still has the same room,
+-- and so that what it took stands there.
 abbrev pub told_of : ℕ → ℕ → List ℕ → Option (List ℕ)
 told_of name used room = Some (name ∷ take used room)

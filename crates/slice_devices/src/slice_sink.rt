@@ -38,7 +38,7 @@ impl Sink for SliceSink<'_> {
 
     ghost faults = { λ s. s.faults };
 
-    /// As every sink's, and nothing is written behind what is taken.
+    /// Writes as every sink does, and changes no byte of the room behind what was taken.
     fn write(&mut self, bytes: &[u8]) -> Result<usize, Failed>
         ensures bound { IfOk result (λ n. n ≤ length bytes.now) }
         ensures progress { 0 < length bytes.now → IfOk result (λ n. 0 < n) }

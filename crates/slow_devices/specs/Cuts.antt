@@ -1,6 +1,6 @@
 -- How much of a call is handed on.
 use Rattle.std.specs.Prelude.{ℕ, max, min}
 
--- the bytes of a call that are handed on: at most so many, where 0 counts as 1
+-- how many of the `wanted` bytes of a call are handed on: at most `most`, where 0 counts as 1
 abbrev pub most_bytes : ℕ → ℕ → ℕ
 most_bytes most wanted = min (max most 1) wanted

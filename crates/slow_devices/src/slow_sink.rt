@@ -30,7 +30,7 @@ impl Sink for SlowSink {
 
     ghost faults = { λ s. s.inner.faults };
 
-    /// As every sink's, and the bytes that are handed on are taken as the inner sink takes them.
+    /// Writes as every sink does. The inner sink takes the bytes that are handed on.
     fn write(&mut self, bytes: &[u8]) -> Result<usize, Failed>
         ensures bound { IfOk result (λ n. n ≤ length bytes.now) }
         ensures progress { 0 < length bytes.now → IfOk result (λ n. 0 < n) }
@@ -39,13 +39,13 @@ impl Sink for SlowSink {
         ensures later { self.old.inner.faults ≤ self.new.inner.faults }
         ensures failed { OnErr result (Rose self.old.inner.faults self.new.inner.faults) }
 
-        // Exactly the calls fail that the inner sink lists, and those that find no room.
+        // A call fails exactly if the inner sink lists it, or if it has bytes and finds no room.
         ensures calls { self.new.inner.calls ≡ one_more self.old.inner.calls }
         ensures fail_at { self.new.inner.fail_at ≡ self.old.inner.fail_at }
         ensures fails { is_err result ≡ (is_listed self.new.inner.calls self.old.inner.fail_at
             || (nat_eq self.old.inner.room 0 && nat_lt 0 (length bytes.now))) }
 
-        // As many bytes are taken as are handed on and find room.
+        // The bytes that are taken are as many as are handed on, and at most as many as find room.
         ensures most { IfOk result (λ n. n ≡ min self.old.inner.room (most_bytes self.old.most (length bytes.now))) }
         ensures room { IfOk result (λ n. self.new.inner.room + n ≡ self.old.inner.room) }
         ensures kept_room { OnErr result (self.new.inner.room ≡ self.old.inner.room) }

@@ -33,7 +33,7 @@ impl Store for SlowStore {
 
     ghost misses = { λ s. s.inner.misses };
 
-    /// As every store's, and the bytes that are handed on are read as the inner store reads them.
+    /// Reads as every store does. The inner store reads the bytes that are handed on.
     fn read_at(&mut self, name: &str, at: u64, into: &mut [u8]) -> Result<usize, StoreError>
         requires place { at ≤ most_file }
         requires room { 0 < length into.old }
@@ -46,14 +46,14 @@ impl Store for SlowStore {
             → (self.new.inner.faults ≡ self.old.inner.faults) × (self.new.inner.misses ≡ one_more self.old.inner.misses) }
         ensures misses { (IsErrOf result StoreError.Missing → ⊥) → self.new.inner.misses ≡ self.old.inner.misses }
 
-        // A read gives as many bytes as there are, as fit and as are handed on.
+        // A read gives the least of how many bytes there are, how many fit and how many are handed on.
         ensures most { IfOk result (λ n. (bytes : List ℕ) → file_of self.old.inner.files name.now ≡ Some bytes
             → n ≡ min (length bytes - at) (most_bytes self.old.most (length into.new))) }
         ensures behind { drop (most_bytes self.old.most (length into.old)) into.new
             ≡ drop (most_bytes self.old.most (length into.old)) into.old }
         ensures same_most { self.new.most ≡ self.old.most }
 
-        // Exactly the calls fail that the inner store lists.
+        // A call fails exactly if the inner store lists it.
         ensures calls { self.new.inner.calls ≡ one_more self.old.inner.calls }
         ensures fail_at { self.new.inner.fail_at ≡ self.old.inner.fail_at }
         ensures fails { has_failed result ≡ is_listed self.new.inner.calls self.old.inner.fail_at }

@@ -1,4 +1,4 @@
--- When a database is of a query.
+-- When a database fits a query.
 use Rattle.std.specs.Prelude.{◌≡◌, ℕ, ◌<◌, ◌≤◌, Bool, List, length, map, All, Some, option_map, slice_get, slice_index, ⊤}
 use Rattle.limits.specs.Profile.{most_conjuncts, most_rows}
 use Rattle.csv_tables.specs.Cells.{AreColumns}
@@ -13,7 +13,7 @@ use Rattle.query_types.specs.declared.types.Cond.{Cond}
 use Rattle.query_types.specs.declared.types.Query.{Query}
 use Rattle.sql_meaning.specs.Tables.{cells_of, row_counts, tables_of}
 
--- cells of which each column has one for each row, and each cell of a text is the number of one in the pool
+-- each column has one cell for each row, and each cell of a text is the number of a text in the pool
 abbrev pub AreCells : List (List ℕ) → Cells → Type 0
 AreCells texts cells = AreColumns texts cells.rows cells.kinds cells.columns
 
@@ -22,28 +22,28 @@ pub record IsColumnOf (db : Database) (column : ColumnRef) : Type 0 where
   pub entry : column.from < length db.slots
   pub exists : column.column < length (cells_of db column.from).kinds
 
--- where the operand is a column, it is one of an entry's table
+-- if the operand is a column, it is a column of an entry's table
 abbrev pub HasColumn : Database → Operand → Type 0
 HasColumn db (operand.Column column) = IsColumnOf db column
 HasColumn db (operand.Int number) = ⊤
 HasColumn db (operand.Text text) = ⊤
 
--- the column is one of this kind: numbers are one kind, texts of any length the other
+-- the column exists and has this kind: numbers are one kind, texts of any length the other
 pub record IsColumnOfKind (db : Database) (column : ColumnRef) (text : Bool) : Type 0 where
   pub exists : IsColumnOf db column
   pub kind : option_map is_text (slice_get (cells_of db column.from).kinds column.column) ≡ Some text
 
--- the condition can be asked of the database: every comparison in it is over columns that exist, and of one kind
+-- the condition can be asked of the database: every comparison in it is between values of one kind, over columns that exist
 abbrev pub IsAskable : Database → Cond → Type 0
 IsAskable db cond = IsTyped (IsColumnOfKind db) cond
 
--- cells that are in order, and a table for each entry
+-- the cells of all tables are in order, and each entry's slot is the number of a table
 pub record AreTables (db : Database) : Type 0 where
   pub cells : All (AreCells db.pool) db.cells
   pub slots : All (λ slot. slot < length db.cells) db.slots
 
--- the database is of the query: it has a table for each FROM entry, one for entries of one table and none of too many
--- rows, and all columns that the query names, with the kinds that its comparisons need
+-- the query is within its limits, and the database fits it: each FROM entry has a table, entries of the same table share one, and no table has too
+-- many rows. All columns that the query names exist, with the kinds that its comparisons need
 pub record IsDatabaseOf (query : Query) (db : Database) : Type 0 where
   pub some : 0 < length query.from
   pub few : length query.from ≤ 12
@@ -57,6 +57,6 @@ pub record IsDatabaseOf (query : Query) (db : Database) : Type 0 where
   pub conjuncts : All (IsAskable db) query.conjuncts
   pub outputs : All (λ out. IsColumnOf db out.column) query.select
 
--- the table of each of these entries has a row of the entry's number
+-- for each of these entries, `rows` has the number of a row in the entry's table
 abbrev pub HaveRows : Database → List ℕ → List ℕ → Type 0
 HaveRows db rows entries = All (λ entry. slice_index rows entry < (cells_of db entry).rows) entries

@@ -34,11 +34,11 @@ not_in_one_three = Not (Or (x_is op.Eq 1 ∷ x_is op.Eq 3 ∷ []))
 abbrev pub from_three_to_one : Cond
 from_three_to_one = And (x_is op.Ge 3 ∷ x_is op.Le 1 ∷ [])
 
--- a column of an entry, each by its number
+-- a column of an entry, both given by their numbers
 abbrev pub column_at : ℕ → ℕ → Operand
 column_at from column = operand.Column (record { from = from; column = column })
 
--- a table with two columns of numbers from 0 on and three rows
+-- a table with three rows, and two columns of numbers that aren't negative
 abbrev pub three_rows : List ℕ → List ℕ → Cells
 three_rows first second = record { kinds = kind.Int ∷ kind.Int ∷ []; columns = first ∷ second ∷ []; rows = 3 }
 
