@@ -27,7 +27,7 @@ use Rattle.appended_stats.specs.Grown.{grown_pair}
 use Rattle.appended_stats.proofs.PairKept.{nodes_all}
 use Rattle.appended_stats.proofs.Stands.{count_is, grown_stands, tells_before}
 
--- what stands for rows stands for them, whichever entry has them
+-- a pair that stands for rows as the only entry's rows stands for them as the rows of any entry, and the other way round
 pair_moved : (pair : Pair) (tables : Tables) (entry : ℕ) (key : ℕ → ℕ) → PairStandsFor pair (alone (tables entry)) 0 key → PairStandsFor pair tables entry key
 pair_moved pair tables entry key stands = record { rows = stands.rows; whole = stands.whole; value = stands.value; node = stands.node }
 
@@ -87,7 +87,7 @@ module _ (file : StatsFile) (table : ℕ) (new : List Row) where
   its_table : (section : TableStats) → (one section).table ≡ section.table
   its_table section = elim (cases_Bool (section.table == table)) [ inl e ↦ rw e refl | inr e ↦ rw e refl ]
 
-  -- the section of a table is what the old section of it has become
+  -- if a section of a table is found after the append, it is what the section that was found before has become
   found_before : (sections : List TableStats) (t : ℕ) (section : TableStats) → find (λ (s : TableStats). s.table == t) (map one sections) ≡ Some section
       → (old : TableStats) × (find (λ (s : TableStats). s.table == t) sections ≡ Some old) × (section ≡ one old)
   found_before [] t section none = absurd (cc none)

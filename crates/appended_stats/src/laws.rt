@@ -1,4 +1,4 @@
-//! What a file after an append stands for: no law computes anything, and the contract is the law.
+//! For which rows a file of statistics stands after an append. These functions compute nothing: the contract of each one is a law.
 ghost use Rattle.std.specs.Prelude.{◌≡◌, ◌≢◌, ◌++◌, ◌<◌, ◌≤◌, ℕ, List, [], Some};
 ghost use Rattle.csv_tables.specs.Rows.{Row};
 ghost use Rattle.query_types.specs.declared.types.Query.{Query};
@@ -29,7 +29,8 @@ pub fn files_still_stand()
         → StandsFor query (file_after file table rows) after }
 {}
 
-/// The rest list of a column is `list_of_any` for its values that aren't frequent. New rows add to it a list that is made in the same way.
+/// The rest list of a column is `list_of_any` for the column's values that aren't frequent. An append adds a list to the rest list, and this list is
+/// `list_of_any` too: for the values of the new rows that aren't frequent.
 pub fn the_rest_list_is_one_of_them()
     ensures { (accuracy : ℕ) (rows : List (ℕ × ℕ)) → rest accuracy rows ≡ list_of_any accuracy rows (remaining (filter_values rows)) }
 {}

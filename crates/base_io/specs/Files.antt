@@ -1,4 +1,4 @@
--- The files of a store, if it tells them, and what reading one of them answers.
+-- The files of a store, if it tells them, and what reading a file answers.
 use Rattle.std.specs.Prelude.{ℕ, ◌≡◌, ◌+◌, ◌<◌, ◌≤◌, ◌∷◌, [], List, length, take, drop, Option, None, Some, Result, Ok, Err, if◌then◌else◌, ⊤}
 use Rattle.std.specs.Str.{bytes_eq}
 use Rattle.base_io.specs.declared.errors.StoreError.{StoreError}
@@ -47,7 +47,7 @@ IsAbsent Nothing = ⊥
 IsAbsent Absent = ⊤
 IsAbsent (Present bytes) = ⊥
 
--- what a read at a place answers, and what it leaves in the buffer
+-- what a read at a place answers, and what the read leaves in the buffer
 abbrev pub ReadsAt : FileAnswer → ℕ → Result ℕ StoreError → List ℕ → Type 0
 ReadsAt file place (Ok count) into = (count ≤ length into) × MayHaveRead file place count into
 ReadsAt file place (Err store.Missing) into = IsAbsent file
