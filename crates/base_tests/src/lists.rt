@@ -72,9 +72,9 @@ fn of_runs(alloc: Global, runs: &[(u64, u64)]) -> Result<Pieces, NoMemory> {
 // Ten billion rows: 6,000 keys have 1,000,000 rows each, 5,000 keys have 600,001 each, and 999,995 keys have 1,000 each.
 const MANY_ROWS: [(u64, u64); 3] = [(1_000_000, 6_000), (600_001, 5_000), (1_000, 999_995)];
 
-// These rows compressed at accuracy 1. The second degree is more than half of the first, so its 3,000,005,000 rows are counted at the first
-// degree. With 995,000 rows of the third they are 3,001 more keys of 1,000,000 rows. Of the third degree 999,000,000 rows are left, which
-// are 999,000 keys of 1,000 rows.
+// `MANY_ROWS` compressed at accuracy 1. The second degree is more than half of the first, so the 3,000,005,000 rows of the second degree are counted
+// at the first degree. With 995,000 rows of the third degree they make 3,001 more keys of 1,000,000 rows. Of the third degree 999,000,000 rows are
+// left, which are 999,000 keys of 1,000 rows.
 fn many_compressed(alloc: Global) -> Result<Pieces, NoMemory> {
     let list = of_runs(alloc, &MANY_ROWS)?;
     if list.total() != 10_000_000_000 {
