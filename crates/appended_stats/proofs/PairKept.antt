@@ -1,4 +1,4 @@
--- A grown pair keeps the rules of files, and agrees with the other pairs of its section as before.
+-- A grown pair, which is a pair after the append, keeps the rules of files, and agrees with the other pairs of its section as before.
 use Rattle.std.proofs.Common.{◌≡◌, ◌≢◌, ℕ, zero, suc, ◌+◌, ◌*◌, ◌/◌, ◌<◌, ◌≤◌, Bool, eqb, not, List, [], ◌∷◌, drop, length, map, get_or, sum, refl, ap, sym, ◌∙◌, subst, arith}
 use Rattle.std.specs.Prelude.{slice_index_or}
 use Rattle.std.specs.List.{All, AllByRecursion, AllPairs, count_by, filter, flat_map, list_any, range_with_len, zip}

@@ -1,4 +1,4 @@
--- The pair that the code makes from cells is the grown pair.
+-- The pair that the code makes from cells is `grown_pair`, the pair after the append.
 use Rattle.std.proofs.Common.{◌≡◌, ℕ, ◌+◌, ◌*◌, ◌/◌, ◌<◌, ◌≤◌, ◌^◌, Bool, List, [], ◌∷◌, length, map, get_or, sum, Some, slice_get, refl, ap, sym, ◌∙◌, subst, arith, inl, inr}
 use Rattle.std.specs.List.{All, flat_map, range_with_len, zip}
 use Rattle.std.proofs.Math.Path.{fun_ext}

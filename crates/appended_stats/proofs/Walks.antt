@@ -1,4 +1,4 @@
--- Walks along rows and along lists that are changed in place.
+-- Loops along rows, and loops that change the items of a list in place.
 use Rattle.std.proofs.Common.{◌≡◌, ℕ, zero, suc, ◌+◌, ◌<◌, ◌≤◌, Bool, true, false, cond, List, [], ◌∷◌, ◌++◌, drop, length, length-take, map, get_or, set, take, Some, slice_get, refl, ap, sym, ◌∙◌, subst, arith, inl, inr}
 use Rattle.std.specs.List.{All, filter, zip}
 use Rattle.std.proofs.lemmas.Bool.{cases_Bool}
@@ -74,7 +74,7 @@ keys_few p column joined keys n few are =
       few,
     )
 
--- ---- lists side by side
+-- ---- two lists of lists, added place by place
 
 pub one_sum_more : (lists others before new : List (List ℕ)) (i : ℕ) (list other added : List ℕ) → i < length lists → length others ≡ length lists
     → before ≡ rank_sums (take i lists) (take i others) → list ≡ get_or lists i list → other ≡ get_or others i other → added ≡ rank_sum list other → new ≡ before ++ added ∷ []

@@ -22,7 +22,7 @@ pub fn sections_still_stand()
         → SectionStandsFor (section_after accuracy rows section) after entry }
 {}
 
-/// If a file stands for the tables of a query, the file after the append stands for them with the new rows after those of the one table.
+/// If a file stands for the tables of a query, the file after the append stands for the tables of which one has the new rows after its old rows.
 pub fn files_still_stand()
     ensures { (schema : Schema) (query : Query) (file : StatsFile) (tables after : Tables) (table : ℕ) (rows : List Row)
         → KeepsRules schema file → StandsFor query file tables → HasNewRows query table rows tables after

@@ -17,7 +17,7 @@ use schema_types::Kind;
 use stats_file::Datum;
 use std::alloc::Global;
 
-/// Adds two lists rank by rank. Each has fewer than 2^64 rows.
+/// Adds two lists rank by rank. Each list sums to less than 2^64.
 pub(crate) fn added(list: &Pieces, other: &Pieces) -> Result<Pieces, NoMemory>
     requires list { sum list.now < 2 ^ 64 }
     requires other { sum other.now < 2 ^ 64 }

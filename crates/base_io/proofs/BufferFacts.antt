@@ -6,8 +6,8 @@ use Rattle.std.proofs.lemmas.List.{take_more}
 use Rattle.base_io.specs.Sinks.{appended, GrewByPrefix, TookBut}
 use Rattle.base_io.proofs.SinkFacts.{appended-appended}
 
--- if the sink took a text but for the last bytes, and then took these bytes and more but for the last, it took all texts together but for the last
--- bytes
+-- a sink takes a text except for some last bytes. Then it takes these bytes and more bytes, again except for some last bytes. Together it has taken
+-- the text and the further bytes, except for the last ones
 pub took_next : (old mid new : Option (List ℕ)) (first second text more : List ℕ)
     → TookBut old mid first text → TookBut mid new second (first ++ more) → TookBut old new second (text ++ more)
 took_next old mid new first second text more h k = record {
@@ -17,7 +17,8 @@ took_next old mid new first second text more h k = record {
   grew = k.grew ∙ ap (λ t. appended t k.front) h.grew ∙ appended-appended old h.front k.front;
 }
 
--- if the sink took a text but for the last bytes, and then a prefix of these bytes and more, it took a prefix of all texts together
+-- a sink takes a text except for some last bytes, and then a prefix of these bytes and of more bytes. Together it has taken a prefix of the text and
+-- the further bytes
 pub cut_next : (old mid new : Option (List ℕ)) (first text more : List ℕ)
     → TookBut old mid first text → GrewByPrefix mid new (first ++ more) → GrewByPrefix old new (text ++ more)
 cut_next old mid new first text more h k = record {

@@ -5,7 +5,7 @@ use Rattle.std.proofs.lemmas.List.{take-take, take-append-le}
 use Rattle.std.proofs.Math.Seq.{take-add, take-append-add}
 use Rattle.base_io.specs.Files.{Files, told, ReadsAt, FileAnswer, Nothing, Absent, Present, MayHaveRead, IsFront}
 
--- a block is read into a longer buffer, after the items there. If the buffer is cut after the first n bytes of the block, it has the items and these
+-- a buffer has some items, and a block is read in after them. If the buffer is cut after the first n bytes of the block, it has the items and these n
 -- bytes
 pub block_kept : (items grown into after rest : List ℕ) (at n len : ℕ) → at ≡ length items → take at grown ≡ items → n ≤ length into → at + n ≤ len
     → take (at + n) (take len ((take at grown ++ (into ++ after)) ++ rest)) ≡ items ++ take n into

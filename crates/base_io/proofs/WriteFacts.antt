@@ -32,11 +32,11 @@ rose_earlier f0 f1 f2 r le = where_err r (Rose f1 f2) (Rose f0 f2) (later_then_r
 
 -- ---- straight to the sink
 
--- a step that failed, whose result is given as another failure
+-- the promise (`Wrote`) doesn't depend on which `Failed` value a failed step gives
 pub wrote_failed : {g : Growth} {a : List ℕ} {x y : Failed} {r : Written} → r ≡ Err y → Wrote g a (Err x) → Wrote g a r
 wrote_failed {g} {a} {x} {y} {r} e h = subst (λ (v : Written). Wrote g a v) (sym e) (record { ok = tt; prefix = h.prefix; later = h.later; failed = h.failed })
 
--- the promise for a text is the promise for an equal text
+-- the promise (`Wrote`) for a text is also the promise for an equal text
 pub wrote_as : {g : Growth} {a : List ℕ} {r : Written} (b : List ℕ) → a ≡ b → Wrote g a r → Wrote g b r
 wrote_as {g} {a} {r} b e h = subst (λ (x : List ℕ). Wrote g x r) e h
 
@@ -71,11 +71,11 @@ put_none t f w = record {
   failed = tt;
 }
 
--- the promise for a text is the promise for an equal text
+-- the promise (`Put`) for a text is also the promise for an equal text
 pub put_as : {g : Growth} {w w' a : List ℕ} {r : Written} (b : List ℕ) → a ≡ b → Put g w w' a r → Put g w w' b r
 put_as {g} {w} {w'} {a} {r} b e h = subst (λ (x : List ℕ). Put g w w' x r) e h
 
--- a step that failed, whose result is given as another failure
+-- the promise (`Put`) doesn't depend on which `Failed` value a failed step gives
 pub put_err : {g : Growth} {w w' a : List ℕ} {x y : Failed} {r : Written} → r ≡ Err y → Put g w w' a (Err x) → Put g w w' a r
 put_err {g} {w} {w'} {a} {x} {y} {r} e h = subst (λ (v : Written). Put g w w' a v) (sym e) (record { ok = tt; prefix = h.prefix; later = h.later; failed = h.failed })
 

@@ -35,7 +35,7 @@ pub record Fills (bytes : List ℕ) (place count : ℕ) (into : List ℕ) : Type
   pub within : 0 < count → place + count ≤ length bytes
   pub end : count ≡ 0 → length bytes ≤ place
 
--- a read may have answered Ok with this many bytes; for an absent file it never answers Ok, not even with 0 bytes
+-- a read may have answered Ok with this many bytes; a read of an absent file never answers Ok, not even with 0 bytes
 abbrev pub MayHaveRead : FileAnswer → ℕ → ℕ → List ℕ → Type 0
 MayHaveRead Nothing place count into = ⊤
 MayHaveRead Absent place count into = ⊥

@@ -4,7 +4,7 @@ ghost use Rattle.base_io.specs.Causes.{Rose, one_more};
 ghost use Rattle.base_io.specs.Files.{Absent, Nothing, Present, told};
 ghost use Rattle.base_io.specs.Sinks.{appended};
 
-/// Theorems by computation. It does nothing.
+/// Theorems by computation. The function does nothing.
 pub fn examples()
     // If two files have one name, the first file counts.
     ensures first { told (Some ((82 ∷ [], 1 ∷ []) ∷ (82 ∷ [], 2 ∷ []) ∷ [])) (82 ∷ []) ≡ Present (1 ∷ []) }

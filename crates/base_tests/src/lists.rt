@@ -33,12 +33,12 @@ fn sets_gain_and_lose_entries(rt: HostRuntime) {
     }
 }
 
-// The degrees of three different keys, which stand five times, three times and once.
+// The degrees of three different keys, which occur five times, three times and once.
 fn degrees(alloc: Global) -> Result<Seq<u64>, NoMemory> {
     falling(alloc, &[8, 8, 8, 8, 8, 2, 2, 2, 5])
 }
 
-// These degrees compressed at accuracy 1: the elements 5 and 4, each a piece.
+// The degrees 5, 3 and 1 compressed at accuracy 1: the elements 5 and 4, each a piece.
 fn compressed(alloc: Global) -> Result<Pieces, NoMemory> {
     compress(alloc, &[5, 3, 1], Accuracy::of(1))
 }
@@ -52,8 +52,8 @@ fn counts_fall(rt: HostRuntime) -> Result<(), Fail> {
     Ok(())
 }
 
-// The list with these runs, each a degree and its number of keys. It answers NoMemory, which fails the test, where a degree is above the
-// one before it, a degree or a number is 0, or the numbers sum to more than 64 bits hold.
+// The list with these runs, each a degree and its number of keys. The result is `NoMemory`, which fails the test, if a degree is above the degree
+// before it, if a degree or a number is 0, or if the numbers don't sum to less than 2^64.
 fn of_runs(alloc: Global, runs: &[(u64, u64)]) -> Result<Pieces, NoMemory> {
     let mut list = Pieces::empty(alloc);
     let mut last = u64::MAX;

@@ -106,7 +106,8 @@ few_keys rows times key own some =
 
 -- ---- a level
 
--- if each row that may follow a choice passes `q`, at most as many choices with one row more pass `p` as rows of the list pass `q`
+-- suppose that a row passes `q` if the choice with this row after it passes `p`. Then at most as many such choices pass `p` as rows of the list pass
+-- `q`
 few_below : (p : List ℕ → Bool) (q : ℕ → Bool) (Q : ℕ → Type 0) (choice : List ℕ) → ((row : ℕ) → Q row → p (choice ++ row ∷ []) ≡ true → q row ≡ true) → (list : List ℕ) → AllByRecursion Q list
     → length (filter p (map (λ row. choice ++ row ∷ []) list)) ≤ length (filter q list)
 few_below p q Q choice only [] all = omega arith

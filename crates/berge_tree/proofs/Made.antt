@@ -1,4 +1,4 @@
--- The walk makes a tree that follows the equalities.
+-- The walk makes a tree that follows the equalities: below an entry stand its other classes, and below a class its other entries.
 use Rattle.std.proofs.Common.{◌≡◌, ◌≢◌, ℕ, Bool, true, false, not, eqb, List, [], ◌∷◌, ◌+◌, ◌<◌, ◌≤◌, zero, suc, length, map, arith, refl, ap, sym, ◌∙◌, subst, inl, inr, Option, Some, None}
 use Rattle.std.specs.Prelude.{filter}
 use Rattle.std.specs.List.{Contains, AllByRecursion, IsDistinct, list_any}

@@ -49,7 +49,7 @@ flip-not : (d b : Bool) → not (flip d b) ≡ flip d (not b)
 flip-not true b = refl
 flip-not false b = refl
 
--- after some equalities were read, `g` names the part of each entry and `h` the class of each column. This is true of them
+-- what is true of parts and classes after some equalities were read: `g` names the part of each entry, and `h` the class of each column
 record Sound (g : ℕ → ℕ) (h : Place → Place) : Type 0 where
   part : (p q : Place) → h p ≡ h q → g p.entry ≡ g q.entry
   one : (p q : Place) → h p ≡ h q → p.entry ≡ q.entry → p ≡ q

@@ -57,7 +57,7 @@ AreInOneClass es p q =
 
 -- ---- no cycle of entries and classes
 
--- the side of column q: that of its entry, but for the column p the other side
+-- the side of column q: the side of its entry, but the other side for the column p itself
 abbrev pub side_seen : (ℕ → Bool) → Place → Place → Bool
 side_seen side p q = if same_place q p then not (side q.entry) else side q.entry
 

@@ -67,7 +67,7 @@ is_at entry above c = (c.place.entry == entry) && not (is_above above c.place.co
 abbrev pub is_other : Column → Column → Bool
 is_other above c = same_place above.class c.class && not (same_place above.place c.place)
 
--- one more member, before the others if there are any
+-- one more member is put before the other members, if there are any
 abbrev pub joined_members : ℕ → ℕ → Classes → Option Members → Option Members
 joined_members entry column below None = Some (one_member entry column below)
 joined_members entry column below (Some rest) = Some (and_member entry column below rest)
@@ -84,7 +84,7 @@ abbrev pub classes_with : (Column → Option Members) → List Column → Classe
 classes_with members [] = no_class
 classes_with members (c ∷ cs) = joined_classes c.place.column (members c) (classes_with members cs)
 
--- the classes below an entry, to a depth
+-- the classes below an entry, down to a depth
 abbrev pub walked : ℕ → List Column → ℕ → Option ℕ → Classes
 walked zero columns entry above = no_class
 walked (suc depth) columns entry above =

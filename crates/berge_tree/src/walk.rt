@@ -17,7 +17,7 @@ use std::alloc::Global;
 // An entry stands once in a tree, and there are at most sixteen entries, so no tree is deeper.
 const DEPTH: u8 = 16;
 
-// Whether this is a column of the entry, but not its column in the class above.
+// Whether the column is a column of the entry, but not the entry's column in the class above.
 fn is_at(column: Column, entry: u8, above: Option<u32>) -> bool
     ensures { result ≡ is_at entry above column }
 {

@@ -15,7 +15,7 @@ use Rattle.bushy_plan.specs.BestTree.{all_of, cost, inner_greatest}
 use Rattle.bushy_plan.specs.PlanTrees.{IsFirstEntry, IsSplit, IsTreeOver, PlanTree, leaf, node, leaf_set}
 use Rattle.bushy_plan.proofs.Splitting.{first_of_power, one_first, some_entries, tree_set}
 
--- the bits of a set and another entry
+-- if an entry isn't in a set, the set with this entry has the bits of both
 pub bit_with : (set x entry : ℕ) → bit_at set x ≡ 0 → bit_at (set + 2 ^ x) entry ≡ bit_at set entry + bit_at (2 ^ x) entry
 bit_with set x entry out =
     let none : bit_and set (2 ^ x) ≡ 0 = omega (arith, and_pow set x, ap (λ k. k * 2 ^ x) out) in

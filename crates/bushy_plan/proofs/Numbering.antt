@@ -201,7 +201,7 @@ named_once bounds n k tree is_tree below =
       | inr is_inner ↦ omega (arith, all, other, bit_at_ones_above n k is_inner, inside_yes n (inner_count tree) k is_inner (omega arith))
     ]
 
--- ---- bounds
+-- ---- the bounds of joins
 
 all-append : (P : Join → Type 0) (xs ys : List Join) → AllByRecursion P xs → AllByRecursion P ys → AllByRecursion P (xs ++ ys)
 all-append P [] ys p q = q

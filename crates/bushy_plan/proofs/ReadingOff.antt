@@ -112,7 +112,7 @@ pub looked_within : (w : Weight) (bounds table : List ℕ) (set behind right : �
 looked_within w bounds table set behind right b looked =
     omega (arith, part_le right behind looked.is_part, b.others, power_within b.first set b.is_first.is_in, pow_pos b.first)
 
--- ---- the tree
+-- ---- the first lightest tree
 
 pub first_of_one : (w : Weight) (bounds : List ℕ) (set first : ℕ) → IsFirstEntry set first → set - 2 ^ first ≡ 0 → IsFirstLightest w bounds set (leaf first)
 first_of_one w bounds set first is_first none = record {

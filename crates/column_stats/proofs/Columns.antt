@@ -1,4 +1,4 @@
--- A pair of columns as it is read.
+-- The columns of a pair, as the code reads them.
 use Rattle.std.proofs.Common.{◌≡◌, ℕ, List, [], length, Some, refl, ap, sym, ◌∙◌, subst, arith}
 use Rattle.std.specs.Prelude.{slice_get}
 use Rattle.std.specs.List.{All, zip}

@@ -71,7 +71,7 @@ impl ColumnStats {
         self.nodes.get(usize::from(place))
     }
 
-    /// The leaf of a number: the last leaf whose cut is at most the number, or 0 if there is no such cut. In a column of texts there is none.
+    /// The leaf of a number: the last leaf whose cut is at most the number, or 0 if there is no such cut. In a column of texts there is no such cut.
     pub fn leaf_int(&self, value: i64) -> u8
         requires { IsValid self.now }
         ensures leaf { (texts : List (List ℕ)) → result ≡ leaf_by_cuts texts self.now (Int value) }

@@ -115,7 +115,7 @@ module _ {at_most : ℕ → ℕ → Bool} {column numbers places : List ℕ} (or
   start_within : (run : Group) → IsRun numbers places run → run.start < length places
   start_within run is = omega (arith, is.some, is.ends, lengths)
 
-  -- a run is the window of its value
+  -- a run is the window of its value: the stretch of places that have this value
   pub window_of_run : (run : Group) → IsRun numbers places run → IsWindow column places (λ v. eqb v (value_of_group column run)) run.start run.count
   window_of_run run is = record {
     ends = omega (arith, is.ends, lengths);

@@ -63,7 +63,7 @@ length-keys_where p (row ∷ rows) = elim (cases_Bool (p row.0)) [
       omega (arith, none, ap length here, length-keys_where p rows, sum_by-cons (λ v. cond (p v) 1 0) row.0 (filter_values rows)))
 ]
 
--- if each value that passes p passes q, the rows that pass q have at least as many of the keys as the rows that pass p
+-- if each value that passes p passes q, at most as many keys pass A among the rows that pass p as among the rows that pass q
 pub count_by-weaker : (A : ℕ → Bool) (p q : ℕ → Bool) → ((v : ℕ) → p v ≡ true → q v ≡ true) → (rows : List (ℕ × ℕ)) → count_by A (keys_where p rows) ≤ count_by A (keys_where q rows)
 count_by-weaker A p q weaker [] = omega arith
 count_by-weaker A p q weaker (row ∷ rows) =

@@ -93,7 +93,7 @@ module _ {at_most : ℕ → ℕ → Bool} {column places : List ℕ} {groups : L
   pub any_front : (cell : ℕ) → list_any (λ v. eqb v cell) (map (value_of_group column) (take (min (length groups) 32) groups)) ≡ is_frequent (zip column joined) cell
   any_front cell = ap (list_any (λ v. eqb v cell)) (front_values ∙ ap frequent (sym (filter_values-zip column joined same)))
 
-  -- the slice of `count` places from `from` on. Then: the slice of a group has the degree list of the group's value
+  -- a slice of places is taken after the places before it are dropped. With this, the slice of a group has the degree list of the group's value
   slice_is : (from count : ℕ) → slice_range places from (from + count) ≡ take count (drop from places)
   slice_is from count = (let is : (from + count) - from ≡ count = omega arith in ap (λ m. take m (drop from places)) is)
 
@@ -138,7 +138,7 @@ module _ {at_most : ℕ → ℕ → Bool} {column places : List ℕ} {groups : L
       ∙ ap (λ ns. compressed k (cut_at (maxima (map (λ v. degree_list (keys_with v (zip column joined))) (remaining column))) (greatest ns))) (counts_of_groups back windows ∙ ap (map (degree column)) values)
       ∙ ap (λ c. compressed k (cut_at (maxima (map (λ v. degree_list (keys_with v (zip column joined))) (remaining c))) (greatest (map (degree c) (remaining c))))) (sym (filter_values-zip column joined same))
 
-  -- ---- nodes
+  -- ---- the lists of nodes
 
   abbrev leaf_at : ℕ → ℕ
   leaf_at k = leaf_of at_most column (get_or column (get_or places k 0) 0)

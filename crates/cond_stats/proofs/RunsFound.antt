@@ -11,7 +11,6 @@ use Rattle.degree_lists.proofs.RunLengths.{take-run, degree-above}
 use Rattle.cond_stats.specs.declared.groups.Group.{Group}
 use Rattle.cond_stats.specs.Runs.{IsRun, AreRunsOfNumbers, ends_run}
 
--- the number of a run
 abbrev pub number_of_run : List ℕ → Group → ℕ
 number_of_run numbers run = get_or numbers run.start 0
 

@@ -1,4 +1,5 @@
--- The keys at the places of a window have the degrees of the keys of the rows whose value passes.
+-- A window is a stretch of places: those whose value passes a test. The keys at its places have the degrees of the keys of the rows whose value
+-- passes.
 use Rattle.std.proofs.Common.{◌≡◌, ℕ, zero, suc, ◌+◌, ◌<◌, ◌≤◌, Bool, true, false, cond, ◌&&◌, eqb, List, [], ◌∷◌, map, length, length-take, length-drop, take, drop, get_or, refl, ap, sym, ◌∙◌, arith, inl, inr}
 use Rattle.std.specs.List.{sum_by, count_by, range_with_len, zip}
 use Rattle.std.specs.List.Sorted.{IsPermutation}

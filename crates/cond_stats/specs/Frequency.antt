@@ -17,7 +17,6 @@ comes_before column a b =
 abbrev pub by_frequency : List ℕ → List ℕ
 by_frequency column = in_order (comes_before column) (different column)
 
--- the frequent values
 abbrev pub frequent : List ℕ → List ℕ
 frequent column = take 32 (by_frequency column)
 
