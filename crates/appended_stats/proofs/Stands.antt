@@ -198,8 +198,8 @@ module _ (tables after : Tables) (entry : ℕ) (new : List Row) (are : after ent
         ap (λ (v : Value). is_equal v (value_in_row after entry joined (n + other))) (new_value joined row) ∙ ap (is_equal (value_in_row (alone new) 0 joined row)) (new_value joined other) in
         ((λ e. sym same ∙ both.0 e), (λ e. both.1 (same ∙ e)))
 
-    -- if `s` dominates the keys of the old rows whose value passes `test`, and `t` the keys of the new rows whose value passes `test`, the rank-wise
-    -- sum of `s` and `t` dominates the keys of all rows whose value passes `test`
+    -- let `s` dominate the keys of the old rows whose value passes `test`, and `t` the keys of the new rows whose value passes. Then the rank-wise
+    -- sum of `s` and `t` dominates the keys of all rows whose value passes
     both_dominated : (column : ℕ) (test : Value → Bool) (s t : List ℕ)
         → DominatesKeys s (map key (filter (λ row. test (value_in_row tables entry column row)) (range_with_len 0 n)))
         → DominatesKeys t (map new_key (filter (λ row. test (value_in_row (alone new) 0 column row)) (range_with_len 0 m)))

@@ -23,8 +23,8 @@ front_of all items into n le first more =
     ap (λ x. x ++ take n into) first ∙ ap (λ x. take (length items) all ++ x) more
     ∙ sym (take-add (length items) n all) ∙ ap (λ k. take k all) (sym long)
 
--- if `items` are the first bytes of a file, and a read at their end gave n bytes, the items with these bytes after them are the first bytes of the
--- file
+-- let `items` be the first bytes of a file, and let a read at their end give n bytes. Then the items with these bytes after them are the first bytes
+-- of the file
 pub front_more : (file : FileAnswer) (items into : List ℕ) (n : ℕ) → n ≤ length into → IsFront file items → MayHaveRead file (length items) n into → IsFront file (items ++ take n into)
 front_more Nothing items into n le front gives = tt
 front_more Absent items into n le front gives = absurd gives

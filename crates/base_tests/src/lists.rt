@@ -52,8 +52,8 @@ fn counts_fall(rt: HostRuntime) -> Result<(), Fail> {
     Ok(())
 }
 
-// The list with these runs, each a degree and its number of keys. The result is `NoMemory`, which fails the test, if a degree is above the degree
-// before it, if a degree or a number is 0, or if the numbers don't sum to less than 2^64.
+// The list with these runs, each a degree and its number of keys. No degree is above the degree before it, no degree and no number is 0, and the
+// numbers sum to less than 2^64. Otherwise the result is `NoMemory`, which fails the test.
 fn of_runs(alloc: Global, runs: &[(u64, u64)]) -> Result<Pieces, NoMemory> {
     let mut list = Pieces::empty(alloc);
     let mut last = u64::MAX;

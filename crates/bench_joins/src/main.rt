@@ -150,8 +150,7 @@ fn least_of(
     Ok(least)
 }
 
-// A name, the numbers of rows of the left and the right table, how often the right table has each key, and the operator that compares values, if
-// there is one.
+// A name, the numbers of rows of the left and the right table, how often the right table has each key, and the operator that compares values, if any.
 #[derive(Clone, Copy)]
 struct Case<'a>(&'a str, u32, u32, u32, Option<Op>);
 

@@ -20,8 +20,8 @@ pub fn no_cycle_of_classes()
     ensures { (es : List Edge) → ClosesNoCycle es → HasNoCycle (class_of es) }
 {}
 
-/// Two entries are apart, that is, no equalities connect them, if names can be given to entries so that each equality joins entries of one name, and
-/// the two entries have different names.
+/// Two entries are apart, that is, no equalities connect them, if entries can be named like this: each equality joins entries of one name, and the
+/// two entries have different names.
 pub fn names_keep_entries_apart()
     ensures { (es : List Edge) (a b : ℕ) (name : ℕ → ℕ)
         → AllByRecursion (λ e. name e.left.entry ≡ name e.right.entry) es

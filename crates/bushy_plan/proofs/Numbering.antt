@@ -1,5 +1,5 @@
--- The joins of a tree over all entries make a plan. There is one join fewer than entries, each join has a higher number than the two nodes that it
--- joins, and together they name each node but the root exactly once.
+-- The joins of a tree over all entries make a plan. There is one join fewer than entries, and each join has a higher number than the two nodes that
+-- it joins. Together the joins name each node but the root exactly once.
 use Rattle.std.proofs.Common.{◌≡◌, ℕ, zero, suc, ◌+◌, ◌*◌, ◌-◌, ◌^◌, ◌<◌, ◌≤◌, eqb, leb, ltb, cond, List, [], ◌∷◌, ◌++◌, length, get_or, refl, ap, sym, ◌∙◌, subst, arith, inl, inr}
 use Rattle.std.specs.Int.{bit_at}
 use Rattle.std.specs.List.{AllByRecursion, count_by}

@@ -202,8 +202,8 @@ first_of_sides most bounds table set end right_set left right h is_table is_ligh
     sums : Light most bounds table set right_set
     sums = light_sides most bounds table set right_set split.lightest is_light
 
-    -- if a tree weighs what the table says and has the same left set, its sides are trees over the same two sets, and they weigh as much as `left`
-    -- and `right`
+    -- let a tree weigh what the table says and have the same left set. Then its sides are trees over the same two sets, and they weigh as much as
+    -- `left` and `right`
     sides_weigh : (left' right' : PlanTree) → IsTreeOver set (node left' right') → weight_of (weight.SumWithin most) bounds (node left' right') ≡ get_or table set 0 → leaf_set left' ≡ set - right_set
         → IsTreeOver (set - right_set) left' × IsTreeOver right_set right'
         × (weight_of (weight.SumWithin most) bounds left' ≡ weight_of (weight.SumWithin most) bounds left) × (weight_of (weight.SumWithin most) bounds right' ≡ weight_of (weight.SumWithin most) bounds right)
