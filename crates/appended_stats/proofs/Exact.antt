@@ -1,4 +1,4 @@
--- The file that is made of cells is that of their rows.
+-- The file that is made from the cells of new rows is the file that is made from these rows' values.
 use Rattle.std.proofs.Common.{◌≡◌, ℕ, ◌+◌, ◌<◌, ◌==◌, Bool, true, false, cond, List, [], ◌∷◌, length, map, get_or, refl, ap, sym, ◌∙◌, arith, inl, inr}
 use Rattle.std.specs.List.{All, AllByRecursion, zip}
 use Rattle.std.proofs.lemmas.Bool.{cases_Bool, eqb-true}
@@ -54,7 +54,7 @@ module _ (texts : List (List ℕ)) (differ : HaveDifferentCharacters texts) (cel
   column_there : (column : ℕ) → Exists column → IsColumn texts cells.rows (kind_at column) (cells_at column)
   column_there column exists = column_is db in_order differ 0 (omega arith) column exists
 
-  -- the values of a column are those of its cells
+  -- the values of a column are the values of its cells
   values_there : (column : ℕ) → Exists column → map (value_of_cell texts (kind_at column)) (cells_at column) ≡ values_in rows column
   values_there column exists = values_are db in_order differ 0 (omega arith) column exists
 
@@ -108,7 +108,7 @@ module _ (texts : List (List ℕ)) (differ : HaveDifferentCharacters texts) (cel
       (map (pair_after accuracy section.rows rows) section.pairs) (ap (λ n. section.rows + n) (sym as_many)) (pairs_same accuracy section.rows section.pairs all)
 
   module _ (accuracy table : ℕ) where
-    -- the section where it is one of the table
+    -- the section after the append: grown if it is a section of the table, otherwise as it was
     abbrev pub one_after : TableStats → TableStats
     one_after section = cond (section.table == table) (section_after accuracy rows section) section
 

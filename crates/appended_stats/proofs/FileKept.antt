@@ -118,7 +118,7 @@ module _ (texts : List (List ℕ)) (differ : HaveDifferentCharacters texts) (utf
 -- ---- the file
 
 module _ (schema : Schema) (file : StatsFile) (table : ℕ) (texts : List (List ℕ)) (cells : Cells) (may : MayAppend schema file table texts cells) where
-  -- the cells are those of the table of a section
+  -- if a section is one of `table`, the cells are cells of the section's table
   pub its_cells : (section : TableStats) (is : IsSection schema section) → section.table ≡ table → AreCellsOf is.table texts cells
   its_cells section is its =
       subst (λ (t : Table). AreCellsOf t texts cells) (ap (table_at schema) (sym its) ∙ get_or_from_slice_get schema.tables section.table is.table no_table is.table_is) may.cells_are

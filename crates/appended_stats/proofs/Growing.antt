@@ -1,4 +1,4 @@
--- What the rules of files and the room for new rows say of each list.
+-- What follows for each list from the rules of files and from the room for new rows.
 use Rattle.std.proofs.Common.{◌≡◌, ℕ, zero, suc, ◌+◌, ◌<◌, ◌≤◌, ◌^◌, List, [], length, get_or, sum, refl, ap, sym, ◌∙◌, subst, arith}
 use Rattle.std.specs.List.{All}
 use Rattle.limits.specs.Profile.{most_rows}

@@ -1,4 +1,4 @@
--- A grown pair keeps the rules of files, and agrees with the others as before.
+-- A grown pair, which is a pair after the append, keeps the rules of files, and agrees with the other pairs of its section as before.
 use Rattle.std.proofs.Common.{◌≡◌, ◌≢◌, ℕ, zero, suc, ◌+◌, ◌*◌, ◌/◌, ◌<◌, ◌≤◌, Bool, eqb, not, List, [], ◌∷◌, drop, length, map, get_or, sum, refl, ap, sym, ◌∙◌, subst, arith}
 use Rattle.std.specs.Prelude.{slice_index_or}
 use Rattle.std.specs.List.{All, AllByRecursion, AllPairs, count_by, filter, flat_map, list_any, range_with_len, zip}
@@ -29,7 +29,7 @@ use Rattle.stats_file_of_query.proofs.Lists.{where_listed, whole_listed}
 use Rattle.appended_stats.specs.Grown.{grown_pair, is_frequent, list_of_any, list_with, lists_of_nodes, other_values, rank_sums, with_new_rows}
 use Rattle.appended_stats.proofs.NewLists.{added_listed, all_added_listed, any_listed, node_counts, nodes_listed, nodes_many, sum-list_of_any, sums_many, sums_of_sums}
 
--- a pair of a table that had rows has all its nodes
+-- if its table had rows, a pair has all 63 nodes
 pub nodes_all : (kd : Kind) (n : ℕ) (cuts : List Datum) (nodes : List (List ℕ)) → 0 < n → IsHistogramOf kd n cuts nodes → length nodes ≡ 63
 nodes_all kd zero cuts nodes some is = absurd (omega (arith, some))
 nodes_all kd (suc n) cuts nodes some is = is.all
@@ -106,7 +106,7 @@ first_same x y xs ys same = ap (λ (s : List _). get_or s 0 x) same
 others_same : {X : Type 0} (x y : X) (xs ys : List X) → (let s : List X = x ∷ xs in s) ≡ y ∷ ys → xs ≡ ys
 others_same x y xs ys same = ap (λ (s : List _). drop 1 s) same
 
--- equal values and equal totals, to each of which the same is added by its value
+-- if two lists of frequent values have equal values and equal sums, the sums stay equal when each sum gets a number that depends on its value alone
 totals_from : (more : Datum → ℕ) (a b : List (Datum × List ℕ)) → values_of a ≡ values_of b → totals_of a ≡ totals_of b
     → map (λ (f : Datum × List ℕ). sum f.1 + more f.0) a ≡ map (λ (f : Datum × List ℕ). sum f.1 + more f.0) b
 totals_from more [] [] values totals = refl

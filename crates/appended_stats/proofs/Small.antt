@@ -1,4 +1,4 @@
--- Numbers and lists that 128 bits hold.
+-- Numbers and lists whose elements fit into 128 bits.
 use Rattle.std.proofs.Common.{◌≡◌, ℕ, suc, ◌+◌, ◌-◌, ◌<◌, ◌≤◌, ◌^◌, max, List, [], ◌∷◌, ◌++◌, map, length, take, sum, refl, ap, sym, ◌∙◌, arith}
 use Rattle.std.specs.List.{All, AllByRecursion}
 use Rattle.std.proofs.lemmas.List.Sums.{sum_by-cons}
@@ -41,6 +41,6 @@ pub all_small_degrees : (groups : List (List ℕ)) → AllByRecursion (λ (keys 
 all_small_degrees [] all = tt
 all_small_degrees (keys ∷ groups) all = (small_degrees keys all.0, all_small_degrees groups all.1)
 
--- lists with few rows are added as they are
+-- if two lists have sums below 2^64, no element of their rank-wise sum is saturated
 pub added_exactly : (s t r : List ℕ) → sum s < 2 ^ 64 → sum t < 2 ^ 64 → r ≡ map saturated (rank_sum s t) → r ≡ rank_sum s t
 added_exactly s t r few also is = is ∙ saturated_small (rank_sum s t) (small_by_sum (rank_sum s t) (omega (arith, sum-rank_sum s t, few, also)))

@@ -1,4 +1,4 @@
--- The calls at which a store or a sink over memory fails.
+-- Which calls of a store or a sink in memory fail.
 use Rattle.std.specs.Prelude.{ℕ, Bool, true, false, List, Result, Ok, Err, nat_eq}
 use Rattle.std.specs.List.{list_any}
 use Rattle.base_io.specs.declared.errors.StoreError.{StoreError}

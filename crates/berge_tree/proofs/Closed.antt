@@ -1,4 +1,4 @@
--- A tree that follows the equalities has each entry that they join to one of its entries.
+-- A tree that follows the equalities has each entry that the equalities join to an entry of the tree.
 use Rattle.std.proofs.Common.{◌≡◌, ◌≢◌, ℕ, List, [], ◌∷◌, ◌++◌, refl, ap, sym, ◌∙◌, subst, ◌⊎◌, inl, inr, Option, Some, None}
 use Rattle.std.specs.List.{Contains}
 use Rattle.std.proofs.lemmas.Bool.{cases_Bool}
@@ -14,7 +14,7 @@ use Rattle.berge_tree.specs.Rooted.{class_columns, member_places, AreItsColumns,
 use Rattle.berge_tree.proofs.NoCycle.{same_place-true, merged-yes, merged-no}
 use Rattle.berge_tree.proofs.Steps.{are_same, none_some}
 
--- ---- a column that is in a class with another one is named
+-- ---- if a column is in a class with another column, an equality names it
 
 -- the column names its own class, and no other column is in it
 abbrev pub IsAlone : (Place → Place) → Place → Type 0
@@ -55,7 +55,7 @@ named es u v e ne = elim (named_or_alone es (λ p. p) u (refl, λ p d. d)) [
   | inr a ↦ absurd (a.1 v (λ is. ne (sym is)) (sym e ∙ a.0))
 ]
 
--- ---- closed
+-- ---- if the tree has an entry of a class, it has all entries of the class
 
 member_in : (ms : Members) (q : Place) → Contains (member_places ms) q → Contains (entries_within ms) q.entry
 member_in (one_member entry column below) q k = elim (one_in (place entry column) [] q k) [
@@ -68,7 +68,7 @@ member_in (and_member entry column below rest) q k = elim (one_in (place entry c
 ]
 
 module _ (es : List Edge) where
-  -- all columns of the class of r are those of the members and r
+  -- each column of r's class is in an entry within the members, or in r's entry
   within_class : (r : Place) (ms : Members) → AreItsOthers es r ms → (q : Place) → class_of es r ≡ class_of es q → Contains (entries_within ms) q.entry ⊎ (q.entry ≡ r.entry)
   within_class r ms h q e = elim (are_same q r) [
     | inl is ↦ inr (ap (λ (u : Place). u.entry) is)
@@ -89,7 +89,7 @@ module _ (es : List Edge) where
     ]
   ]
 
-  -- at an entry: by its column above or by one below
+  -- if a column of entry z, other than its column above, is in a class with q', the entry of q' is below z or is z
   at_entry : (z : ℕ) (above : Option ℕ) (below : Classes) → AreItsColumns es z above (class_columns below) → FollowsBelow es z below → (q q' : Place) → q.entry ≡ z → class_of es q ≡ class_of es q'
       → above ≢ Some q.column → Contains (entries_below below) q'.entry ⊎ (q'.entry ≡ z)
   at_entry z above below columns f q q' q_at e off = elim (are_same q q') [

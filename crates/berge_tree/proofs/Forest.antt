@@ -51,7 +51,7 @@ distinct_avoiding (x ∷ xs) ys dx dy h = (
   distinct_avoiding xs ys dx.1 dy (all_map (λ e. Contains (x ∷ xs) e → ⊥) (λ e. Contains xs e → ⊥) (λ e k m. k (in_rest x xs e m)) ys h),
 )
 
--- a set of entries that has with one column of a class the others
+-- a set of entries is closed if this is so: if it has one entry of a class, it has all entries of the class
 abbrev pub IsClosed : List Edge → List ℕ → Type 0
 IsClosed es done = (u v : Place) → class_of es u ≡ class_of es v → Contains done u.entry → Contains done v.entry
 

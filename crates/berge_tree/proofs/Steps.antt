@@ -67,12 +67,12 @@ pub avoided : (class : Place → Place) (P : List ℕ) (y : ℕ) (above : Option
 avoided class P y None h k = h.fresh (record { entry = y; column = 0 }) refl (none_some 0) (record { entry = y; column = 0 }) k refl
 avoided class P y (Some c) h k = h.fresh (record { entry = y; column = suc c }) refl (another c) (record { entry = y; column = suc c }) k refl
 
--- away from the class of r its bridge has one side
+-- two columns of one class, other than r's class, are on one side of r's bridge
 pub off_class : (class : Place → Place) (r : Place) (b : IsBridge class r) (u v : Place) → class u ≡ class v → class u ≢ class r → b.side u.entry ≡ b.side v.entry
 off_class class r b u v e differ =
     sym (seen_off b.side r u (λ is. differ (ap class is))) ∙ b.together u v e ∙ seen_off b.side r v (λ is. differ (e ∙ ap class is))
 
--- the other columns of r's class are on the far side
+-- the other columns of r's class are on the other side of r's bridge than r's entry
 pub far : (class : Place → Place) (r : Place) (b : IsBridge class r) (s : Place) → class r ≡ class s → s ≢ r → b.side s.entry ≡ not (b.side r.entry)
 far class r b s same ne = sym (seen_off b.side r s ne) ∙ b.together s r (sym same) ∙ seen_at b.side r
 

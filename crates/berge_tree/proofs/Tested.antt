@@ -1,4 +1,4 @@
--- What the tests by computation show.
+-- What follows if the tests by computation are true.
 use Rattle.std.proofs.Common.{◌≡◌, ℕ, true, false, not, ◌&&◌, eqb, ltb, List, [], ◌∷◌, refl, sym, ◌∙◌, subst, inl, inr}
 use Rattle.std.specs.Int.{bit_at}
 use Rattle.std.specs.List.{AllByRecursion}

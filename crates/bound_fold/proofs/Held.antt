@@ -24,7 +24,7 @@ same_is a b e = by (nat_eq a.0 b.0) (nat_eq a.1 b.1) refl refl e
     by true false p q h = absurd (cc h)
     by false y p q h = absurd (cc h)
 
--- what a key has after it: the new value at the same key, or what it had
+-- after a value was put, a key has the new value if it is the key that was put, and otherwise the value that it had before
 at_key : {X : Type 0} (t : Bool) (v : X) (before : Option X) (x : X) → (if t then Some v else before) ≡ Some x → ((t ≡ true) × (v ≡ x)) ⊎ ((t ≡ false) × (before ≡ Some x))
 at_key true v before x e = inl (refl, cc e)
 at_key false v before x e = inr (refl, e)

@@ -81,7 +81,7 @@ module _ (b : EntryBounds) (es : List Edge) (subset : ℕ) where
       let last : turn - 1 ≡ turn_count subset es - 1 = omega arith in
       before ∙ ap (λ j. saturated (least_to (bound_of_turn b es subset) j)) last
 
--- ---- never under
+-- ---- the bound of a set is never below the number of choices
 
 pub set_never_under : (lists : EntryLists) (es : List Edge) (subset n : ℕ) → SetIsListed lists es subset → n ≡ saturated (bound_of_set (bounds_of lists) es subset)
     → (tables : KeyedTables) → SetDominates (bounds_of lists) tables es subset → (choices : List (ℕ → ℕ))

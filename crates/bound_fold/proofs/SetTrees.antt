@@ -1,4 +1,4 @@
--- Where a set has its lists, each tree of a turn has them, and they are lists of the set's entries.
+-- If a set has its lists, each tree of a turn has its lists. The lists of the set fall, and each sums to the row bound of its entry.
 use Rattle.std.proofs.Common.{ℕ, List, [], ◌∷◌, ◌++◌}
 use Rattle.std.specs.Prelude.{IsSome}
 use Rattle.std.specs.List.{AllByRecursion}

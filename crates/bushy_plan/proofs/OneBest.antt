@@ -1,4 +1,4 @@
--- There is no second best tree, and no second answer.
+-- Two best trees are the same tree, and two refusals that have causes are the same refusal.
 use Rattle.std.proofs.Common.{◌≡◌, ℕ, ◌-◌, ◌^◌, ◌≤◌, List, refl, ap, sym, ◌∙◌, subst, arith, inl, inr}
 use Rattle.std.specs.Prelude.{◌⊎◌}
 use Rattle.std.proofs.lemmas.Bool.{cases_order}

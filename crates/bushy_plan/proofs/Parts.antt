@@ -1,4 +1,4 @@
--- Parts of a set of bits, and how they are gone through from the greatest down.
+-- Parts of a set of entries, as numbers whose bits are the entries, and the loop over all parts from the greatest down.
 use Rattle.std.proofs.Common.{◌≡◌, ℕ, zero, suc, ◌+◌, ◌-◌, ◌/◌, ◌%◌, ◌<◌, ◌≤◌, min, ap, arith, inl, inr}
 use Rattle.std.specs.Int.{bit_at}
 use Rattle.std.specs.Prelude.{bit_and}
@@ -6,7 +6,7 @@ use Rattle.std.proofs.lemmas.Nat.Bits.{bit_at_and, bit_at_lowest, bit_at-suc, sa
 use Rattle.std.proofs.lemmas.Nat.{and_le_l, and_shr}
 use Rattle.std.proofs.lemmas.Bool.{cases_eq}
 
--- each entry of the one is in the other
+-- each entry of `part` is in `set`
 pub record IsPart (part set : ℕ) : Type 0 where
   pub has : (entry : ℕ) → bit_at part entry ≤ bit_at set entry
 
@@ -26,7 +26,7 @@ le_below (suc n) part set h is_part = omega (arith, le_below n (part / 2) (set /
 pub part_le : (part set : ℕ) → IsPart part set → part ≤ set
 part_le part set is_part = le_below part part set (omega arith) is_part
 
--- the entries of a set but for a part
+-- each entry of a set is either in a part or in the set without the part
 pub bits_without : (part set entry : ℕ) → IsPart part set → bit_at (set - part) entry + bit_at part entry ≡ bit_at set entry
 bits_without part set zero is_part = omega (arith, bit_at_lowest (set - part), bit_at_lowest part, bit_at_lowest set, part_le part set is_part, lowest part set is_part)
 bits_without part set (suc entry) is_part =

@@ -1,4 +1,4 @@
--- The first of the lightest trees over a set, from those over the sides of its first lightest split.
+-- The first of the lightest trees over a set joins the first lightest trees over the two sides of the set's first lightest split.
 use Rattle.std.proofs.Common.{◌≡◌, ℕ, ◌+◌, ◌-◌, ◌^◌, ◌<◌, ◌≤◌, List, get_or, ap, sym, ◌∙◌, subst, arith, inl, inr}
 use Rattle.std.specs.Prelude.{◌≢◌, bit_and}
 use Rattle.std.proofs.lemmas.Bool.{cases_lt, cases_order}
@@ -54,7 +54,7 @@ attained w bounds table set end first is_first more h is_table = at least.tree l
       lightest = through_of_tree w bounds table set end left right h is_table is_tree weighs;
     }
 
--- no right set above this one is of a lightest split
+-- no lightest split has a right set above `right`
 pub record Looked (w : Weight) (bounds table : List ℕ) (set behind right : ℕ) : Type 0 where
   pub is_part : IsPart right behind
   pub some : 0 < right
@@ -112,7 +112,7 @@ pub looked_within : (w : Weight) (bounds table : List ℕ) (set behind right : �
 looked_within w bounds table set behind right b looked =
     omega (arith, part_le right behind looked.is_part, b.others, power_within b.first set b.is_first.is_in, pow_pos b.first)
 
--- ---- the tree
+-- ---- the first lightest tree
 
 pub first_of_one : (w : Weight) (bounds : List ℕ) (set first : ℕ) → IsFirstEntry set first → set - 2 ^ first ≡ 0 → IsFirstLightest w bounds set (leaf first)
 first_of_one w bounds set first is_first none = record {
@@ -125,7 +125,7 @@ first_of_one w bounds set first is_first none = record {
     not_before (leaf entry) is_tree before = before
     not_before (node left right) is_tree before = before
 
--- the weights of the sides of a light split, which sum with its bound
+-- the set of a light split has a bound of at most `most`, and this bound and the weights of both sides sum to the weight in the table
 pub record Light (most : ℕ) (bounds table : List ℕ) (set right : ℕ) : Type 0 where
   pub bound : get_or bounds set 0 ≤ most
   pub sums : get_or bounds set 0 + get_or table (set - right) 0 + get_or table right 0 ≡ get_or table set 0
@@ -202,7 +202,8 @@ first_of_sides most bounds table set end right_set left right h is_table is_ligh
     sums : Light most bounds table set right_set
     sums = light_sides most bounds table set right_set split.lightest is_light
 
-    -- its sides have the same sets, and so are no lighter, and no heavier either
+    -- let a tree weigh what the table says and have the same left set. Then its sides are trees over the same two sets, and they weigh as much as
+    -- `left` and `right`
     sides_weigh : (left' right' : PlanTree) → IsTreeOver set (node left' right') → weight_of (weight.SumWithin most) bounds (node left' right') ≡ get_or table set 0 → leaf_set left' ≡ set - right_set
         → IsTreeOver (set - right_set) left' × IsTreeOver right_set right'
         × (weight_of (weight.SumWithin most) bounds left' ≡ weight_of (weight.SumWithin most) bounds left) × (weight_of (weight.SumWithin most) bounds right' ≡ weight_of (weight.SumWithin most) bounds right)

@@ -38,7 +38,7 @@ at_root set last tree fits is_tree =
       refl,
     )
 
--- the first entry of a set and a last one is the set's
+-- when a later entry is added to a set, the set's first entry stays the first
 first_with : (set last first : ℕ) → 0 < set → set < 2 ^ last → (own : ℕ) → IsFirstEntry set own → IsFirstEntry (set + 2 ^ last) first → IsFirstEntry set first
 first_with set last first some fits own is_own is_first = elim (cases_order first own) [
   | inl same ↦ subst (λ (k : ℕ). IsFirstEntry set k) (sym same) is_own
@@ -131,7 +131,7 @@ record LeastWith (R : PlanTree → PlanTree → Type 0) (last : ℕ) (rest : Pla
   is_with : IsWith last rest tree
   least : (other : PlanTree) → IsWith last rest other → R tree other
 
--- of the root and the least on either side, the least
+-- the least of three trees: the last entry is joined to the root, or at its best place in the left tree, or at its best place in the right tree
 least_of_three : (R : PlanTree → PlanTree → Type 0) → IsOrder R → (last : ℕ) (left right : PlanTree) → LeastWith (λ a b. R (node a right) (node b right)) last left
     → LeastWith (λ a b. R (node left a) (node left b)) last right → LeastWith R last (node left right)
 least_of_three R order last left right l r = elim (order.either (node l.tree right) (node left r.tree)) [
@@ -247,7 +247,7 @@ placed_order = record {
   both = λ a b c. place_both (left_sets a) (left_sets b) (left_sets c);
 }
 
--- a tree that comes before another over the same set has the lesser list
+-- a tree has as many left sets as inner nodes
 length-left_sets : (tree : PlanTree) → length (left_sets tree) ≡ inner_count tree
 length-left_sets (leaf entry) = refl
 length-left_sets (node left right) = omega (arith, length-append {A = ℕ} (left_sets left) (left_sets right), length-left_sets left, length-left_sets right)
@@ -268,6 +268,7 @@ not_after_behind (x ∷ a) c d h = elim h [
   | inr here ↦ not_after_behind a c d here.1
 ]
 
+-- if tree a comes before tree b over the same set, the list of b's left sets comes after the list of a's left sets
 before_placed : (n set : ℕ) (a b : PlanTree) → set < 2 ^ n → IsTreeOver set a → IsTreeOver set b → IsTreeBefore a b → IsPlaced b a → ⊥
 before_placed n set (leaf x) b fits p q before h = before
 before_placed n set (node l r) (leaf y) fits p q before h = before

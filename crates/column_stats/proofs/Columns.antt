@@ -1,4 +1,4 @@
--- A pair of columns as it is read.
+-- The columns of a pair, as the code reads them.
 use Rattle.std.proofs.Common.{◌≡◌, ℕ, List, [], length, Some, refl, ap, sym, ◌∙◌, subst, arith}
 use Rattle.std.specs.Prelude.{slice_get}
 use Rattle.std.specs.List.{All, zip}
@@ -19,11 +19,11 @@ use Rattle.column_stats.specs.Stats.{frequent_lists, stats_of}
 use Rattle.column_stats.specs.Pairs.{HasColumn, cells_of_column, kind_of_column, rows_of_pair}
 
 module _ (texts : List (List ℕ)) (cells : Cells) (column : ℕ) (has : HasColumn texts cells column) where
-  -- its kind
+  -- the kind that is read is the kind of the column
   pub kind_read : (k : Kind) → slice_get cells.kinds column ≡ Some k → kind_of_column cells column ≡ k
   kind_read k at = get_or_from_slice_get cells.kinds column k kind.Int at
 
-  -- its cells
+  -- the cells that are read are the cells of the column
   pub cells_read : (items read : List ℕ) → slice_get cells.columns column ≡ Some items → read ≡ items → read ≡ cells_of_column cells column
   cells_read items read there same = same ∙ sym (get_or_from_slice_get cells.columns column items [] there)
 

@@ -22,7 +22,7 @@ use Rattle.cond_stats.proofs.WindowKeys.{window_count}
 
 -- ---- the order of frequency as a number
 
--- the first place of what stands in a column: there it stands
+-- if a value is in a column, the column has it at the value's first place
 pub first_place_passes : (column : List ℕ) (v : ℕ) → 0 < degree column v → (first_place column v < length column) × (get_or column (first_place column v) 0 ≡ v)
 first_place_passes [] v some = absurd (omega arith)
 first_place_passes (x ∷ xs) v some = elim (cases_Bool (eqb x v)) [
@@ -32,7 +32,7 @@ first_place_passes (x ∷ xs) v some = elim (cases_Bool (eqb x v)) [
       rw e (omega (arith, rest.0), (let at : 1 + first_place xs v ≡ suc (first_place xs v) = omega arith in ap (λ j. get_or (x ∷ xs) j 0) at) ∙ rest.1))
 ]
 
--- a smaller number comes before
+-- a number for each value: of two values, the value with the smaller number comes first
 abbrev pub frequency_number : List ℕ → ℕ → ℕ
 frequency_number column v = (length column - degree column v) * (length column + 1) + first_place column v
 
@@ -115,7 +115,7 @@ module _ {at_most : ℕ → ℕ → Bool} {column numbers places : List ℕ} (or
   start_within : (run : Group) → IsRun numbers places run → run.start < length places
   start_within run is = omega (arith, is.some, is.ends, lengths)
 
-  -- a run is the window of its value
+  -- a run is the window of its value: the stretch of places that have this value
   pub window_of_run : (run : Group) → IsRun numbers places run → IsWindow column places (λ v. eqb v (value_of_group column run)) run.start run.count
   window_of_run run is = record {
     ends = omega (arith, is.ends, lengths);
@@ -136,7 +136,7 @@ module _ {at_most : ℕ → ℕ → Bool} {column numbers places : List ℕ} (or
   first_within : (run : Group) → IsRun numbers places run → run.first < length column
   first_within run is = subst (λ p. p < length column) (sym is.first) (places_within order run.start 0 (start_within run is))
 
-  -- the first row of a run is the first with its value
+  -- the first row of a run is the first row with the run's value
   pub first_of_run : (run : Group) → IsRun numbers places run → run.first ≡ first_place column (value_of_group column run)
   first_of_run run is = sym (position_or_len_is (λ other. eqb other (value_of_group column run)) column run.first 0
       (omega (arith, within))
@@ -217,11 +217,11 @@ module _ {at_most : ℕ → ℕ → Bool} {column numbers places : List ℕ} (or
         (λ k d h. window_of_run (get_or runs k d) (are.each k d h));
   }
 
-  -- a row that no group has
+  -- a default, for places without a group
   no_group : Group
   no_group = record { first = 0; start = 0; count = 0 }
 
-  -- and so are groups that a sort by these two left
+  -- groups that were sorted by count and first row are the values in the order of their frequency
   pub groups_sorted : (runs groups : List Group) → length places < 2 ^ 32 → AreRunsOfNumbers numbers places runs → IsPermutation runs groups
       → ((i j : ℕ) (d : Group) → i ≤ j → j < length groups → PairLe (4294967295 - (get_or groups i d).count) (get_or groups i d).first (4294967295 - (get_or groups j d).count) (get_or groups j d).first)
       → AreGroups column places groups

@@ -10,7 +10,7 @@ use Rattle.cond_stats.proofs.InOrderFacts.{has_degree, place_of_degree, degree-d
 use Rattle.cond_stats.proofs.LeavesFound.{cut_place, cut_place-within}
 use Rattle.cond_stats.proofs.RunsFound.{number_of_run}
 
--- a run where there is none
+-- a default, for places without a run
 abbrev pub no_run : Group
 no_run = record { first = 0; start = 0; count = 0 }
 
@@ -22,7 +22,7 @@ module _ {numbers places : List ℕ} {runs : List Group} (are : AreRunsOfNumbers
     | inr h ↦ (let same : i ≡ j = omega arith in omega (arith, ap (λ m. (get_or runs m d).start) same))
   ]
 
-  -- a row stands in a run
+  -- each row is in a run
   run_of_row : (k : ℕ) → k < length numbers → (r : ℕ) × (r < length runs) × ((get_or runs r no_run).start ≤ k) × (k < (get_or runs r no_run).start + (get_or runs r no_run).count)
   run_of_row k within =
       let x : ℕ = get_or numbers k 0 in
@@ -38,7 +38,7 @@ module _ {numbers places : List ℕ} {runs : List Group} (are : AreRunsOfNumbers
         elim (cases_lt k (run.start + run.count)) [ inl h ↦ h | inr h ↦ absurd (omega (arith, same, is.higher k h within)) ],
       )
 
-  -- the last run that doesn't begin behind a row is the row's own
+  -- the last run that begins at a row or before the row is the row's own run
   last_run : (k below r : ℕ) → (get_or runs r no_run).start ≤ k → k < (get_or runs r no_run).start + (get_or runs r no_run).count
       → IsPartitionPoint (λ (run : Group). leb run.start k ≡ true) (λ (run : Group). leb run.start k ≡ false) runs below
       → r < length runs → below ≤ length runs → r + 1 ≡ below
@@ -58,7 +58,7 @@ module _ {numbers places : List ℕ} {runs : List Group} (are : AreRunsOfNumbers
     ]
   ]
 
-  -- the run of a leaf's cut begins where the leaf does
+  -- a leaf begins where the run of its cut begins
   start_of_run : (leaf : ℕ) (run : Group) → leaf < 32 → IsRun numbers places run → run.start ≤ cut_place (length numbers) leaf → cut_place (length numbers) leaf < run.start + run.count
       → IsLeafStart numbers leaf run.start
   start_of_run leaf run not_last is low high = record {
@@ -80,7 +80,7 @@ module _ {numbers places : List ℕ} {runs : List Group} (are : AreRunsOfNumbers
         | inr h ↦ omega (arith, is.higher k h within)
       ]
 
-  -- so many runs don't begin behind a leaf's cut: where there is one, the leaf begins with the last of them
+  -- `below` runs begin at a leaf's cut or before it. If there is such a run, the leaf begins where the last of these runs begins
   module _ (leaf below : ℕ) (not_last : leaf < 32) (bound : below ≤ length runs)
       (split : IsPartitionPoint (λ (run : Group). leb run.start (cut_place (length numbers) leaf) ≡ true) (λ (run : Group). leb run.start (cut_place (length numbers) leaf) ≡ false) runs below) where
     cut_run : 0 < length numbers → (r : ℕ) × (r + 1 ≡ below) × IsLeafStart numbers leaf (get_or runs r no_run).start
@@ -109,7 +109,7 @@ module _ {numbers places : List ℕ} {runs : List Group} (are : AreRunsOfNumbers
       }
     ]
 
--- one more start
+-- if one more start is right, all starts up to it are right
 pub starts-push : (numbers starts : List ℕ) (leaf start : ℕ) → length starts ≡ leaf → ((k : ℕ) → k < leaf → IsLeafStart numbers k (get_or starts k 0)) → IsLeafStart numbers leaf start
     → (k : ℕ) → k < leaf + 1 → IsLeafStart numbers k (get_or (starts ++ start ∷ []) k 0)
 starts-push numbers starts leaf start long each is k low = elim (cases_lt k leaf) [

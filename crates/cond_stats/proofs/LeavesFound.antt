@@ -1,4 +1,4 @@
--- The cuts of a column by its places in order, and where its leaves begin there.
+-- The cuts of a column, from its places in order, and where the leaves begin among these places.
 use Rattle.std.proofs.Common.{◌≡◌, ℕ, zero, suc, ◌+◌, ◌*◌, ◌/◌, ◌<◌, ◌≤◌, Bool, cond, not, eqb, ltb, leb, List, [], ◌∷◌, map, length, get_or, refl, ap, sym, ◌∙◌, subst, arith, inl, inr}
 use Rattle.std.specs.List.{range_with_len}
 use Rattle.std.proofs.Math.Nat.{mul-le-mul_left}
@@ -83,7 +83,7 @@ module _ {at_most : ℕ → ℕ → Bool} {column numbers places : List ℕ} (or
   pub length-cuts_in_order : 0 < length column → length (cuts at_most column) ≡ 32
   length-cuts_in_order some = ap length (cuts_in_order some) ∙ length-map (range_with_len 0 32) (λ i. value_at column places (cut_place (length column) i)) ∙ length-range_with_len 0 32
 
-  -- a value lies below a leaf just where its number is less than that of the leaf's cut
+  -- the leaf of a value is below a given leaf just if the number of the value is less than the number of that leaf's cut
   pub leaf_by_number : (k leaf : ℕ) → k < length places → 0 < leaf → leaf < 32
       → ltb (leaf_of at_most column (value_at column places k)) leaf ≡ ltb (get_or numbers k 0) (get_or numbers (cut_place (length places) leaf) 0)
   leaf_by_number k leaf within some high =
@@ -110,7 +110,7 @@ module _ {at_most : ℕ → ℕ → Bool} {column numbers places : List ℕ} (or
       long : (j : ℕ) → j < length places → j < length numbers
       long j h = subst (λ s. j < length s) (sym order.numbers_are) (omega (arith, h, length-map places (λ place. order.number (get_or column place 0))))
 
-  -- the starts that the numbers tell are those of the leaves
+  -- starts that are right for the numbers are right for the leaves of the column
   pub starts_found : (starts : List ℕ) → length numbers ≡ length places → length starts ≡ 33 → ((leaf : ℕ) → leaf < 33 → IsLeafStart numbers leaf (get_or starts leaf 0))
       → AreStarts at_most column places starts
   starts_found starts lengths long each = record {

@@ -11,7 +11,7 @@ use Rattle.degree_sequences.proofs.RunningSums.{running_sum-suc, sum-above}
 use Rattle.cond_stats.proofs.CutLists.{rank_maximum-nil}
 use Rattle.cond_stats.specs.Lists.{maxima, greatest}
 
--- a list that is at each rank at least another is above it
+-- if s is at least t at each rank, s is above t
 pub above_by_rank : (s t : List ℕ) → ((r : ℕ) → get_or t r 0 ≤ get_or s r 0) → IsAbove s t
 above_by_rank s t h zero = omega arith
 above_by_rank s t h (suc r) = omega (arith, running_sum-suc s r, running_sum-suc t r, above_by_rank s t h r, h r)
@@ -54,17 +54,17 @@ rank_maximum-assoc (x ∷ s) (y ∷ t) (z ∷ u) =
     let here : max x (max y z) ≡ max (max x y) z = omega arith in
     rw (here, rank_maximum-assoc s t u) refl
 
--- one more list
+-- the maxima of some lists and one more list are the rank-wise maximum of the old maxima and this list
 pub maxima-push : (lists : List (List ℕ)) (list : List ℕ) → maxima (lists ++ list ∷ []) ≡ rank_maximum (maxima lists) list
 maxima-push [] list = rank_maximum-nil list
 maxima-push (first ∷ lists) list = ap (rank_maximum first) (maxima-push lists list) ∙ rank_maximum-assoc first (maxima lists) list
 
--- one more number
+-- the greatest of some numbers and one more number is the maximum of the old greatest and this number
 pub greatest-push : (ns : List ℕ) (n : ℕ) → greatest (ns ++ n ∷ []) ≡ max (greatest ns) n
 greatest-push [] n = omega arith
 greatest-push (m ∷ ns) n = omega (arith, greatest-push ns n)
 
--- the greatest is at most what each number is at most
+-- if each number is at most m, the greatest is at most m
 pub greatest-le : {X : Type 0} (g : X → ℕ) (xs : List X) (m : ℕ) → All (λ x. g x ≤ m) xs → greatest (map g xs) ≤ m
 greatest-le g [] m all = omega arith
 greatest-le g (x ∷ xs) m all = omega (arith, all 0 x (omega arith), greatest-le g xs m (λ k d h. all (suc k) d (omega arith)))

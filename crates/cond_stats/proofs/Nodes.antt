@@ -6,7 +6,7 @@ use Rattle.std.proofs.lemmas.Nat.{le-div}
 use Rattle.std.proofs.lemmas.Bool.{cases_Bool, cond_both, eqb-true, eq-eqb}
 use Rattle.cond_stats.specs.Leaves.{node_size, in_node}
 
--- a size that divides alike, or the size of the whole
+-- the size that is found divides both leaves alike, or it is 32
 found : (low high : ℕ) (sizes : List ℕ) → (low / unwrap_or (find (λ size. eqb (low / size) (high / size)) sizes) 32 ≡ high / unwrap_or (find (λ size. eqb (low / size) (high / size)) sizes) 32)
     ⊎ (unwrap_or (find (λ size. eqb (low / size) (high / size)) sizes) 32 ≡ 32)
 found low high [] = inr refl

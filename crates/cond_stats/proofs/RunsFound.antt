@@ -11,15 +11,14 @@ use Rattle.degree_lists.proofs.RunLengths.{take-run, degree-above}
 use Rattle.cond_stats.specs.declared.groups.Group.{Group}
 use Rattle.cond_stats.specs.Runs.{IsRun, AreRunsOfNumbers, ends_run}
 
--- the number of a run
 abbrev pub number_of_run : List ℕ → Group → ℕ
 number_of_run numbers run = get_or numbers run.start 0
 
--- runs stand as their rows do
+-- the starts of the runs ascend
 abbrev pub StartsAscend : List Group → Type 0
 StartsAscend runs = (i j : ℕ) (none : Group) → i < j → j < length runs → (get_or runs i none).start < (get_or runs j none).start
 
--- and so does one more run behind them
+-- if one more run begins after all others, the starts ascend with it too
 starts_ascend-push : (runs : List Group) (run : Group) → StartsAscend runs → All (λ before. before.start < run.start) runs → StartsAscend (runs ++ run ∷ [])
 starts_ascend-push runs run up behind i j none low high =
     let first : (get_or (runs ++ run ∷ []) i none).start ≡ (get_or runs i none).start =
@@ -34,7 +33,7 @@ starts_ascend-push runs run up behind i j none low high =
       )
     ]
 
--- the runs before the one that begins at `start` and goes on at place i
+-- the runs that were found before place i. A run that isn't finished yet begins at `start`
 pub record RunsSoFar (numbers places : List ℕ) (runs : List Group) (start i : ℕ) : Type 0 where
   pub within : start ≤ i
   pub more : start < i → i < length numbers
@@ -57,7 +56,7 @@ no_runs numbers places = record {
   behind = All-nil (λ (run : Group). run.start < 0);
 }
 
--- what the test says where a run goes on, and where it ends
+-- what follows if `ends_run` is false, and if it is true: the run goes on, or it ends
 goes_on : (numbers : List ℕ) (i : ℕ) → i < length numbers → ends_run numbers i (get_or numbers i 0) ≡ false → (i + 1 < length numbers) × (get_or numbers (i + 1) 0 ≡ get_or numbers i 0)
 goes_on numbers i within same_run =
     let last : eqb (i + 1) (length numbers) ≡ false = left (eqb (i + 1) (length numbers)) (not (eqb (get_or numbers (i + 1) 0) (get_or numbers i 0))) same_run in

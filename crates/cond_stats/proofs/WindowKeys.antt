@@ -1,4 +1,5 @@
--- The keys at the places of a window have the degrees of the keys of the rows whose value passes.
+-- A window is a stretch of places: those whose value passes a test. The keys at its places have the degrees of the keys of the rows whose value
+-- passes.
 use Rattle.std.proofs.Common.{◌≡◌, ℕ, zero, suc, ◌+◌, ◌<◌, ◌≤◌, Bool, true, false, cond, ◌&&◌, eqb, List, [], ◌∷◌, map, length, length-take, length-drop, take, drop, get_or, refl, ap, sym, ◌∙◌, arith, inl, inr}
 use Rattle.std.specs.List.{sum_by, count_by, range_with_len, zip}
 use Rattle.std.specs.List.Sorted.{IsPermutation}
@@ -13,7 +14,7 @@ use Rattle.degree_lists.proofs.SameDegrees.{same_degrees}
 use Rattle.cond_stats.specs.Rows.{keys_where}
 use Rattle.cond_stats.specs.Windows.{IsWindow}
 
--- one where a test passes, else 0
+-- 1 if the test passes, otherwise 0
 abbrev pub one : Bool → ℕ
 one b = cond b 1 0
 
@@ -23,7 +24,7 @@ none_counted (x ∷ xs) p q none =
     let here : one (p x && q x) ≡ 0 = rw (none 0 (omega arith)) refl in
     omega (arith, here, sum_by-cons (λ y. one (p y && q y)) x xs, none_counted xs p q (λ i h. none (suc i) (omega arith)))
 
--- what is counted of those that pass is counted in the stretch that holds them
+-- if the elements that pass p are exactly the elements of a stretch, the elements that pass both p and q are counted in the stretch alone
 pub counted_within : (xs : List ℕ) (from count : ℕ) (p q : ℕ → Bool) → from + count ≤ length xs
     → ((i : ℕ) → from ≤ i → i < from + count → p (get_or xs i 0) ≡ true)
     → ((i : ℕ) → i < from → p (get_or xs i 0) ≡ false)
