@@ -9,8 +9,9 @@ use base_io::NoMemory;
 use row_buf::RowBuf;
 use std::alloc::Global;
 
-/// For each key the last place that has it, and for each place the place before it with the same key. In both, places are counted from 1,
-/// and 0 means no place. It takes 4 bytes for each key and for each place.
+/// `lasts` has for each key the last place with this key. `befores` has for each place the place before it with the same key. In both lists,
+/// places are counted from 1, and 0 means no place. A key is an item or a slot; a place is the index of a use. The chains take 4 bytes for each
+/// key and for each place.
 #[derive(Drop)]
 pub(crate) struct Chains {
     lasts: RowBuf<u32>,

@@ -1,4 +1,4 @@
--- The rank of a row is the least whose running sum reaches it.
+-- The rank of row t is the least rank whose running sum is at least t.
 use Rattle.std.proofs.Common.{List, [], arith, inl, inr, leb, suc, sum, zero, ℕ, ◌+◌, ◌-◌, ◌<◌, ◌∷◌, ◌≤◌}
 use Rattle.std.proofs.lemmas.Bool.{cases_lt, cond_both, leb-false, leb-true}
 use Rattle.std.proofs.lemmas.List.Sums.{sum_by-cons}

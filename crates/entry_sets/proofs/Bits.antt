@@ -1,4 +1,4 @@
--- An entry is taken out of a set, or put into it: what the number and its bits are then.
+-- The number and the bits of a set after an entry is taken out or put in.
 use Rattle.std.proofs.Common.{◌≡◌, ℕ, zero, suc, ◌+◌, ◌-◌, ◌*◌, ◌/◌, ◌%◌, ◌^◌, ◌<◌, ◌≤◌, refl, ap, sym, ◌∙◌, arith, inl, inr}
 use Rattle.std.specs.Int.{bit_at}
 use Rattle.std.proofs.lemmas.Nat.Bits.{bit_at_lowest, bit_at-suc, bit_at_above}
@@ -53,7 +53,7 @@ bit_without_same (suc entry) set has =
     ∙ ap (λ n. bit_at n entry) (half_without entry set has)
     ∙ bit_without_same entry (set / 2) (sym (bit_at-suc set entry) ∙ has)
 
--- where the bit is 0, the power sets it
+-- if the bit of an entry is 0, adding 2 ^ entry to the set's number sets it
 pub bit_added : (entry set : ℕ) → bit_at set entry ≡ 0 → bit_at (2 ^ entry + set) entry ≡ 1
 bit_added zero set out =
     let even : set % 2 ≡ 0 = sym (bit_at_lowest set) ∙ out in
