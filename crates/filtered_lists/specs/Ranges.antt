@@ -37,7 +37,7 @@ abbrev pub least : List Value → Option Value
 least [] = None
 least (value ∷ values) = Some (lesser_of value (least values))
 
--- those of the ranges that are of this column
+-- the ranges of this column among `ranges`
 abbrev pub ranges_of : ℕ → List Range → List Range
 ranges_of column ranges = filter (λ range. range.column == column) ranges
 
