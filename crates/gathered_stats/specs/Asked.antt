@@ -36,7 +36,7 @@ abbrev pub or_no_column : List ℕ → List ℕ
 or_no_column [] = no_column ∷ []
 or_no_column (column ∷ columns) = column ∷ columns
 
--- an entry's joined columns; if it joins no column, the missing column, over which its row bound is the same as over any other
+-- an entry's joined columns; if it joins no column, the missing column, over which its row bound is the same as over any other column
 abbrev pub asked_columns : ℕ → List Edge → List ℕ
 asked_columns entry es = or_no_column (joined_columns entry es)
 
@@ -69,7 +69,7 @@ is_whole step.Or = false
 abbrev pub AsksWithin : Cells → Step → Type 0
 AsksWithin cells step = IfSome (column_asked step) (λ column. column < length cells.kinds)
 
--- ---- the answer
+-- ---- what is gathered for columns and entries
 
 -- what is gathered for a column has these steps, each with its list from the lists of the column's keys
 abbrev pub AreStepsOf : List (List ℕ) → Cells → ℕ → List Step → ColumnSteps → Type 0

@@ -1,4 +1,5 @@
--- Filter columns at some rows of their table, and what is gathered for columns of other cells that stand beside these rows.
+-- Filter columns at some rows of their table, and what is gathered for columns of another entry whose rows stand beside these rows: rows with the
+-- same index are paired.
 use Rattle.std.specs.Prelude.{◌≡◌, ℕ, ◌==◌, ◌<◌, true, List, All, IfSome, length, map}
 use Rattle.std.specs.List.{list_any}
 use Rattle.csv_tables.specs.declared.types.Cells.{Cells}

@@ -1,4 +1,4 @@
-//! The filter columns of an entry: those that its own conjuncts compare with literals, each sorted once.
+//! The filter columns of an entry: the columns that its own conjuncts compare with literals, each sorted once.
 ghost use Rattle.std.specs.Prelude.{◌≡◌, ◌<◌, ℕ, List, All, length, true, IfOk, OnOk};
 ghost use Rattle.predicate_bounds.specs.declared.steps.Step.{Step};
 ghost use Rattle.sql_meaning.specs.Databases.{AreCells};
@@ -55,7 +55,7 @@ fn sorted<'a>(
     Ok(Filter { column, sorted })
 }
 
-// Adds the column that a step compares with literals, if the step has such a column and it isn't there yet.
+// Adds the column that a step compares with literals, if the step has such a column and it isn't in `filters` yet.
 fn add_filter<'a>(
     alloc: Global,
     pool: &'a Pool,

@@ -52,7 +52,7 @@ fn gather_column(
     table.list_steps(alloc, keys.as_slice(), column, steps)
 }
 
-// The same for each of these columns, in their order.
+// Gathers the steps for each of these columns, in their order.
 fn gather_columns(
     alloc: Global,
     table: &EntryTable<'_>,
@@ -73,7 +73,8 @@ fn gather_columns(
     Ok(EntryStats { columns: gathered })
 }
 
-// The statistics of an entry: of each column that it joins. An entry that joins no column is asked for one that its table doesn't have.
+// The statistics of an entry: of each column that it joins. For an entry that joins no column, they are those of one column that its table doesn't
+// have.
 fn gather_entry(
     alloc: Global,
     query: &Query,
