@@ -28,9 +28,9 @@ pub fn counts_are_never_under()
         → IsPlanOf query tables lists plan }
 {}
 
-/// Suppose that each part of a set is counted under all of its conjuncts, and that each conjunct without entries holds. Then the bound of the
-/// set is the number of rows of each level over its entries, or 2^128 - 1 where that number is larger. A level of a plan whose set is counted
-/// in this way has exactly as many rows as the plan says.
+/// Suppose that each part of a set is counted under all of its conjuncts, and that each conjunct without entries holds. Then the bound of the set
+/// is the number of rows of each level over its entries, or 2^128 - 1 if this number is larger. A level of a plan whose set is counted in this way
+/// has exactly as many rows as the plan says.
 pub fn counts_are_exact()
     ensures sets { (counted : Counted) (query : Query) (tables : Tables) (lists : List (List ℕ)) (subset : ℕ) (order : List ℕ)
         → subset < 2 ^ length query.from → IsOrderOfSet (entries_of_set subset) order → AllAreCounted counted query tables subset

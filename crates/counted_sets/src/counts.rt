@@ -28,7 +28,7 @@ pub(crate) fn count_all(alloc: Global, slots: u32, uses: &[Use]) -> Result<RowBu
     Ok(counts)
 }
 
-/// The slots of count 0, with room to list all others.
+/// Lists the slots whose count is 0. The list has room for all other slots.
 pub(crate) fn zeros(alloc: Global, counts: &RowBuf<u32>) -> Result<RowBuf<u32>, NoMemory>
     requires few { length counts.now.items < 2 ^ 32 }
     ensures { IfOk result (λ work. IsWorkOf counts.now.items work) }

@@ -68,7 +68,7 @@ joins st.AfterQuote b h =
     inr (record { next = st.InField; steps = simp (comma, cr, lf, quote); stays = in_field_stays })
 joins st.InComment b h = inl refl
 
--- in a state in which bytes beyond ASCII go into the field and change nothing else, a list of such bytes does so too
+-- if each byte beyond ASCII goes into the field and leaves the state as it is, a list of such bytes does so too
 runs : (s : State) (bs : List ℕ) → ((c : ℕ) → 128 ≤ c → step default_config s c ≡ (s, act.Copy)) → AreHigh bs → Runs default_config s bs
 unfolding Runs
 runs s [] stays h = tt
@@ -130,7 +130,7 @@ record Kept (p : Read) : Type 0 where
   pub fields : AllText p.0
   pub rest : IsUtf8 p.2
 
--- if the rest of a read leaves texts (`Kept`), the read with one more byte in front does
+-- one byte of a read: if reading the remaining bytes leaves texts (`Kept`), so does reading this byte and then the remaining bytes
 goes_on : (s : State) (fields : List (List ℕ)) (field : List ℕ) (c : ℕ) (rest : List ℕ) (p : Read) → IsUtf8 rest → AllText fields → IsUtf8 field → IsUtf8 (field ++ c ∷ [])
     → ((t : State) (fs : List (List ℕ)) (f : List ℕ) → AllText fs → IsUtf8 f → next_record default_config t fs f rest ≡ Some p → Kept p)
     → next_record default_config s fields field (c ∷ rest) ≡ Some p → Kept p

@@ -8,7 +8,7 @@ abbrev pub after_all : {A : Type 0} → List A → Result (List A) TableError �
 after_all items (Ok rest) = Ok (items ++ rest)
 after_all items (Err e) = Err e
 
--- `items` are read of a list, and `rest` is what remains: together they are the whole list or its refusal
+-- `items` of a list are read, and `rest` is what remains: together they are the whole list or its refusal
 pub record ReadTo {A : Type 0} (whole : Result (List A) TableError) (items : List A) (rest : Result (List A) TableError) : Type 0 where
   pub so_far : whole ≡ after_all items rest
 

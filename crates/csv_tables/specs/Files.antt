@@ -23,13 +23,13 @@ abbrev pub after_header : List Record → List Record
 after_header [] = []
 after_header (header ∷ records) = records
 
--- the rows of a file's records, where keys aren't checked. The first record is the header
+-- the rows of a file's records, without a check of keys. The first record is the header
 unfoldable pub rows_under_header : List Column → List Record → Result (List Row) TableError
 rows_under_header columns records =
     column_places 0 columns (header_of records)
     >>= (λ places. rows_of_records columns places (length (header_of records)) 1 (after_header records))
 
--- the rows of a table in the records of its file, where keys are checked too
+-- the rows of a table in the records of its file, with a check of keys
 unfoldable pub rows_in_records : Table → List Record → Result (List Row) TableError
 rows_in_records table records = rows_under_header table.columns records >>= rows_with_keys table.keys
 

@@ -17,7 +17,7 @@ use schema_types::Table;
 use std::alloc::Global;
 use std::collections::HashMap;
 
-// The place that `seen` has for `pair`. If it has no place for this pair yet, `at` is put in.
+// The place that `seen` has for `pair`. If it has no place for this pair yet, `at` becomes the pair's place.
 fn first_of(seen: &mut HashMap<(u32, u64), u32>, pair: (u32, u64), at: u32) -> Result<u32, NoMemory>
     ensures first { IfOk result (λ first. first ≡ unwrap_or (get same_pair seen.old pair) at) }
     ensures kept { IfOk result (λ first. (q : ℕ × ℕ)
@@ -61,7 +61,7 @@ fn repeat_in(group: &[u32]) -> Option<Repeat>
     None
 }
 
-// Whether each cell is greater than the one before it. This test takes no memory.
+// Whether each cell is greater than the cell before it. This test takes no memory.
 fn ascends(cells: &[u64]) -> bool
     ensures { result ≡ true → (i j : ℕ) → i < j → j < length cells.now → slice_index cells.now i < slice_index cells.now j }
 {

@@ -9,7 +9,7 @@ use base_io::NoMemory;
 use csv::{ByteRecord, Reader, ReaderBuilder};
 use std::alloc::Global;
 
-/// A reader that stands before a file's first record, the header. It passes over one byte order mark.
+/// A reader that stands before a file's first record, the header. It passes over a byte order mark at the front.
 pub(crate) fn open_records<'a>(alloc: Global, bytes: &'a [u8]) -> Reader<&'a [u8]>
     requires text { IsUtf8 bytes.now }
     requires few { length bytes.now ≤ most_file }

@@ -168,7 +168,7 @@ count_by-one (d ∷ D) apart a =
       | inr e ↦ (let here : cond {A = ℕ} (eqb d a) 1 0 ≡ 0 = rw e refl in omega (arith, count_by-one D (IsDistinct-tail eqb d D apart) a))
     ]
 
--- at most as many of different keys are in A as A has elements
+-- if D has different keys, at most as many of them are in A as A has elements
 pub count_by-is_in : (D : List ℕ) → IsDistinct eqb D → (A : List ℕ) → count_by (is_in A) D ≤ length A
 count_by-is_in D apart [] = omega (arith, sum_by-nothing (λ d. 0) D (everywhere (λ d. 0 ≡ 0) (λ d. refl) D))
 count_by-is_in D apart (a ∷ A) =

@@ -10,7 +10,7 @@ use Rattle.degree_sequences.proofs.Places.{count_by-degree, count_by-passing}
 use Rattle.degree_sequences.specs.Domination.{DominatesKeys, DominatesWeights}
 use Rattle.degree_sequences.specs.Falling.{IsFalling}
 
--- the degrees sum to the number of places
+-- the degrees sum to the number of places in the list of keys
 pub sum-degree_list : (L : List ℕ) → sum (degree_list L) ≡ length L
 sum-degree_list L =
     let D : List ℕ = different L in

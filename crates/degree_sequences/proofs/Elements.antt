@@ -26,7 +26,7 @@ compressed_from-element k f (suc n) m (suc r) within =
     (λ e h. rw (sym both) (compressed_from-element k f n (m + next) r (omega arith)))
     (λ e h. absurd (omega arith)) within
 
--- before each element that follows a sum of m, the sum so far is below f's sum
+-- before each of the elements that follow a sum of m, the sum so far is below f's sum
 pub compressed_from-goes_on : (k : ℕ) (f : List ℕ) (n m r : ℕ) → r < length (compressed_from k f n m) → m + running_sum (compressed_from k f n m) r < sum f
 compressed_from-goes_on k f zero m r within = absurd (omega arith)
 compressed_from-goes_on k f (suc n) m zero within =

@@ -1,4 +1,4 @@
--- Lists that are known by their running sums: the lesser of two, and a list cut at a number.
+-- Lists that are given by their running sums: the lesser of two lists, and a list cut at a number.
 use Rattle.std.proofs.Common.{List, add-zero, ap, arith, inl, inr, length, map, max, min, refl, suc, zero, ℕ, ◌+◌, ◌-◌, ◌∙◌, ◌≡◌, ◌≤◌}
 use Rattle.std.proofs.lemmas.Bool.{cases_lt}
 use Rattle.std.proofs.lemmas.List.{length-map}
@@ -9,7 +9,7 @@ use Rattle.degree_sequences.proofs.RunningSums.{running_sum-mono, running_sum-pa
 use Rattle.degree_sequences.specs.Falling.{IsFalling}
 use Rattle.degree_sequences.specs.RunningSums.{cut_at, lesser, running_sum, with_running_sums}
 
--- the steps of f from a on
+-- the first n steps of f from a on: f (a + 1) - f a, and so on
 abbrev pub steps : (ℕ → ℕ) → ℕ → ℕ → List ℕ
 steps f a n = map (λ r. f (suc r) - f r) (range_with_len a n)
 

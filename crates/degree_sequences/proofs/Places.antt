@@ -91,11 +91,11 @@ count_by-passing p (x ∷ xs) h =
     let here : cond {A = ℕ} (p x) 1 0 ≡ 1 = rw h.0 refl in
     omega (arith, here, sum_by-cons (λ y. cond (p y) 1 0) x xs, count_by-passing p xs h.1)
 
--- different numbers that are all in D are at most as many as D has
+-- if the numbers of A are different and all in D, A has at most as many numbers as D
 pub length-le-members : (A D : List ℕ) → IsDistinct eqb A → AllByRecursion (λ a. is_in D a ≡ true) A → length A ≤ length D
 length-le-members A D apart inside = omega (arith, count_by-passing (is_in D) A inside, count_by-is_in A apart D)
 
--- of different numbers below n, at most as many pass a test as of all numbers below n
+-- if the numbers of A are different and below n, at most as many of them pass a test as of all numbers below n
 pub count_by-le-places : (p : ℕ → Bool) (n : ℕ) (A : List ℕ) → IsDistinct eqb A → AllByRecursion (λ a. a < n) A → count_by p A ≤ count_by p (range_with_len 0 n)
 count_by-le-places p n A apart below =
     let R : List ℕ = range_with_len 0 n in

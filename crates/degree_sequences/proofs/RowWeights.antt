@@ -49,11 +49,11 @@ pub running_sum-weights : (total : ℕ) (cs : List ChildLists) → AllByRecursio
 running_sum-weights total cs all m h = running_sum-agree (row_weights cs total) (spreads cs total) m
     (λ k k_in. get_or-row_weights cs total k (omega arith) ∙ sym (get_or-weights total cs all k (omega arith)))
 
--- the running sum of a composition at r is that of the row weights at the parent's running sum
+-- the running sum of a composition at r is the running sum of the row weights at m, where m is the parent's running sum at r
 pub running_sum-composition : (g : List ℕ) (cs : List ChildLists) (r : ℕ) → running_sum (composed g cs) r ≡ running_sum (row_weights cs (sum g)) (running_sum g r)
 running_sum-composition g cs r = running_sum-trimmed (block_sums g (row_weights cs (sum g))) r ∙ running_sum-block_sums g (row_weights cs (sum g)) r
 
--- the running sum of a composition at r is that of `spreads` at the parent's running sum
+-- the running sum of a composition at r is the running sum of `spreads` at m, where m is the parent's running sum at r
 pub running_sum-composed : (g : List ℕ) (cs : List ChildLists) → AllByRecursion (IsChildOf (sum g)) cs → (r : ℕ) → running_sum (composed g cs) r ≡ running_sum (spreads cs (sum g)) (running_sum g r)
 running_sum-composed g cs all r = running_sum-composition g cs r ∙ running_sum-weights (sum g) cs all (running_sum g r) (running_sum-le-sum g r)
 

@@ -1,4 +1,4 @@
--- Running sums: how they grow, and what they are of lists that were cut, joined or summed in blocks.
+-- Running sums: how they grow, and the running sums of trimmed lists, of the rest of a list and of block sums.
 use Rattle.std.proofs.Common.{List, [], ap, arith, drop, get_or, length, min, refl, replicate, suc, sum, sym, zero, zero-add, ℕ, ◌+◌, ◌<◌, ◌∙◌, ◌∷◌, ◌≡◌, ◌≤◌}
 use Rattle.std.proofs.Math.Nat.{suc-add}
 use Rattle.std.proofs.lemmas.List.Sums.{sum_by-cons}
@@ -26,12 +26,12 @@ running_sum-suc [] (suc r) = refl
 running_sum-suc (x ∷ s) zero = omega arith
 running_sum-suc (x ∷ s) (suc r) = omega (arith, running_sum-suc s r)
 
--- at its length, a list sums to all of it
+-- the running sum at a list's length is the list's sum
 pub running_sum-whole : (s : List ℕ) → running_sum s (length s) ≡ sum s
 running_sum-whole [] = refl
 running_sum-whole (x ∷ s) = omega (arith, running_sum-whole s, sum_by-cons (λ (y : ℕ). y) x s)
 
--- from its length on, a list sums to all of it
+-- from a list's length on, each running sum is the list's sum
 pub running_sum-past : (s : List ℕ) (r : ℕ) → length s ≤ r → running_sum s r ≡ sum s
 running_sum-past [] zero h = refl
 running_sum-past [] (suc r) h = refl
@@ -61,7 +61,7 @@ running_sum-trimmed [] r = refl
 running_sum-trimmed (x ∷ s) zero = running_sum-onto x (trimmed s) zero
 running_sum-trimmed (x ∷ s) (suc r) = running_sum-onto x (trimmed s) (suc r) ∙ ap (λ n. x + n) (running_sum-trimmed s r)
 
--- the running sum of i + j elements is that of the first i, and then that of the next j
+-- the running sum at i + j is the running sum at i plus the running sum at j of the rest from index i on
 pub running_sum-add : (u : List ℕ) (i j : ℕ) → running_sum u (i + j) ≡ running_sum u i + running_sum (drop i u) j
 running_sum-add u zero j = simp zero-add
 running_sum-add [] (suc i) j = omega (arith, running_sum-nil (suc i + j), running_sum-nil j)

@@ -43,7 +43,7 @@ rank_product-scale c e (x ∷ s) (y ∷ t) = rw (times c x e y, rank_product-sca
     times : (c x e y : ℕ) → (c * x) * (e * y) ≡ (c * e) * (x * y)
     times c x e y = omega arith
 
--- if two lists are near other lists, their product is near the product of the others, by the products of the numbers
+-- if two lists are near other lists, their product is near the product of the others; the scales are multiplied, and so are the factors
 pub rank_product-near : (b c d e : ℕ) (s t s' t' : List ℕ) → IsFalling t → IsFalling s' → SumsAreWithin b c s' s → SumsAreWithin d e t' t
     → SumsAreWithin (b * d) (c * e) (rank_product s' t') (rank_product s t)
 rank_product-near b c d e s t s' t' ft fs' near_s near_t r =
@@ -62,7 +62,7 @@ abbrev pub stretched : ℕ → List ℕ → List ℕ
 stretched c [] = []
 stretched c (x ∷ u) = replicate c x ++ stretched c u
 
--- c times as many elements sum to c times as much
+-- the first c * m elements of a stretched list sum to c times the list's first m elements
 pub running_sum-stretched : (c : ℕ) (u : List ℕ) (m : ℕ) → running_sum (stretched c u) (c * m) ≡ c * running_sum u m
 running_sum-stretched c u zero = rw (mul-zero c) refl
 running_sum-stretched c [] (suc m) = omega (arith, running_sum-nil (c * suc m), mul-zero c)

@@ -18,7 +18,7 @@ power_within entry set has = elim (cases_lt set (2 ^ entry)) [
 pub less_without : (set entry : ℕ) → bit_at set entry ≡ 1 → set - 2 ^ entry < set
 less_without set entry has = omega (arith, power_within entry set has, pow_pos entry)
 
--- an entry of a set of entries below n is below n
+-- if the number of a set is below 2^n, each entry of the set is below n
 pub entry_below : (n set entry : ℕ) → set < 2 ^ n → bit_at set entry ≡ 1 → entry < n
 entry_below n set entry fits has = elim (cases_lt entry n) [
   | inl below ↦ below

@@ -120,7 +120,7 @@ set_entries set x k = bit_has set x (set_bits set x k)
 pub set_entries_only : (set x : ℕ) → has_entry set x ≡ true → Contains (entries_of_set set) x
 set_entries_only set x h = set_bits_only set x (has_bit set x h)
 
--- the entries of a set below 2^n are below n
+-- if the number of a set is below 2^n, each entry of the set is below n
 pub entry_below : (n subset entry : ℕ) → subset < 2 ^ n → has_entry subset entry ≡ true → entry < n
 entry_below n subset entry fits has =
     let bit : (entry < 16) × (bit_at subset entry ≡ 1) = has_bit subset entry has in

@@ -187,7 +187,7 @@ module _ (tables : Tables) (entry row : ℕ) where
   comparison_passes op.Gt column literal h = passes_range (from_value column literal) (gt_ge (value_cmp (value column) literal) h)
   comparison_passes op.Ge column literal h = passes_range (from_value column literal) (ge_ge (value_cmp (value column) literal) h)
 
-  -- the value of an operand's column, if the column is one of this entry
+  -- the value of an operand's column, if the column is a column of this entry
   column_is : (column : ColumnRef) → column.from ≡ entry → column_value tables (λ e. row) column ≡ value column.column
   column_is column same = ap (λ (from : ℕ). column_value tables (λ e. row) (record { from = from; column = column.column })) same
 

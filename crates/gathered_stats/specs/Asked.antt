@@ -40,7 +40,7 @@ or_no_column (column ∷ columns) = column ∷ columns
 abbrev pub asked_columns : ℕ → List Edge → List ℕ
 asked_columns entry es = or_no_column (joined_columns entry es)
 
--- the columns, with the place's column added at the end if the place is of the entry and the column isn't there yet
+-- the columns, with the place's column added at the end if the place is of the entry and the column isn't among the columns yet
 abbrev pub with_place : ℕ → List ℕ → Place → List ℕ
 with_place entry columns place = if place.entry == entry && not (list_any (λ column. place.column == column) columns)
     then columns ++ place.column ∷ [] else columns
@@ -65,7 +65,7 @@ is_whole step.And = false
 is_whole step.Nothing = false
 is_whole step.Or = false
 
--- the column that a step asks for, if it asks for one, is one of the table's
+-- if the step asks for a column, the column is a column of the table
 abbrev pub AsksWithin : Cells → Step → Type 0
 AsksWithin cells step = IfSome (column_asked step) (λ column. column < length cells.kinds)
 

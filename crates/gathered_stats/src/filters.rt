@@ -12,7 +12,7 @@ use csv_tables::{Cells, Pool};
 use predicate_bounds::Step;
 use std::alloc::Global;
 
-/// A sorted filter column. `column` is its number in its table.
+/// A sorted filter column. `column` is the column's number in its table.
 #[derive(Drop)]
 pub(crate) struct Filter<'a> {
     pub column: u32,
