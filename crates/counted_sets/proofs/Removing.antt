@@ -1,4 +1,4 @@
--- Removing items: the counts stay right, and no consistent set loses an item.
+-- Removing items: the counts of uses that give a slot stay right, and no consistent set loses an item.
 use Rattle.std.proofs.Common.{◌≡◌, ℕ, zero, suc, ◌+◌, ◌-◌, ◌<◌, ◌≤◌, Bool, true, false, List, [], ◌∷◌, ◌++◌, length, get_or, set, refl, ap, sym, ◌∙◌, subst, arith, inl, inr}
 use Rattle.std.specs.Prelude.{◌⊎◌, ◌==◌, replicate}
 use Rattle.std.specs.List.{Contains}

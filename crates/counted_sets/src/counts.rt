@@ -1,4 +1,4 @@
-//! Counts how often each slot is given, and lists the slots whose count is 0.
+//! Counts how many uses give each slot, and lists the slots whose count is 0. A use says that an item gives one slot and needs another one.
 ghost use Rattle.std.specs.Prelude.{◌≡◌, ◌==◌, ◌+◌, ◌-◌, ◌^◌, ◌<◌, ◌≤◌, ℕ, All, IfOk, length, slice_index, slice_set, true};
 ghost use Rattle.counted_sets.specs.Chains.{AreUseChains};
 ghost use Rattle.counted_sets.specs.Counts.{EmptySlotsAreListed, Extends, IsWorkOf, item_at, supply};

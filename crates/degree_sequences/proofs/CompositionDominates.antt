@@ -48,7 +48,7 @@ keys_dominated g keys dom B apart below E apart_E =
       dom E apart_E,
     )
 
--- for one child, its class list spread over its column dominates the class weights of the rows
+-- for one child, its class list spread over its column (element r as often as the column says) dominates the class weights of the rows
 pub child_dominates : (n : ℕ) (c : ChildLists) (k : ChildKeys) → DominatesChild n c k
     → DominatesWeights (spread c.column c.class) (λ i. cond (ltb i n) (k.weight (get_or k.keys i 0)) 0)
 child_dominates n c k d A apart =

@@ -1,4 +1,4 @@
--- A compressed list has few runs: each new head is below k / (k + 1) of the head before it.
+-- A compressed list has few runs: each new head (`next_head`) is below k / (k + 1) of the head before it.
 use Rattle.std.proofs.Common.{List, [], ap, arith, cond, eqb, get_or, inl, inr, length, min, refl, suc, sum, sym, zero, zero-add, ℕ, ◌*◌, ◌+◌, ◌-◌, ◌<◌, ◌^◌, ◌∙◌, ◌∷◌, ◌≡◌, ◌≤◌}
 use Rattle.std.proofs.Math.Nat.{add-mul, mul-add, mul-le-mul, mul-le-mul_left, mul-le-mul_right, mul-pos, mul-suc, mul-zero, mul_assoc, mul_comm, one-le-pow, one-mul, pow-suc, pow-zero, suc-mul}
 use Rattle.std.proofs.lemmas.Bool.{cases_lt, cond_both, eq-eqb, le-ltb, lt-ltb}

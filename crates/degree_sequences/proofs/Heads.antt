@@ -1,4 +1,4 @@
--- The heads of a list: each head is at or above its element, and near it.
+-- The heads of a list (`heads`): each head is at or above its element, and near it.
 use Rattle.std.proofs.Common.{List, [], arith, get_or, inl, inr, ltb, refl, suc, zero, ℕ, ◌*◌, ◌+◌, ◌<◌, ◌∷◌, ◌≡◌, ◌≤◌, ◌⊎◌}
 use Rattle.std.proofs.Math.Nat.{add-mul, mul-le-mul_left, mul-le-mul_right, mul-zero}
 use Rattle.std.proofs.lemmas.Bool.{cases_lt, cond_both, ltb-false, ltb-true}

@@ -15,7 +15,7 @@ use Rattle.degree_sequences.specs.Families.{ChildIsAbove, ColumnFalls, IsChildOf
 use Rattle.degree_sequences.specs.Rank.{rank}
 use Rattle.degree_sequences.specs.RunningSums.{IsAbove, running_sum}
 
--- the weights of the rows 1 to n as a product: for each child, its class list spread over its column
+-- the weights of the rows 1 to n as a product: for each child, its class list spread over its column (element r as often as the column says)
 abbrev pub spreads : List ChildLists → ℕ → List ℕ
 spreads [] n = replicate n 1
 spreads (c ∷ cs) n = rank_product (spreads cs n) (spread c.column c.class)

@@ -1,4 +1,5 @@
--- If the answers of two kinds are related for each comparison, they are related for the conjuncts of an entry.
+-- If answers of two kinds (lists, numbers of rows or tests of a row) are related for each comparison, they are related for the conjuncts of an
+-- entry.
 use Rattle.std.proofs.Common.{◌≡◌, ℕ, Bool, true, false, List, [], ◌∷◌, ◌++◌, map, Option, None, Some, refl, ap, sym, ◌∙◌, subst}
 use Rattle.std.specs.List.{AllZip}
 use Rattle.csv_tables.specs.Values.{Value}

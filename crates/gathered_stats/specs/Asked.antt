@@ -1,4 +1,5 @@
--- What is asked of an entry's table: its joined columns, and the columns that steps compare with literals.
+-- What is asked of an entry's table: its joined columns, and the columns that steps compare with literals. A step is a comparison of an own
+-- conjunct, an AND or an OR (`predicate_bounds`).
 use Rattle.std.specs.Prelude.{◌≡◌, ℕ, Bool, true, false, ◌==◌, ◌<◌, ◌^◌, ◌&&◌, not, if◌then◌else◌, slice_index_or}
 use Rattle.std.specs.Prelude.{All, List, [], ◌∷◌, ◌++◌, map, length, Option, None, Some, IfSome}
 use Rattle.std.specs.List.{filter, list_any}

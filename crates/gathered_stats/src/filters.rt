@@ -1,4 +1,5 @@
-//! The filter columns of an entry: the columns that its own conjuncts compare with literals, each sorted once.
+//! The filter columns of an entry: the columns that its own conjuncts compare with literals, each sorted once. A step is a comparison of an own
+//! conjunct, an AND or an OR (`predicate_bounds`).
 ghost use Rattle.std.specs.Prelude.{◌≡◌, ◌<◌, ℕ, List, All, length, true, IfOk, OnOk};
 ghost use Rattle.predicate_bounds.specs.declared.steps.Step.{Step};
 ghost use Rattle.sql_meaning.specs.Databases.{AreCells};
