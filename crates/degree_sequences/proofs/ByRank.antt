@@ -9,7 +9,7 @@ use Rattle.degree_sequences.specs.ByRank.{rank_maximum, rank_product, rank_produ
 use Rattle.degree_sequences.specs.Falling.{IsFalling}
 use Rattle.degree_sequences.specs.RunningSums.{IsAbove, running_sum}
 
--- each element is the product of the two
+-- each element of a product is the product of the two elements of its rank
 pub get_or-rank_product : (a b : List ℕ) (i : ℕ) → get_or (rank_product a b) i 0 ≡ get_or a i 0 * get_or b i 0
 get_or-rank_product [] b i = sym (zero-mul (get_or b i 0))
 get_or-rank_product (x ∷ a) [] i = sym (mul-zero (get_or (x ∷ a) i 0))
@@ -31,7 +31,7 @@ pub IsFalling-rank_product_with : (s : List ℕ) (ss : List (List ℕ)) → IsFa
 IsFalling-rank_product_with s [] f all = f
 IsFalling-rank_product_with s (t ∷ ts) f all = IsFalling-rank_product s (rank_product_with t ts) f (IsFalling-rank_product_with t ts all.0 all.1)
 
--- the law for two lists
+-- the product of two lists is monotone: if both lists are above other lists, their product is above the product of the other lists
 pub rank_product-above : (s t s' t' : List ℕ) → IsFalling t → IsFalling s' → IsAbove s s' → IsAbove t t' → IsAbove (rank_product s t) (rank_product s' t')
 rank_product-above s t s' t' ft fs' above_s above_t n =
     let at_s : ℕ → ℕ = λ r. get_or s r 0 in
@@ -64,7 +64,7 @@ rank_product_of-above [] (t ∷ ts) fss fts all = absurd all
 rank_product_of-above (s ∷ ss) [] fss fts all = absurd all
 rank_product_of-above (s ∷ ss) (t ∷ ts) fss fts all = rank_product_with-above s ss t ts fss.0 fss.1 fts.0 fts.1 all.0 all.1
 
--- the running sums of a sum are the sums
+-- the running sums of a rank-wise sum are the sums of the two running sums
 pub running_sum-rank_sum : (s t : List ℕ) (r : ℕ) → running_sum (rank_sum s t) r ≡ running_sum s r + running_sum t r
 running_sum-rank_sum s t zero = refl
 running_sum-rank_sum [] t (suc r) = omega arith
@@ -76,14 +76,14 @@ pub IsFalling-rank_sum : (s t : List ℕ) → IsFalling s → IsFalling t → Is
 IsFalling-rank_sum s t fs ft = IsFalling-from_sums (rank_sum s t)
     (λ r. omega (arith, running_sum-rank_sum s t r, running_sum-rank_sum s t (suc r), running_sum-rank_sum s t (suc (suc r)), sums_fall s fs r, sums_fall t ft r))
 
--- each element is the sum of the two
+-- each element of a sum is the sum of the two elements of its rank
 pub get_or-rank_sum : (s t : List ℕ) (r : ℕ) → get_or (rank_sum s t) r 0 ≡ get_or s r 0 + get_or t r 0
 get_or-rank_sum [] t r = omega arith
 get_or-rank_sum (x ∷ s) [] r = omega arith
 get_or-rank_sum (x ∷ s) (y ∷ t) zero = refl
 get_or-rank_sum (x ∷ s) (y ∷ t) (suc r) = get_or-rank_sum s t r
 
--- and so are all elements together
+-- all elements of a rank-wise sum together are the sum of both lists' sums
 pub sum-rank_sum : (s t : List ℕ) → sum (rank_sum s t) ≡ sum s + sum t
 sum-rank_sum [] t = omega arith
 sum-rank_sum (x ∷ s) [] = omega arith
@@ -96,7 +96,7 @@ sum-rank_sum (x ∷ s) (y ∷ t) =
       sum_by-cons (λ (z : ℕ). z) (x + y) (rank_sum s t),
     )
 
--- each element is the greater of the two
+-- each element of a maximum is the greater of the two elements of its rank
 pub get_or-rank_maximum : (s t : List ℕ) (r : ℕ) → get_or (rank_maximum s t) r 0 ≡ max (get_or s r 0) (get_or t r 0)
 get_or-rank_maximum [] t r = omega arith
 get_or-rank_maximum (x ∷ s) [] r = omega arith

@@ -1,4 +1,4 @@
--- A degree list has one row for each place of the keys, and dominates them.
+-- A degree list sums to the number of places in its list of keys, and dominates the keys.
 use Rattle.std.proofs.Common.{List, arith, length, map, sum, true, ℕ, ◌≡◌, ◌≤◌}
 use Rattle.std.proofs.lemmas.List.Sums.{sum-map}
 use Rattle.std.specs.List.{count_by}
@@ -10,7 +10,7 @@ use Rattle.degree_sequences.proofs.Places.{count_by-degree, count_by-passing}
 use Rattle.degree_sequences.specs.Domination.{DominatesKeys, DominatesWeights}
 use Rattle.degree_sequences.specs.Falling.{IsFalling}
 
--- the degrees sum to the number of places
+-- the degrees sum to the number of places in the list of keys
 pub sum-degree_list : (L : List ℕ) → sum (degree_list L) ≡ length L
 sum-degree_list L =
     let D : List ℕ = different L in
@@ -37,16 +37,16 @@ degree_list_dominates L A apart =
       running_sum-mono (degree_list L) (count_by (is_in A) D) (length A) (count_by-is_in D (IsDistinct-different L) A),
     )
 
--- a list that dominates keys has no smaller sum than there are places
+-- a list that dominates keys sums to at least the number of their places
 pub places_fit : (s L : List ℕ) → DominatesKeys s L → length L ≤ sum s
 places_fit s L dom =
     let D : List ℕ = different L in
     omega (arith, count_by-passing (is_in D) L (is_in-different L), dom D (IsDistinct-different L), running_sum-le-sum s (length D))
 
--- of different keys, the degrees are a weight that a list that dominates the keys dominates
+-- a list that dominates keys dominates their degrees as weights
 pub degrees_dominated : (s L : List ℕ) → DominatesKeys s L → DominatesWeights s (degree L)
 degrees_dominated s L dom A apart = omega (arith, count_by-degree L A apart, dom A apart)
 
--- and a list that dominates the degrees of the keys dominates the keys
+-- a list that dominates the degrees of keys as weights dominates the keys
 pub keys_dominated : (s L : List ℕ) → DominatesWeights s (degree L) → DominatesKeys s L
 keys_dominated s L dom A apart = omega (arith, count_by-degree L A apart, dom A apart)

@@ -1,4 +1,4 @@
--- Lists that are known by their running sums: the lesser of two, and a list cut at a number.
+-- Lists that are given by their running sums: the lesser of two lists, and a list cut at a number.
 use Rattle.std.proofs.Common.{List, add-zero, ap, arith, inl, inr, length, map, max, min, refl, suc, zero, ℕ, ◌+◌, ◌-◌, ◌∙◌, ◌≡◌, ◌≤◌}
 use Rattle.std.proofs.lemmas.Bool.{cases_lt}
 use Rattle.std.proofs.lemmas.List.{length-map}
@@ -9,11 +9,11 @@ use Rattle.degree_sequences.proofs.RunningSums.{running_sum-mono, running_sum-pa
 use Rattle.degree_sequences.specs.Falling.{IsFalling}
 use Rattle.degree_sequences.specs.RunningSums.{cut_at, lesser, running_sum, with_running_sums}
 
--- the steps of f from a on
+-- the first n steps of f from a on: f (a + 1) - f a, and so on
 abbrev pub steps : (ℕ → ℕ) → ℕ → ℕ → List ℕ
 steps f a n = map (λ r. f (suc r) - f r) (range_with_len a n)
 
--- the steps of a function sum to the function
+-- the first r steps of f from a on lead from f a to f (a + r)
 pub running_sum-steps : (f : ℕ → ℕ) → ((r : ℕ) → f r ≤ f (suc r)) → (a n r : ℕ) → r ≤ n → f a + running_sum (steps f a n) r ≡ f (a + r)
 running_sum-steps f up a n zero h = simp add-zero
 running_sum-steps f up a zero (suc r) h = absurd (omega arith)
@@ -23,11 +23,11 @@ running_sum-steps f up a (suc n) (suc r) h =
     let there : a + 1 + r ≡ a + suc r = omega arith in
     omega (arith, ih, ap f here, ap f there, up a)
 
--- such a list has its length
+-- `with_running_sums` gives a list of n elements
 pub length-with_running_sums : (f : ℕ → ℕ) (n : ℕ) → length (with_running_sums f n) ≡ n
 length-with_running_sums f n = length-map (range_with_len 0 n) (λ r. f (suc r) - f r) ∙ length-range_with_len 0 n
 
--- f does not fall, is 0 at 0, and stays from n on
+-- if f never falls, is 0 at 0 and stays the same from n on, the list that `with_running_sums` gives has the running sums f
 pub running_sum-with_running_sums : (f : ℕ → ℕ) (n : ℕ) → ((r : ℕ) → f r ≤ f (suc r)) → f 0 ≡ 0 → ((r : ℕ) → n ≤ r → f r ≡ f n) → (r : ℕ) → running_sum (with_running_sums f n) r ≡ f r
 running_sum-with_running_sums f n up none stays r = elim (cases_lt n r) [
   | inl h ↦ (let len : length (with_running_sums f n) ≡ n = length-with_running_sums f n in
@@ -39,7 +39,7 @@ running_sum-with_running_sums f n up none stays r = elim (cases_lt n r) [
       omega (arith, part, ap f e))
 ]
 
--- running sums of `lesser`
+-- the running sums of `lesser` are the minima of the two lists' running sums
 pub running_sum-lesser : (s t : List ℕ) (r : ℕ) → running_sum (lesser s t) r ≡ min (running_sum s r) (running_sum t r)
 running_sum-lesser s t r =
     let n : ℕ = max (length s) (length t) in
@@ -51,7 +51,7 @@ running_sum-lesser s t r =
     (λ r h. omega (arith, running_sum-past s r (omega arith), running_sum-past t r (omega arith), running_sum-past s n (omega arith), running_sum-past t n (omega arith)))
     r
 
--- running sums of `cut_at`
+-- the running sums of `cut_at` are the minima of the list's running sums and n
 pub running_sum-cut_at : (s : List ℕ) (n r : ℕ) → running_sum (cut_at s n) r ≡ min (running_sum s r) n
 running_sum-cut_at s n r =
     let f : ℕ → ℕ = λ r. min (running_sum s r) n in

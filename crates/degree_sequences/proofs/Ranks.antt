@@ -1,4 +1,4 @@
--- The rank of a row is the least whose running sum reaches it.
+-- The rank of row t is the least rank whose running sum is at least t.
 use Rattle.std.proofs.Common.{List, [], arith, inl, inr, leb, suc, sum, zero, ℕ, ◌+◌, ◌-◌, ◌<◌, ◌∷◌, ◌≤◌}
 use Rattle.std.proofs.lemmas.Bool.{cases_lt, cond_both, leb-false, leb-true}
 use Rattle.std.proofs.lemmas.List.Sums.{sum_by-cons}
@@ -12,7 +12,7 @@ rank_reaches (x ∷ s) t h = cond_both (leb t x) 1 (suc (rank s (t - x))) (λ r.
     (λ e. omega (arith, leb-true t x e))
     (λ e. omega (arith, leb-false t x e, sum_by-cons (λ (y : ℕ). y) x s, rank_reaches s (t - x) (omega (arith, h, sum_by-cons (λ (y : ℕ). y) x s))))
 
--- fewer elements than the rank sum to less
+-- fewer elements than the rank of row t sum to less than t
 pub rank_least : (s : List ℕ) (t j : ℕ) → 0 < t → j < rank s t → running_sum s j < t
 rank_least s t zero pos h = pos
 rank_least [] t (suc j) pos h = absurd (omega arith)

@@ -13,9 +13,9 @@ use Rattle.filtered_lists.specs.Standing.{ListsFall, SumTo}
 use Rattle.filtered_lists.proofs.Trimmed.{lesser_self}
 use Rattle.filtered_lists.proofs.Related.{filtered_related}
 
--- ---- running sums
+-- ---- the running sums of a filtered list
 
--- the running sums of lists at a rank
+-- the running sums of all lists at rank r, as numbers of rows
 abbrev pub running_sums : ColumnLists → ℕ → RowCounts
 running_sums lists r = record {
   whole = running_sum lists.whole r;
@@ -23,7 +23,7 @@ running_sums lists r = record {
   range = λ range. running_sum (lists.range range) r;
 }
 
--- those of the filtered list are put together in the same way
+-- the running sum of the filtered list at rank r is the row bound that these running sums give
 pub running_sum-filtered : (lists : ColumnLists) (r entry : ℕ) (conjuncts : List Cond)
     → running_sum (filtered_list lists entry conjuncts) r ≡ row_bound (running_sums lists r) entry conjuncts
 running_sum-filtered lists r =
@@ -36,7 +36,7 @@ running_sum-filtered lists r =
       either = λ s t m n h k. running_sum-rank_sum s t r ∙ omega (arith, h, k);
     })
 
--- ---- sums
+-- ---- the sum of a filtered list
 
 -- a rank beyond the ends of three lists
 past : (s t u : List ℕ) → ℕ
@@ -62,7 +62,7 @@ sum-filtered lists counts entry conjuncts h =
 
 -- ---- falling lists
 
--- where the lists fall, the filtered list falls
+-- if the lists fall, the filtered list falls
 pub filtered_falls : (lists : ColumnLists) (entry : ℕ) (conjuncts : List Cond) → ListsFall lists → IsFalling (filtered_list lists entry conjuncts)
 filtered_falls lists entry conjuncts h =
     filtered_related (List ℕ) (List ℕ) (λ s t. IsFalling s) (list_answers lists) (list_answers lists) (record {
@@ -74,7 +74,7 @@ filtered_falls lists entry conjuncts h =
       either = λ s t s' t' f g. IsFalling-rank_sum s t f g;
     }) entry conjuncts
 
--- ---- no own conjunct
+-- ---- entries without own conjuncts
 
 pub unfiltered : (lists : ColumnLists) (entry : ℕ) (conjuncts : List Cond) → own_conjuncts entry conjuncts ≡ [] → All (λ x. 0 < x) lists.whole
     → filtered_list lists entry conjuncts ≡ lists.whole
@@ -83,7 +83,7 @@ unfiltered lists entry conjuncts none positive = rw none (lesser_self lists.whol
 pub unfiltered_rows : (counts : RowCounts) (entry : ℕ) (conjuncts : List Cond) → own_conjuncts entry conjuncts ≡ [] → row_bound counts entry conjuncts ≡ counts.whole
 unfiltered_rows counts entry conjuncts none = rw none (omega arith)
 
--- ---- within the whole
+-- ---- the filtered list is at most the list of all rows
 
 pub filtered_within : (lists : ColumnLists) (entry : ℕ) (conjuncts : List Cond) → IsAbove lists.whole (filtered_list lists entry conjuncts)
 filtered_within lists entry conjuncts r = omega (arith, running_sum-filtered lists r entry conjuncts)

@@ -15,12 +15,12 @@ use Rattle.filtered_lists.specs.Lists.{ColumnLists, list_answers}
 use Rattle.filtered_lists.specs.Filters.{Conjunction, and_answer, one_conjunction, conjunction_of, conjunction_step}
 use Rattle.filtered_lists.proofs.Parts.{of_and, of_or, of_not, of_compare}
 
--- a comparison of the entry's columns alone
+-- the list for one comparison that names entry 0 alone
 pub one : (lists : ColumnLists) (o : Op) (left right : Operand) → are_just (entries_of_operand left ++ entries_of_operand right) 0 ≡ true
     → list_where lists (Compare o left right) ≡ lesser (and_answer (list_answers lists) (one_conjunction (conjunction_step (list_answers lists) (layer.Compare o left right) true ∷ []))) lists.whole
 one lists o left right named = rw (entries_compare o left right, named, of_compare (list_answers lists) o left right true) refl
 
--- a comparison with columns of other entries
+-- the list for one comparison that doesn't name entry 0 alone
 pub other : (lists : ColumnLists) (o : Op) (left right : Operand) → are_just (entries_of_operand left ++ entries_of_operand right) 0 ≡ false
     → list_where lists (Compare o left right) ≡ lesser lists.whole lists.whole
 other lists o left right named = rw (entries_compare o left right, named) refl

@@ -1,4 +1,4 @@
--- Rest lists that are kept, and the values that have them.
+-- The rest lists that are kept, and the values that have the rest list.
 use Rattle.std.proofs.Common.{◌≡◌, ℕ, Bool, true, false, eqb, List, [], ◌∷◌, ◌++◌, length, Option, Some, None, refl, sym, ap, ◌∙◌, subst}
 use Rattle.std.specs.Prelude.{if◌then◌else◌}
 use Rattle.std.specs.List.{All, list_any, zip}
@@ -33,7 +33,7 @@ module _ (table : EntryTable) (keys : List ℕ) (column : ℕ) (sorted : CellCol
       ∙ sym (of_others table.accuracy (zip sorted.cells keys) v
       (ap (λ (s : List ℕ). list_any (λ value. eqb value v) (frequent s)) (filter_values-zip sorted.cells keys same) ∙ other))
 
--- what is kept stays what it is
+-- each kept list is still the rest list of its column after one more list is kept
 pub all_kept : (table : EntryTable) (keys : List ℕ) (column : ℕ) (old new : List RestList) → new ≡ with_rest table keys column old
     → All (IsRestOf table keys) old → All (IsRestOf table keys) new
 all_kept table keys column old new is before = subst (λ (s : List RestList). All (IsRestOf table keys) s) (sym is) (by (is_kept old column))

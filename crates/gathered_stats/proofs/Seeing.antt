@@ -1,4 +1,4 @@
--- A table's cells at rows.
+-- The cells that an entry's table shows.
 use Rattle.std.proofs.Common.{◌≡◌, ℕ, ◌<◌, Bool, true, false, cond, List, [], ◌∷◌, length, map, get_or, refl, ap, sym, subst, arith}
 use Rattle.std.specs.List.{All}
 use Rattle.std.proofs.lemmas.List.{get_or-map, length-map}
@@ -9,7 +9,7 @@ use Rattle.sql_meaning.specs.Databases.{AreCells}
 use Rattle.gathered_stats.specs.declared.entry_table.EntryTable.{EntryTable}
 use Rattle.gathered_stats.specs.Seen.{AreRowNumbersOf, cells_at, picked, seen}
 
--- rows have the kinds of their table
+-- a table shows columns of the same kinds, with all its rows or with some
 pub seen_kinds : (table : EntryTable) → (seen table).kinds ≡ table.cells.now.kinds
 seen_kinds table = by table.whole
   where
@@ -24,7 +24,7 @@ whole_seen table whole = ap (λ (b : Bool). cond b table.cells.now (cells_at tab
 pub rows_seen : (table : EntryTable) → table.whole ≡ false → seen table ≡ cells_at table.rows.now table.cells.now
 rows_seen table rows = ap (λ (b : Bool). cond b table.cells.now (cells_at table.rows.now table.cells.now)) rows
 
--- ---- cells at rows are in order
+-- ---- the cells at given rows are cells of their columns' kinds
 
 pub picked_cells : (texts : List (List ℕ)) (kind : Kind) (column : List ℕ) → All (IsCell texts kind) column → (rows : List ℕ) → All (λ row. row < length column) rows
     → All (IsCell texts kind) (picked rows column)
