@@ -16,7 +16,7 @@ use Rattle.sql_meaning.specs.Tables.{Tables, row_counts}
 use Rattle.level_bounds.specs.Scans.{filters_of, query_scan}
 use Rattle.level_bounds.proofs.Lists.{from_filter, in_filter, in_range, range_within}
 
--- one definition says so for both
+-- the planner and the meaning of SQL use one definition
 pub names_alike : (tables : Tables) (entry : ℕ) (cond : Cond) → names_just_it (conjunct_of tables cond) entry ≡ names_just entry cond
 names_alike tables entry cond = refl
 
@@ -36,10 +36,10 @@ scan_by_own query tables entry =
     filter_agree (λ row. list_all (λ c. not (names_just_it c entry) || c.holds (λ e. row)) (conjuncts_of query tables))
     (λ row. list_all (cond_holds tables (λ e. row)) (filters_of query entry)) (λ row. own_hold tables entry row query.conjuncts) (range_with_len 0 (row_counts tables entry))
 
--- ---- by the numbers of the conjuncts
+-- ---- own conjuncts by their numbers
 
 module _ (own passes : Cond → Bool) where
-  -- each condition that is own passes
+  -- each own condition passes
   abbrev EachOwn : List Cond → Type 0
   EachOwn conds = (k : ℕ) → IsSomeAnd (slice_get conds k) (λ cond. IsTrue (own cond)) → IsSomeAnd (slice_get conds k) (λ cond. IsTrue (passes cond))
 

@@ -34,14 +34,14 @@ pub record Meets (first second : Reading) : Type 0 where
   pub faults : first.faults_after ≡ second.faults_before
   pub misses : first.misses_after ≡ second.misses_before
 
--- a value of the first stage leaves what the second gives
+-- if the first stage gives a value, both stages together give what the second gives for this value
 at_ok : {A B : Type 0} (r : Result A Refusal) (f : A → Result B Refusal) (x : A) → r ≡ Ok x → (r >>= f) ≡ f x
 at_ok r f x e = rw e refl
 
 at_err : {A B : Type 0} (r : Result A Refusal) (f : A → Result B Refusal) (s : Refusal) → r ≡ Err s → (r >>= f) ≡ Err s
 at_err r f s e = rw e refl
 
--- what the first stage misses, both miss
+-- if both stages together miss no file, the first misses no file
 misses_first : {A B : Type 0} (r : Result A Refusal) (f : A → Result B Refusal) → MissesNothing (r >>= f) → MissesNothing r
 misses_first r f h file e = h file (at_err r f (refusal.Missing file) e)
 
@@ -127,7 +127,7 @@ module _ {A B : Type 0} (store : Reading) (one : OfFiles A) (next : A → Result
       ends (ending.Fault file) w = absurd w
       ends ending.NoMemory w = tt
 
--- a step that reads, with another name for its stage
+-- what a step that reads promises by one stage, it promises by an equal stage
 pub reads_as : {A : Type 0} (store : Reading) (one two : OfFiles A) (C D : Places) (answer : Result A Ending) → ((files : Files) → two files ≡ one files)
     → ((files : Files) (file : FileId) → C files file → D files file) → Reads store one C answer → Reads store two D answer
 reads_as {A} store one two C D answer same more h = record {
