@@ -69,8 +69,7 @@ fn part_of(cond: &Cond) -> Part
     }
 }
 
-// Whether `a` and `b` are both the own conjuncts of the same entry, or both the part of all others. If one of them is an equality, the result is
-// false.
+// Whether `a` and `b` are both the own conjuncts of the same entry, or both the part of all others. If one of them is an equality, the result is false.
 fn is_alike(a: Part, b: Part) -> bool
     ensures { result ≡ is_alike a b }
 {

@@ -1,5 +1,4 @@
--- Lists can be made of cells at some rows, and of another entry's cells at the rows beside them. They are the lists that are made of the values
--- there.
+-- Lists can be made of cells at some rows, and of another entry's cells at the rows beside them. They are the lists that are made of the values there.
 use Rattle.std.proofs.Common.{◌≡◌, ℕ, ◌<◌, List, [], length, map, get_or, pos, Option, ap, sym, ◌∙◌, subst, arith}
 use Rattle.std.specs.Prelude.{slice_index_or}
 use Rattle.std.specs.List.{All, zip}

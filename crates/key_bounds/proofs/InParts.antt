@@ -1,5 +1,4 @@
--- Bounds by carried conjuncts are the same in a set as in a part of it: a carrier is joined with the entry to which it carries, so both are in one
--- part.
+-- Bounds by carried conjuncts are the same in a set as in a part of it: a carrier is joined with the entry to which it carries, so both are in one part.
 use Rattle.std.proofs.Common.{◌≡◌, ℕ, ◌<◌, ◌≤◌, Bool, true, false, not, ◌&&◌, cond, eqb, List, [], ◌∷◌, length, get_or, refl, ap, sym, ◌∙◌, subst, arith, inl, inr}
 use Rattle.std.specs.Prelude.{if◌then◌else◌, nat_lt}
 use Rattle.std.specs.List.{Contains, filter}

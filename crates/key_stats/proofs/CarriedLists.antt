@@ -1,5 +1,4 @@
--- Carried lists dominate the keys of the rows that refer to a row of the carrier's scan, and carried row bounds are at least the number of these
--- rows.
+-- Carried lists dominate the keys of the rows that refer to a row of the carrier's scan, and carried row bounds are at least the number of these rows.
 use Rattle.std.proofs.Common.{◌≡◌, ◌↔◌, ℕ, ◌+◌, ◌<◌, ◌≤◌, Bool, true, cond, List, [], ◌∷◌, length, map, get_or, pos, Option, None, Some, option_map, refl, ap, sym, ◌∙◌, subst, sum, arith, inl, inr}
 use Rattle.std.specs.List.{Contains, cons_option, filter, filter_map, range_with_len}
 use Rattle.std.proofs.Math.ListN.{get_or-map as default_map}

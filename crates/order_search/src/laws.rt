@@ -21,8 +21,7 @@ pub fn one_best_order()
     ensures one { (bounds : List ℕ) (n : ℕ) (a b : List ℕ) → IsBest bounds n a → IsBest bounds n b → a ≡ b }
 {}
 
-/// If the best order costs at most the budget, no refusal other than `NoMemory` has a cause. In any case at most one refusal other than `NoMemory`
-/// has a cause.
+/// If the best order costs at most the budget, no refusal other than `NoMemory` has a cause. In any case at most one refusal other than `NoMemory` has a cause.
 pub fn one_answer()
     ensures accepted { (bounds : List ℕ) (n budget : ℕ) (best : List ℕ) (e : PlanError) → budget ≤ greatest_budget
         → IsBest bounds n best → cost bounds best ≤ budget → IsCause bounds n budget e → e ≡ error.NoMemory }

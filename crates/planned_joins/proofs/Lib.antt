@@ -7,9 +7,8 @@
 -- - Pointwise, then `less_room`: the sizes of lists and levels are `map`s over ranges, so `size_at` and `size_count` of join_steps
 --   (WholeScans), `level_size` and `level_count` of hash_join (PlanRooms) and one lemma on two lists (`zip_each`) give `AllZip ◌≤◌`; the
 --   rest is reserve_plan's `less_room`, and for the lists of whole scans `less_buffers`. Nothing here looks into a buffer.
--- - `ready` is a clause over any lists: what is reserved knows none, so `reserve_plan` requires only that the plan is one over some lists,
---   and whoever joins says over which.
--- - `plan.order.as_slice()` is a new value with one equation: `subst` it in each `requires`, and `rw (..) at c.reserve.ensures` once for
---   the exit.
+-- - `ready` is a clause over any lists, since buffers are reserved before the lists are known. `reserve_plan` requires only that the plan is a plan
+--   over some lists, and the caller that joins says over which lists.
+-- - `plan.order.as_slice()` is a new value with one equation: `subst` it in each `requires`, and `rw (..) at c.reserve.ensures` once for the exit.
 
 pub mod Enough

@@ -34,7 +34,7 @@ use Rattle.planning.specs.ListedBounds.{set_bounds_over}
 use Rattle.planning.specs.ReducedExamples.{along, by_region, chain_tables, empty_first, never_true, region_tables, with_another}
 use Rattle.planning.specs.Plans.{planned_over, planned_reduced}
 
--- ---- from equalities, scans and bounds to what is computed of them
+-- ---- reduced scans and plans, from computed equalities, scans and bounds
 
 pub reduced_from : (query : Query) (tables : Tables) (es : List Edge) (scans : List (List ℕ)) → equalities_of query ≡ es → scans_of query tables ≡ scans
     → reduced_of query tables ≡ after_rounds es (are_equal_at tables) (rows_in_all scans + 1) scans
