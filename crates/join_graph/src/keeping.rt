@@ -61,7 +61,7 @@ fn first_of_turn(edges: &[Edge], subset: EntrySet, turn: u32) -> usize
     edges.len()
 }
 
-// Each entry's part before any equality is kept: the entry alone, named by the entry's number. A part is some entries that kept equalities connect.
+// Each entry's part before any equality is kept: the entry alone, named by the entry's number. A part is a group of entries that kept equalities connect.
 fn own_names() -> [u8; ENTRIES]
     ensures { (x : ℕ) → x < 16 → slice_index result x ≡ x }
 {

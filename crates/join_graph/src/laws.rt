@@ -64,7 +64,8 @@ pub fn examples()
     ensures seventeen_turns { turn_count 3 seventeen ≡ 16 }
 {}
 
-/// AND, OR and NOT don't join entries, and neither does = with a literal, or between two columns of one entry. Between columns of two entries, = joins them.
+/// AND, OR and NOT don't join entries, and neither does = with a literal, or between two columns of one entry. Between columns of two entries,
+/// = joins them.
 pub fn what_joins_entries()
     ensures under_and { (members : List Cond) → equality_of (cond.And members) ≡ None }
     ensures under_or { (members : List Cond) → equality_of (cond.Or members) ≡ None }

@@ -14,7 +14,8 @@ use join_steps::{cells_of_column, texts_are_different};
 use query_types::ColumnRef;
 use std::alloc::Global;
 
-/// `rows` has the rows of an entry that refer to a row of another entry, in file order. `others` has, for each of them, the row to which it refers.
+/// `rows` has the rows of an entry that refer to a row of another entry, in file order. `others` has, for each of them, the row to which it
+/// refers.
 #[derive(Drop)]
 pub struct Widened {
     pub rows: Vec<u32>,

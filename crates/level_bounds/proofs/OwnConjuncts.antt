@@ -16,7 +16,7 @@ use Rattle.sql_meaning.specs.Tables.{Tables, row_counts}
 use Rattle.level_bounds.specs.Scans.{filters_of, query_scan}
 use Rattle.level_bounds.proofs.Lists.{from_filter, in_filter, in_range, range_within}
 
--- the planner and the meaning of SQL use one definition
+-- the planner and the meaning of SQL have one definition of an entry's own conjuncts
 pub names_alike : (tables : Tables) (entry : ℕ) (cond : Cond) → names_just_it (conjunct_of tables cond) entry ≡ names_just entry cond
 names_alike tables entry cond = refl
 

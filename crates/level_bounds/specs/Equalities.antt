@@ -1,4 +1,4 @@
--- When an equality follows from one of some conjuncts. The conjuncts may be any.
+-- When an equality follows from one conjunct of a list. The conjuncts are any conditions on rows, not only those of a query.
 use Rattle.std.specs.Prelude.{◌≡◌, ℕ, ◌<◌, true, List, [], ◌∷◌}
 use Rattle.std.specs.List.{Contains}
 use Rattle.berge_tree.specs.declared.edges.Edge.{Edge}

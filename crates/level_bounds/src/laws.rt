@@ -61,7 +61,8 @@ pub fn cells_are_keys()
     ensures texts { (texts : List (List ℕ)) → All IsUtf8 texts → AreDifferentTexts texts → HaveDifferentCharacters texts }
 {}
 
-/// A list of different entries is an order of their set, and so is each prefix of the list. If it has all n entries, it is an order of all entries.
+/// A list of different entries is an order of their set, and so is each prefix of the list. If it has all n entries, it is
+/// an order of all entries.
 pub fn orders_are_of_their_sets()
     ensures prefixes { (order : List ℕ) (k : ℕ) → AllByRecursion (λ entry. entry < 16) order → IsDistinct ◌==◌ order
         → IsOrderOfSet (entries_of_set (set_of (take k order))) (take k order) }
@@ -69,7 +70,8 @@ pub fn orders_are_of_their_sets()
         → IsOrderOfSet (range_with_len 0 n) order }
 {}
 
-/// A level over the entries of a set, in any order, is a list of different choices of scanned rows that satisfy all equalities of the set.
+/// A level over the entries of a set, in any order, is a list of different choices of scanned rows that satisfy all
+/// equalities of the set.
 pub fn levels_are_choices_of_scanned_rows()
     ensures satisfy { (query : Query) (tables : Tables) (key : Keys) (subset : ℕ) (order : List ℕ)
         → AreKeys tables key (equalities_in query subset) → IsOrderOfSet (entries_of_set subset) order
@@ -120,7 +122,8 @@ pub fn levels_are_of_sets()
         → length (level_of conjuncts rows order) ≡ length (level_of conjuncts rows other) }
 {}
 
-/// In any order of all entries, the outputs of the last level's choices are the rows of the query's answer, each as often as in the answer.
+/// In any order of all entries, the outputs of the last level's choices are the rows of the query's answer, each as often
+/// as in the answer.
 pub fn last_levels_are_the_answer()
     ensures tables { (query : Query) (tables : Tables) (order : List ℕ) → NamesItsEntries query → IsOrderOfSet (entries_of query) order
         → IsPermutation (map (λ choice. selected query tables (row_in order choice)) (query_level query tables order))
@@ -130,7 +133,8 @@ pub fn last_levels_are_the_answer()
         (answer query (tables_of db)) }
 {}
 
-/// The scan of an entry without own conjuncts is its whole table. Bounds from compressed degree lists of whole tables hold for these scans.
+/// The scan of an entry without own conjuncts is its whole table. Bounds from compressed degree lists of whole tables hold
+/// for these scans.
 pub fn unfiltered_scans_are_whole_tables()
     ensures whole { (query : Query) (tables : Tables) (entry : ℕ) → filters_of query entry ≡ []
         → query_scan query tables entry ≡ range_with_len 0 (row_counts tables entry) }

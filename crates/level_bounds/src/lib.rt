@@ -1,6 +1,7 @@
 //! Levels and their bounds: the laws that join what a query means with the bounds of its sets of entries.
 //!
-//! In: what a query means over its tables (`sql_meaning`), and the bound of a set of entries (`tree_bounds`). Out: laws; nothing here runs.
+//! In: what a query means over its tables (`sql_meaning`), and the bound of a set of entries (`tree_bounds`). Out: laws;
+//! nothing here runs.
 //!
 //! - If no bound of an entry is too low for its scan, no level over the entries of a set has more rows than the set's
 //!   bound. This holds in whatever order the entries are joined.

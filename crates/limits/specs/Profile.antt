@@ -43,7 +43,8 @@ most_outputs = 1024
 
 -- ---- limits of what is planned
 
--- a budget is the most rows that the bound of a level or node of a plan may say. These are the least budget, the greatest, and the default of the program
+-- a budget is the most rows that the bound of a level or node of a plan may say. These are the least budget, the greatest, and the default
+-- of the program
 abbrev pub least_budget : ℕ
 least_budget = 1
 

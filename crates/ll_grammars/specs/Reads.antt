@@ -6,8 +6,8 @@ use Rattle.ll_grammars.specs.Terminals.{among}
 use Rattle.ll_grammars.specs.Language.{Language, IsViablePrefix}
 use Rattle.ll_grammars.specs.Reading.{Parser}
 
--- what the conditions of an LL(1) grammar say of a language and its parser. `first` has the terminals with which its texts begin. `nullable` says
--- whether the empty list is a text. `more` has the terminals with which the parser goes on after a text
+-- what the conditions of an LL(1) grammar speak of, for a language and its parser. `first` has the terminals with which texts of the language begin.
+-- `nullable` says whether the empty list is a text. `more` has the terminals with which the parser goes on after a text
 pub record FirstAndFollow : Type 0 where
   pub first : List Terminal
   pub nullable : Bool

@@ -35,7 +35,7 @@ least_cost_from bounds table n least size is_table is =
 abbrev sum_weight : ℕ → List ℕ → ℕ → List ℕ → ℕ
 sum_weight least bounds n order = weight_of (weight.SumWithin least) bounds (2 ^ n - 1) (2 ^ n - 1) order
 
--- an order of least cost weighs the sum of its bounds, which is below 2 ^ 63 and so isn't the greatest weight
+-- an order of cost at most `least` weighs the sum of its bounds, which is below 2 ^ 63 and so isn't the greatest weight
 weighs_sum : (bounds : List ℕ) (n least : ℕ) (order : List ℕ) → n ≤ 12 → least ≤ 2 ^ 59 → IsOrder n order → cost bounds order ≤ least
     → (sum_weight least bounds n order ≡ total bounds order) × (total bounds order < 2 ^ 63)
 weighs_sum bounds n least order few small is_order low =

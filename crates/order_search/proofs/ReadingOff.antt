@@ -68,7 +68,7 @@ first_none w bounds all left none = record {
   none_earlier = λ other way same. tt;
 }
 
--- if two sums with the same first bound are equal and aren't the greatest weight, they are equal after this bound too
+-- if two sums with the same first bound are equal and aren't the greatest weight, then what they add to this bound is equal too
 behind_is : (most bound a b : ℕ) → combined (weight.SumWithin most) bound a ≡ combined (weight.SumWithin most) bound b → combined (weight.SumWithin most) bound a < 2 ^ 128 - 1 → a ≡ b
 behind_is most bound a b same light = elim (cases_lt most bound) [
   | inl beyond ↦ absurd (omega (arith, joined-beyond most bound a beyond))

@@ -1,4 +1,5 @@
--- Orders in which entries are joined, and which order is best. Bounds are given for every set of entries, each at the number whose bits are the set.
+-- Orders in which entries are joined, and which order is best. Bounds are given for every set of entries, each at the number whose bits are
+-- the set.
 use Rattle.std.specs.Prelude.{◌≡◌, ℕ, ◌+◌, ◌^◌, ◌<◌, ◌≤◌, ◌⊎◌, max, List, [], ◌∷◌, map, slice_index, ⊤}
 use Rattle.std.specs.List.{sum}
 use Rattle.entry_sets.specs.Sets.{set_of}

@@ -9,7 +9,7 @@ use Rattle.outcomes.specs.declared.refusal.Refusal.{Refusal}
 use Rattle.outcomes.specs.declared.status.Status.{Status}
 use Rattle.outcomes.specs.declared.status.Status.TheVariants as status
 
--- the status of a refusal is the status of this refusal alone, and the status of a failed read is that of this failed read alone
+-- an ending whose status is a refusal is this refusal, and an ending whose status is a failed read is this failed read
 pub ended_refused : (e : Ending) (r : Refusal) → ended e ≡ status.Refused r → e ≡ ending.Refused r
 ended_refused (ending.Refused s) r h = cc
 ended_refused (ending.Fault file) r h = cc

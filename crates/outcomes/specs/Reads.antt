@@ -57,8 +57,7 @@ abbrev pub Gives : {A : Type 0} → Reading → (Files → Result A Refusal) →
 Gives store stage ComesTo (Ok x) = (files : Files) → store.files ≡ Some files → stage files ≡ Ok x
 Gives store stage ComesTo (Err e) = Ends store stage ComesTo e
 
--- All that a reading step promises: a true answer, no fewer faults, the same files, and no new miss (an absent file that was asked for) if the stage
--- misses no file.
+-- All that a reading step promises: a true answer, no fewer faults, the same files, and no further absent file counted if the stage misses no file.
 pub record Reads {A : Type 0} (store : Reading) (stage : Files → Result A Refusal) (ComesTo : Files → FileId → Type 0)
     (answer : Result A Ending) : Type 0 where
   pub gives : Gives store stage ComesTo answer

@@ -18,7 +18,7 @@ use Rattle.degree_sequences.proofs.RunningSums.{running_sum-mono, running_sum-su
 pub is_element : (f : List ℕ) (i m : ℕ) → running_sum f i ≤ m → m < sum f → i < length f
 is_element f i m h j = elim (cases_lt i (length f)) [ inl l ↦ l | inr l ↦ absurd (omega (arith, running_sum-past f i l)) ]
 
--- the head at row m + 1, if the row lies in element i, is the head of element i
+-- if row m + 1 lies in element i, the head at this row is the head of element i
 pub slope_at : (k : ℕ) (f : List ℕ) (i m : ℕ) → running_sum f i ≤ m → m < running_sum f (suc i) → slope k f m ≡ get_or (heads k f) i 0
 slope_at k f i m before after =
     let r : ℕ = rank f (suc m) in

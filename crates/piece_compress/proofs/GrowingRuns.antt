@@ -47,7 +47,7 @@ are_more : (n h : ℕ) (pieces : List ℕ) (value count : ℕ) (pieces' : List �
 are_more zero h pieces value count pieces' value' count' some more = absurd (omega arith)
 are_more (suc n) h pieces value count pieces' value' count' some more = more
 
--- the run of value h has n more elements than without its last n
+-- a run of `count'` elements of value h has n more elements than a run of `count' - n` of them
 but_first : (n h count' : ℕ) (pieces' : List ℕ) (value' : ℕ) → value' ≡ h → n ≤ count' → All (λ x. h ≤ x) pieces'
     → AreMore n h pieces' h (count' - n) pieces' value' count'
 but_first zero h count' pieces' value' is fits falls = (refl, is, omega arith)

@@ -66,11 +66,11 @@ module _ {ps : List Piece} {start next : Place} {rows left total : ℕ} (so_far 
     ];
   }
 
-  -- if there are no more rows, none is left after those that were taken
+  -- past the last piece, no row is left after those that were taken
   rest_ended : length ps ≤ next.at → drop so_far.taken (rest_from ps start) ≡ []
   rest_ended over = sym so_far.rest ∙ rw (drop_all next.at ps over) (drop-nil next.used)
 
-  -- if there are no more rows, all rows from the start of the block on were taken
+  -- past the last piece, all rows from the start of the block on were taken
   block_past : length ps ≤ next.at → length (rest_from ps start) ≤ so_far.taken
   block_past over = omega (arith, length-drop so_far.taken (rest_from ps start), ap length (rest_ended over))
 

@@ -25,7 +25,8 @@ pub fn usual_levels_are_near()
         → slice_index plan.levels k ≤ 2 ^ (k + 1) * uncompressed_bound query tables (take (k + 1) plan.order) }
 {}
 
-/// If no conjunct names one entry alone, the inner nodes of the best tree from statistics of whole columns have bounds near the uncompressed ones.
+/// If no conjunct names one entry alone, the inner nodes of the best tree from statistics of whole columns have bounds near the
+/// uncompressed ones.
 pub fn nodes_are_near()
     ensures { (query : Query) (tables : Tables) (accuracy budget : ℕ) (plan : BushyPlan)
         → FiltersNoEntry query → 1 ≤ length query.from → length query.from ≤ most_entries

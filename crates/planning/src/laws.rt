@@ -1,4 +1,5 @@
-//! Laws of the bounds and plans of a query over its tables, and of plans from any bounds of entries. No law computes anything: the contract is the law.
+//! Laws of the bounds and plans of a query over its tables, and of plans from any bounds of entries. No law computes anything: the contract
+//! is the law.
 //!
 //! The tables are plain rows, with no cells and no pool of texts.
 ghost use Rattle.std.specs.Prelude.{◌≡◌, ◌≢◌, ◌⊎◌, ◌+◌, ◌*◌, ◌^◌, ◌<◌, ◌≤◌, ℕ, List, [], Ok, Err, length, slice_index, take};
