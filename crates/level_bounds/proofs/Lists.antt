@@ -74,7 +74,7 @@ module _ {X : Type 0} (p : X → Bool) where
   pub all_filtered : (P : X → Type 0) (xs : List X) → AllByRecursion P xs → AllByRecursion P (filter p xs)
   all_filtered P xs h = all_from P (filter p xs) (λ x k. each_of P xs h x (from_filter xs x k).0)
 
--- ---- a list of what some members give
+-- ---- members of a list that `filter_map` makes
 
 module _ {Y : Type 0} (y : Y) where
   behind : (o : Option Y) (rest : List Y) → Contains rest y → Contains (cons_option o rest) y

@@ -1,4 +1,4 @@
--- One order is no worse than another: by cost, then by sum, then by place.
+-- One order is no worse than another: by cost, then by sum, then by lexicographic order.
 use Rattle.std.proofs.Common.{◌≡◌, ℕ, ◌<◌, ◌≤◌, List, [], ◌∷◌, refl, sym, ◌∙◌, arith, inl, inr}
 use Rattle.std.specs.Prelude.{◌⊎◌}
 use Rattle.std.proofs.lemmas.Bool.{cases_order}

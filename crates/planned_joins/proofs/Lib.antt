@@ -1,8 +1,8 @@
 -- How the proofs of this crate go: what was hard, and what closed it.
 --
--- Three functions of one call each. What a plan says of a query over lists is a record over plain tables (`IsPlanOf` of join_steps: its
--- shape, no bound too low, no bound above the table's rows or the greatest budget), so the contracts speak neither of statistics nor of a
--- budget, and any plan with these facts serves.
+-- The crate has three functions, each of one call. What a plan says of a query over lists is a record over plain tables (`IsPlanOf` of join_steps):
+-- the plan's shape, that no bound is too low, and that no bound is above the table's rows or the greatest budget. So the contracts speak neither of
+-- statistics nor of a budget, and any plan with these facts serves.
 --
 -- - Pointwise, then `less_room`: the sizes of lists and levels are `map`s over ranges, so `size_at` and `size_count` of join_steps
 --   (WholeScans), `level_size` and `level_count` of hash_join (PlanRooms) and one lemma on two lists (`zip_each`) give `AllZip ◌≤◌`; the

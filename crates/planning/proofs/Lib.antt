@@ -19,9 +19,9 @@
 --   (`rt check --allow-holes` says for each law that it depends on this hole alone), and meanwhile everything above was proved.
 -- - A level of a plan is never the top bound: it is at most the cost, so at most the budget (`level_within_budget`), and the second case of
 --   "or 2^128 - 1" is absurd by `omega`.
--- - The first entries of an order as a number below 2^n (`on_way`): along the way through 2^n - 1 each entry's power fits what is left.
--- - Near with no keys: a row's own number in its column is a key, so `keys_of` of these is the numbered column by `fill_by_all`, and
---   `whole_columns` is `uncompressed` by `fun_ext`.
+-- - The set of an order's first entries has a number below 2^n (`on_way`): along the way through 2^n - 1, each entry's power of 2 is at most what is left.
+-- - Bounds are near (`NearColumns`) without given keys: a row's own number in its column serves as its key. So `keys_of` is the numbered column by
+--   `fill_by_all`, and `whole_columns` is `uncompressed` by `fun_ext`.
 -- - The worked plan computes, statistics and all orders too. `rw` doesn't reach into an argument of an unfolded `plan_answer`: compute the
 --   choice over literal lists by `refl`, and join by `ap`.
 --
@@ -39,8 +39,9 @@
 --   reverse order (`onto` of set_bounds), so no lemma reverses the list. One more equality joins a component with another (a partner,
 --   extended there, and the two choices combined by the number of the component), or touches neither. The three cases need
 --   `merged_cases` alone.
--- - Examples: compute the rounds over literal equalities and scans by `refl`, and join by `ap` (`reduced_from`, `plan_computed`). An answer
---   is `filter_agree` with one test for all conjuncts (`answer_by`), and then computes. `filter_agree` where an own conjunct asks the row.
+-- - Examples: compute the rounds over literal equalities and scans by `refl`, and join by `ap` (`reduced_from`, `plan_computed`). An answer is
+--   `filter_agree` with one test for all conjuncts (`answer_by`), and then computes. Where an own conjunct asks for the row, `filter_agree` serves
+--   too.
 --
 -- Lists of rows, and what is known from them
 --
