@@ -85,7 +85,7 @@ module _ (db : Database) (are : AreTables db) where
   cells_there : (entry : ℕ) → entry < length db.slots → AreCells db.pool (cells_of db entry)
   cells_there entry low = are.cells (slice_index db.slots entry) no_cells (are.slots entry 0 low)
 
-  -- the kind of a column
+  -- the kind of a column of an entry's table
   abbrev kind_at : ℕ → ℕ → Kind
   kind_at entry column = get_or (cells_of db entry).kinds column kind.Int
 

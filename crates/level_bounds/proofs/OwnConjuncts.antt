@@ -63,7 +63,7 @@ module _ (own passes : Cond → Bool) where
         | inr n ↦ rw n rest
       ]
 
--- the numbers of an entry's own conjuncts
+-- the list of an entry in `local_of` has the numbers of the entry's own conjuncts
 local_at : (query : Query) (entry : ℕ) → entry < length query.from → slice_index_or (local_of query) entry [] ≡ numbers_where (names_just entry) 0 query.conjuncts
 local_at query entry low =
     let start : 0 + entry ≡ entry = omega arith in

@@ -15,7 +15,7 @@ keeps_any = record { kept = λ text value l h. tt }
 pub keeps_word : (P : Lexeme → Type 0) (t : Terminal) → Keeps P (word t) (IsOneOf (t ∷ []) P)
 keeps_word P t = keeps_one P (t ∷ [])
 
--- a text of L after a word
+-- what is kept for texts of L is kept for texts of L after a word
 pub keeps_behind : {P : Lexeme → Type 0} {A : Type 0} {L : Language A} {Q : A → Type 0} (t : Terminal) → Keeps P L Q → Keeps P (made second (word t ▸ L)) Q
 keeps_behind {P = P} {Q = Q} t item = keeps_made second Q (keeps_then (keeps_word P t) item) (λ parts q. q.1)
 

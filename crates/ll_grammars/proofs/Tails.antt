@@ -11,7 +11,7 @@ use Rattle.ll_grammars.specs.Reads.{FirstAndFollow, BeginsIn, Stops, SameHead, S
 use Rattle.ll_grammars.proofs.Sets.{Stops-left, Stops-right, Stops-next, Stops-starts, starts_same, SameHead-append, self_append, starts_front}
 use Rattle.ll_grammars.proofs.Steps.{next_give_rest}
 
--- the values of `repeated`, item by item
+-- the texts of `repeated` and their lists of values, item by item
 abbrev pub tails : {A : Type 0} → List Terminal → Language A → Language (List A)
 tails separators L text [] = (text ≡ []) ⊎ ((t : Lexeme) × (text ≡ t ∷ []) × (among separators t.terminal ≡ true))
 tails separators L text (value ∷ values) = (t : Lexeme) × (front : List Lexeme) × (rest : List Lexeme) × (text ≡ t ∷ (front ++ rest)) × (among separators t.terminal ≡ true) × L front value × tails separators L rest values

@@ -28,7 +28,7 @@ record BestBelow (bounds front : List ℕ) (left end : ℕ) : Type 0 where
 abbrev NoneBelow : ℕ → ℕ → Type 0
 NoneBelow left end = (entry : ℕ) → entry < end → bit_at left entry ≡ 1 → ⊥
 
--- an entry, and then the best way through the other entries
+-- an entry, followed by the best way through the other entries, is the best way that begins with the entry
 through : (bounds front : List ℕ) (left entry : ℕ) → bit_at left entry ≡ 1 → Best bounds (front ++ entry ∷ []) (left - 2 ^ entry)
     → (way : List ℕ) × IsWay left way × ((entries : List ℕ) → IsWay left (entry ∷ entries) → NoWorse bounds (front ++ way) (front ++ (entry ∷ entries)))
 through bounds front left entry has best = (

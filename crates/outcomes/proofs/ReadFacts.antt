@@ -17,7 +17,7 @@ OfFiles A = Files → Result A Refusal
 abbrev Places : Type 1
 Places = Files → FileId → Type 0
 
--- two steps as one
+-- two steps, taken as one step
 abbrev pub joined : Reading → Reading → Reading
 joined first second = record {
   files = first.files;
@@ -49,11 +49,11 @@ same_misses : {A : Type 0} (r q : Result A Refusal) → r ≡ q → MissesNothin
 same_misses r q e h = subst MissesNothing e h
 
 module _ {A B : Type 0} (one : OfFiles A) (two : A → OfFiles B) where
-  -- the first stage, and then the second over its value
+  -- both stages together: the first, and then the second over the value of the first
   abbrev pub both : OfFiles B
   both files = one files >>= (λ x. two x files)
 
-  -- the first step ended, so both did
+  -- if the first step ends early, both steps together end early in the same way
   pub then_stops : (store : Reading) (C D : Places) (e : Ending) → ((files : Files) (file : FileId) → C files file → D files file)
       → Reads store one C (Err e) → Reads store both D (Err e)
   then_stops store C D e more h = record {
@@ -68,7 +68,7 @@ module _ {A B : Type 0} (one : OfFiles A) (two : A → OfFiles B) where
       ends (ending.Fault file) k = (k.0, λ files told. more files file (k.1 files told))
       ends ending.NoMemory k = tt
 
-  -- both steps
+  -- if the second step begins where the first ended, both steps together read by both stages
   pub then_reads : (first second : Reading) (C D E : Places) (x : A) (answer : Result B Ending) → Meets first second
       → ((files : Files) (file : FileId) → one files ≡ Ok x → D files file → E files file)
       → Reads first one C (Ok x) → Reads second (two x) D answer → Reads (joined first second) both E answer

@@ -66,7 +66,7 @@ module _ (k : ℕ) (f : List ℕ) (fall : IsFalling f) (v h i' rows' covered' : 
   ended i head rows covered (suc n) pieces value count g head_is i_is rows_is covered_is close more =
       absurd (omega (arith, rows_is, covered_is, suc-mul n h, close (omega arith), g.ahead, g.rows_are))
 
-  -- the elements of the run, one after another
+  -- `Growing` before c equal elements gives `Growing` after them, if the result gets n more elements of value h
   pub grown : (c i head rows covered n : ℕ) (pieces : List ℕ) (value count : ℕ) → Growing k f i pieces value count head rows covered
       → next_head k head v ≡ h → (c ≡ 0 → head ≡ h) → i + c ≤ length f → ((m : ℕ) → i ≤ m → m < i + c → get_or f m 0 ≡ v)
       → i' ≡ i + c → rows' ≡ rows + c * v → covered' ≡ covered + n * h → (0 < n → covered' < rows' + h)
@@ -146,7 +146,7 @@ some_each (p ∷ ps) (suc j) d fall low = some_each ps j d fall.2 (omega arith)
 
 -- ---- run by run
 
--- the state after j runs
+-- the state after j runs is the state after the elements of these runs
 pub record GrowingRuns (k : ℕ) (ps : List Piece) (j : ℕ) (pieces : List ℕ) (value count head rows covered : ℕ) : Type 0 where
   pub rank : ℕ
   pub before : IsBefore ps j rank

@@ -27,7 +27,7 @@ pub record BlockSoFar (ps : List Piece) (start : Place) (rows : ℕ) (next : Pla
   pub fresh : taken ≡ 0 → next ≡ start
   pub onward : 0 < taken → (ahead_of ps start).count < rows → start.at < next.at
 
--- the state before the first row
+-- before the first row no row is summed
 pub block_start : (ps : List Piece) (start : Place) (rows : ℕ) → IsPlace ps start → BlockSoFar ps start rows start rows 0
 block_start ps start rows place = record {
   taken = 0;

@@ -97,7 +97,7 @@ goal_run how a b places turn v t w is = record {
       ∙ sym is;
 }
 
--- the state before the first turn
+-- before the first turn the list is empty
 pub combine_start : (how : Combination) (a b : List Piece) → ArePieces a → ArePieces b
     → Combined how a b (record { left = record { at = 0; used = 0 }; right = record { at = 0; used = 0 } }) []
 combine_start how a b are_a are_b = record { walked = walk_start a b are_a are_b; built = refl; few = omega arith }
@@ -112,7 +112,7 @@ module _ {how : Combination} {a b : List Piece} {places : Places} {turn : Turn} 
   pub combine_fits : 0 < v → length list + turn.count < 2 ^ 64
   combine_fits pos = omega (arith, run_fits so_far.built (goal_run how a b places turn v t so_far.walked value) pos, goal_short how a b, are_a.fits, are_b.fits)
 
-  -- the state after a turn
+  -- after a turn the list is built up to the turn's end
   pub combine_step : {new : List ℕ} → IsAppended list new v turn.count → Combined how a b turn.next new
   combine_step put = record {
     walked = walk_on t so_far.walked;

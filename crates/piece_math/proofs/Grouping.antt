@@ -91,7 +91,7 @@ pub record GroupedSoFar (g u : List Piece) (at row : Place) (list : List ℕ) : 
   pub built : list ≡ take rank (grouped_list g u)
   pub few : (runs list ≤ at.at + 2 * row.at) ⊎ ((runs list ≤ at.at + 2 * row.at + 1) × IsMixed g u at row)
 
--- the state before the first block
+-- before the first block the list is empty
 pub grouped_start : (g u : List Piece) → ArePieces g → ArePieces u → GroupedSoFar g u (record { at = 0; used = 0 }) (record { at = 0; used = 0 }) []
 grouped_start g u are_g are_u = record {
   rank = 0;
@@ -184,7 +184,7 @@ module _ {g u : List Piece} (are_g : ArePieces g) (are_u : ArePieces u) where
             (ap (running_sum U) rows_next ∙ there ∙ omega arith ∙ ap (λ n. n + x * w) (sym here ∙ ap (running_sum U) (sym (block_rows k (omega arith)))));
       }
 
-      -- the state after whole blocks
+      -- after whole blocks the list is built up to the next places
       pub whole_step : {new : List ℕ} {at' row' : Place} → IsAppended list new (saturated ((ahead_of g at).value * (ahead_of u row).value)) count
           → rest_from g at' ≡ drop count (rest_from g at) → rest_from u row' ≡ drop ((ahead_of g at).value * count) (rest_from u row) → IsPlace g at' → IsPlace u row'
           → (runs new ≤ at'.at + 2 * row'.at) ⊎ ((runs new ≤ at'.at + 2 * row'.at + 1) × IsMixed g u at' row') → GroupedSoFar g u at' row' new
@@ -248,7 +248,7 @@ module _ {g u : List Piece} (are_g : ArePieces g) (are_u : ArePieces u) where
           ∙ ap (λ s. running_sum (expanded u) M + running_sum s x) (sym so_far.rows));
     }
 
-    -- the state after this block
+    -- after this block the list is built up to the next places
     pub mixed_step : {new : List ℕ} {at' row' : Place} → at.at < length g → IsAppended list new (saturated (running_sum (rest_from u row) (ahead_of g at).value)) 1
         → rest_from g at' ≡ drop 1 (rest_from g at) → rest_from u row' ≡ drop (ahead_of g at).value (rest_from u row) → IsPlace g at' → IsPlace u row'
         → at.at ≤ at'.at → row.at < row'.at → GroupedSoFar g u at' row' new

@@ -76,7 +76,7 @@ pub record Lessened (a b : List Piece) (places : Places) (list : List ℕ) (left
   pub built : list ≡ take walked.rank (lesser (expanded a) (expanded b))
   pub few : runs list ≤ 3 * (places.left.at + places.right.at)
 
--- the state before the first turn
+-- before the first turn the lesser list is empty
 pub lesser_start : (a b : List Piece) → ArePieces a → ArePieces b
     → Lessened a b (record { left = record { at = 0; used = 0 }; right = record { at = 0; used = 0 } }) [] 0 0
 lesser_start a b are_a are_b = record { walked = walk_start a b are_a are_b; left = refl; right = refl; built = refl; few = omega arith }
@@ -173,7 +173,7 @@ module _ {a b : List Piece} (are_a : ArePieces a) (are_b : ArePieces b) where
           → two ≡ take (so_far.walked.rank + bend.before.count + bend.between.count) (lesser (expanded a) (expanded b))
       built_between put1 put2 = run_built (built_before put1) between_run lesser_positive put2
 
-      -- the state after the turn
+      -- after the turn the lesser list is built up to the turn's end
       pub lesser_step : {one two new : List ℕ} → IsAppended list one bend.before.value bend.before.count → IsAppended one two bend.between.value bend.between.count
           → IsAppended two new bend.after.value bend.after.count
           → Lessened a b turn.next new (left_sum + turn.left * turn.count) (right_sum + turn.right * turn.count)

@@ -147,7 +147,7 @@ pub record SpreadSoFar (a b : List Piece) (places : Places) (list : List ℕ) : 
   pub walked : Walked a b places
   pub built : list ≡ take (running_sum (expanded a) walked.rank) (trimmed (spread (expanded a) (expanded b)))
 
--- the state before the first turn
+-- before the first turn there are no weights
 pub spread_start : (a b : List Piece) → ArePieces a → ArePieces b → SpreadSoFar a b (record { left = record { at = 0; used = 0 }; right = record { at = 0; used = 0 } }) []
 spread_start a b are_a are_b = record { walked = walk_start a b are_a are_b; built = refl }
 
@@ -190,7 +190,7 @@ module _ {a b : List Piece} (are_a : ArePieces a) (are_b : ArePieces b) {places 
           k (omega arith);
     }
 
-    -- the state after a turn
+    -- after a turn the weights are built up to the turn's last row
     pub spread_step : {new : List ℕ} → IsAppended list new turn.right (turn.left * turn.count) → SpreadSoFar a b turn.next new
     spread_step put = record {
       walked = walk_on t so_far.walked;

@@ -84,7 +84,7 @@ rank_product-row_weights n cs c all one =
     (λ r. get_or-rank_product (trimmed (row_weights cs n)) (trimmed (row_weights (c ∷ []) n)) r
     ∙ rw (get_or-trimmed (row_weights cs n) r, get_or-trimmed (row_weights (c ∷ []) n) r, get_or-trimmed (row_weights (cs ++ c ∷ []) n) r) (at r))
   where
-    -- the equation at each row
+    -- the equation holds at each row
     at : (r : ℕ) → get_or (row_weights cs n) r 0 * get_or (row_weights (c ∷ []) n) r 0 ≡ get_or (row_weights (cs ++ c ∷ []) n) r 0
     at r = elim (cases_lt r n) [
       | inl inside ↦ rw (get_or-row_weights cs n r inside, get_or-row_weights (c ∷ []) n r inside, get_or-row_weights (cs ++ c ∷ []) n r inside)
@@ -128,13 +128,13 @@ runs-saturated s = runs_after-saturated 0 s
 
 -- ---- the loop over the children
 
--- the state of the loop: the weights by the first i children
+-- the state of the loop: `weights` has the weights by the first i children
 pub record WeightsSoFar (cs : List Child) (rows i : ℕ) (weights : List ℕ) : Type 0 where
   pub lists : AllByRecursion (IsChildOf rows) (map lists_of (take i cs))
   pub value : weights ≡ map saturated (trimmed (row_weights (map lists_of (take i cs)) rows))
   pub few : 0 < i → runs weights ≤ class_runs (take i cs)
 
--- the state before the first child
+-- before the first child each row weighs one
 pub weights_start : (cs : List Child) (rows : ℕ) {list : List ℕ} → IsAppended [] list 1 rows → WeightsSoFar cs rows 0 list
 weights_start cs rows put = record {
   lists = tt;
@@ -142,7 +142,7 @@ weights_start cs rows put = record {
   few = λ h. absurd (omega arith);
 }
 
--- the state after one more child
+-- after one more child, the weights are those by one child more
 pub weights_step : (cs : List Child) (rows i : ℕ) (weights own new : List ℕ) (c : Child) → i < length cs → c ≡ get_or cs i c → sum c.column ≡ rows
     → IsChildOf (sum c.column) (lists_of c) → own ≡ trimmed (row_weights (lists_of c ∷ []) (sum c.column)) → runs own ≤ runs c.class
     → new ≡ map saturated (rank_product weights own) → runs new ≤ runs weights + runs own → WeightsSoFar cs rows i weights → WeightsSoFar cs rows (i + 1) new
