@@ -56,7 +56,7 @@ but_first (suc n) h count' pieces' value' is fits falls = (is, fits, refl, falls
 -- ---- the elements of a run
 
 module _ (k : ℕ) (f : List ℕ) (fall : IsFalling f) (v h i' rows' covered' : ℕ) (pieces' : List ℕ) (value' count' : ℕ) (enough : rows' ≤ covered') where
-  -- no element of the run is left
+  -- the case in which no element of the run is left
   ended : (i head rows covered n : ℕ) (pieces : List ℕ) (value count : ℕ) → Growing k f i pieces value count head rows covered
       → head ≡ h → i' ≡ i → rows' ≡ rows → covered' ≡ covered + n * h → (0 < n → covered' < rows' + h)
       → AreMore n h pieces value count pieces' value' count' → Growing k f i' pieces' value' count' h rows' covered'

@@ -57,7 +57,7 @@ composed_value r g weights cs is grouped =
     IfOk-weaker r (λ list. list ≡ map saturated (trimmed (block_sums g weights))) (λ list. list ≡ map saturated (composed g cs))
     (λ list e. e ∙ ap (λ u. map saturated (trimmed (block_sums g u))) is ∙ saturated-composed g (row_weights cs (sum g))) grouped
 
--- how many runs a composition has at most
+-- a composition has at most as many runs as the parent list and twice the class lists
 pub composed_few : {E : Type 0} (r : Result (List ℕ) E) (g weights : List ℕ) (cs : List Child) → IsFalling g → All (λ x. 0 < x) g
     → (0 < length cs → runs weights ≤ class_runs cs) → IfOk r (λ list. list ≡ map saturated (composed g (map lists_of cs)))
     → IfOk r (λ list. runs list ≤ runs g + 2 * runs weights) → IfOk r (λ list. runs list ≤ runs g + 2 * class_runs cs)
