@@ -13,7 +13,7 @@ use Rattle.berge_tree.proofs.Tested.{has_within}
 use Rattle.join_graph.specs.Kept.{joins_within, equalities_within, order_of_turn, kept_by_names, kept_of}
 use Rattle.join_graph.specs.Names.{IsNamed, AreNamed}
 
--- ---- what holds of all
+-- ---- what is true of each equality of a set
 
 abbrev AreJoining : ℕ → List Edge → Type 0
 AreJoining subset es = AllByRecursion (λ e. joins_within subset e ≡ true) es
@@ -76,7 +76,7 @@ are_named subset es = names (equalities_within subset es) (filter_all subset es)
     names [] h = tt
     names (e ∷ es) h = (joining_named subset e h.0, names es h.1)
 
--- where the equalities of the set before a place are as many as the turn's number, the turn begins there
+-- if `turn` equalities of the set come before place i, then the turn begins at place i
 pub turn_begins : (subset turn i : ℕ) (es : List Edge) → turn ≡ length (equalities_within subset (take i es))
     → (equalities_within subset (take i es) ≡ take turn (equalities_within subset es)) × (equalities_within subset (drop i es) ≡ drop turn (equalities_within subset es))
 turn_begins subset turn i es is =

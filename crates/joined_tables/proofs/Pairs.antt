@@ -1,4 +1,4 @@
--- How many rows are in a pair of an inner join, and how many are in none.
+-- How many rows are in a pair of an inner join, and how many are in no pair.
 use Rattle.std.proofs.Common.{◌≡◌, ◌≤◌, Bool, true, not, List, [], ◌∷◌, ◌++◌, map, length, inl, inr, arith, length-append}
 use Rattle.std.specs.List.{filter, flat_map, list_any}
 use Rattle.std.proofs.lemmas.Bool.{cases_Bool, false≢true}
@@ -35,7 +35,7 @@ paired_of is_true others (row ∷ rows) =
       | inr n ↦ rw n (omega (arith, length-append pairs more, paired_of is_true others rows))
     ]
 
--- a row that is in a pair has a pair
+-- at most as many rows of the left table are in a pair as there are pairs
 pub paired_few : (is_true : Condition) (left right : Table) → length (left_paired is_true left right) ≤ length (inner_join is_true left right)
 paired_few is_true left right = paired_of is_true right.rows left.rows
 

@@ -41,7 +41,7 @@ whole_text query db entries rows outs same =
     ap (λ (o : List Out). header_text o ++ flat_map (choice_record query db entries) rows) same
     ∙ ap (λ (rest : List ℕ). header_text query.select ++ rest) (sym (flat_map-map row_text (selected_in query db entries) rows))
 
--- ---- along an order
+-- ---- the last level of an order
 
 module _ (query : Query) (db : Database) (order : List ℕ) (executed : List Level) (is : IsDatabaseOf query db) (each : IsOrderOf query order)
     (last : (k : ℕ) → k + 1 ≡ length order → rows_at executed k ≡ query_level query db order (k + 1)) (count : length executed ≡ length order) where

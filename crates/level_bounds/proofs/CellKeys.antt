@@ -59,7 +59,7 @@ equal_lists (x ∷ a) (y ∷ b) h =
     let parts : (x ≡ y) × (is_eq (slice_cmp nat_cmp a b) ≡ true) = equal_first x y (nat_cmp x y) (slice_cmp nat_cmp a b) refl h in
     rw (parts.0, equal_lists a b parts.1) refl
 
--- texts of different characters have different places
+-- if no two texts have the same characters, two texts with the same characters are at one place
 one_place : (texts : List (List ℕ)) → HaveDifferentCharacters texts → (a b : ℕ) → a < length texts → b < length texts → chars (get_or texts a []) ≡ chars (get_or texts b []) → a ≡ b
 one_place texts differ a b low high same = elim (cases_lt a b) [
   | inl less ↦ absurd (differ a b [] less high same)
@@ -85,7 +85,7 @@ module _ (db : Database) (are : AreTables db) where
   cells_there : (entry : ℕ) → entry < length db.slots → AreCells db.pool (cells_of db entry)
   cells_there entry low = are.cells (slice_index db.slots entry) no_cells (are.slots entry 0 low)
 
-  -- the kind of a column
+  -- the kind of a column of an entry's table
   abbrev kind_at : ℕ → ℕ → Kind
   kind_at entry column = get_or (cells_of db entry).kinds column kind.Int
 

@@ -21,13 +21,13 @@ use Rattle.level_bounds.proofs.Choosing.{entry_of, row_out}
 use Rattle.level_bounds.proofs.Reordering.{rearranged}
 use Rattle.level_bounds.proofs.SetNumbers.{range_is_order}
 
--- past its end a list is 0
+-- reading a list of numbers past its end gives 0
 past_end : (xs : List ℕ) (i : ℕ) → length xs ≤ i → get_or xs i 0 ≡ 0
 past_end [] i h = refl
 past_end (x ∷ xs) zero h = absurd (omega arith)
 past_end (x ∷ xs) (suc i) h = past_end xs i (omega arith)
 
--- the values of a function below n, as a list, are the function where it is 0 from n on
+-- if f is 0 from n on, reading the list of f's values below n gives f
 listed_back : (n : ℕ) (f : ℕ → ℕ) → ((x : ℕ) → n ≤ x → f x ≡ 0) → slice_index (map f (range_with_len 0 n)) ≡ f
 listed_back n f out = fun_ext at
   where

@@ -37,7 +37,7 @@ module _ (conjuncts : List Conjunct) (rows : ℕ → ℕ) where
 
   -- ---- a choice goes to the other order and back
 
-  -- the same conjuncts are complete
+  -- two orders of the same entries test the same conjuncts
   same_test : (order other : List ℕ) (f : ℕ → ℕ) → ((x : ℕ) → is_in order x ≡ is_in other x) → all_hold conjuncts order f ≡ all_hold conjuncts other f
   same_test order other f same =
       let tests : is_in order ≡ is_in other = fun_ext same in
@@ -57,7 +57,7 @@ module _ (conjuncts : List Conjunct) (rows : ℕ → ℕ) where
           holds = ap (all_hold conjuncts other) (same_rows choice) ∙ same_test other order (row_in order choice) (same_entries set other order p o) ∙ s.holds;
         })
 
-    -- there and back is no move
+    -- the rows that a choice gives the entries, in their order, are the choice
     pub back : (choice : List ℕ) → Contains (level_of conjuncts rows order) choice → map (row_in order choice) order ≡ choice
     back choice k = choice_back order choice o.once (choice_length rows order choice (stands order choice k).chosen)
 

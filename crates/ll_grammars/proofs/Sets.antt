@@ -52,7 +52,7 @@ pub Stops-starts : (cs : List Terminal) (text : List Lexeme) → Stops cs text �
 Stops-starts cs [] h = refl
 Stops-starts cs (t ∷ ts) h = h
 
--- a parser does not go on where what follows begins in terminals apart from these
+-- a text of `s` with `rest` after it begins with no terminal of `more`: no text of `s` does, and if its texts may be empty, `rest` doesn't either
 pub Stops-next : (more : List Terminal) (s : FirstAndFollow) (text rest : List Lexeme) → apart more s.first ≡ true → BeginsIn s text → Stops (cond s.nullable more []) rest → Stops more (text ++ rest)
 Stops-next more s [] rest h b stop = let k : Stops (cond true more []) rest = subst (λ (e : Bool). Stops (cond e more []) rest) b stop in k
 Stops-next more s (t ∷ ts) rest h b stop = apart_false more s.first t.terminal h b

@@ -5,7 +5,7 @@ use Rattle.std.proofs.lemmas.Nat.Bits.{bit_at-zero, bit_at_ones, same_from_bits_
 use Rattle.std.proofs.lemmas.Bool.{cases_eq}
 use Rattle.entry_sets.proofs.Bits.{bit_without_other, bit_without_same}
 
--- of the entries below n
+-- how many entries below n a set has
 abbrev pub size_below : ℕ → ℕ → ℕ
 size_below zero set = 0
 size_below (suc n) set = bit_at set n + size_below n set

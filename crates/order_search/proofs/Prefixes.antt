@@ -6,7 +6,7 @@ use Rattle.entry_sets.specs.Sets.{set_of}
 use Rattle.plans.specs.declared.left_deep.Plan.{Plan}
 use Rattle.plans.specs.LeftDeep.{IsOrder, IsPlan}
 
--- the bounds of the sets that are placed, from a set on, as the entries come
+-- the bounds of `placed` with the first entry, with the first two entries, and so on
 abbrev pub levels_after : List ℕ → ℕ → List ℕ → List ℕ
 levels_after bounds placed [] = []
 levels_after bounds placed (entry ∷ entries) = get_or bounds (placed + 2 ^ entry) 0 ∷ levels_after bounds (placed + 2 ^ entry) entries
@@ -53,7 +53,7 @@ sum-at_most most (x ∷ xs) h = omega (arith, sum-cons x xs, sum-at_most most xs
     product : suc (length xs) * most ≡ most + length xs * most
     product = omega arith
 
--- twelve levels within the greatest budget
+-- at most twelve levels within the greatest budget have a sum below 2 ^ 63
 pub total-small : (bounds : List ℕ) (n : ℕ) (order : List ℕ) → n ≤ 12 → IsOrder n order → cost bounds order ≤ 2 ^ 59 → total bounds order < 2 ^ 63
 total-small bounds n order few is_order h =
     let size : length (levels_after bounds 0 order) ≡ n = length-levels_after bounds 0 order ∙ is_order.all in

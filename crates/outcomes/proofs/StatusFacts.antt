@@ -9,7 +9,7 @@ use Rattle.outcomes.specs.declared.refusal.Refusal.{Refusal}
 use Rattle.outcomes.specs.declared.status.Status.{Status}
 use Rattle.outcomes.specs.declared.status.Status.TheVariants as status
 
--- a refusal is told by its own status alone, and a failed read by its own
+-- an ending whose status is a refusal is this refusal, and an ending whose status is a failed read is this failed read
 pub ended_refused : (e : Ending) (r : Refusal) → ended e ≡ status.Refused r → e ≡ ending.Refused r
 ended_refused (ending.Refused s) r h = cc
 ended_refused (ending.Fault file) r h = cc
@@ -20,7 +20,7 @@ ended_fault (ending.Refused r) file h = cc
 ended_fault (ending.Fault f) file h = cc
 ended_fault ending.NoMemory file h = cc
 
--- no ending is told as a run that is done, or as a failed write
+-- no ending has the status of a run that is done, or of a failed write
 pub ended_not_done : (e : Ending) → ended e ≢ status.Done
 ended_not_done (ending.Refused r) h = cc
 ended_not_done (ending.Fault f) h = cc

@@ -17,7 +17,7 @@ rises_between p q x y k low steep at =
     let parts : d * k + (q - p) % d ≡ q - p = rw at (omega arith) in
     omega (arith, ap (λ z. k * z) e, parts, before_crossing p q x y k low steep (omega arith), after_crossing p q x y (k + 1) low steep (omega arith))
 
--- and after it the flatter one is
+-- after the crossing the flatter line is the lower one
 rises_after : (p q x y k : ℕ) → p ≤ q → y < x → (q - p) / (x - y) < k → min (p + (k + 1) * x) (q + (k + 1) * y) ≡ min (p + k * x) (q + k * y) + y
 rises_after p q x y k low steep h = omega (arith, after_crossing p q x y k low steep h, after_crossing p q x y (k + 1) low steep (omega arith))
 
@@ -31,7 +31,7 @@ IsBend-straight low high c order steep h = record {
   after = λ k j. absurd (omega arith);
 }
 
--- they cross
+-- the lines cross within these ranks
 pub IsBend-crossing : (low high : Line) (c : ℕ) → low.sum ≤ high.sum → high.step < low.step → (high.sum - low.sum) / (low.step - high.step) < c
     → IsBend low high c (record {
       before = record { value = low.step; count = (high.sum - low.sum) / (low.step - high.step) };

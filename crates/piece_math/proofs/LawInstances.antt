@@ -17,7 +17,7 @@ use Rattle.degree_sequences.proofs.ProductDominates.{rank_product_dominates}
 use Rattle.degree_sequences.proofs.RowWeights.{composed-above}
 use Rattle.degree_sequences.proofs.Scaling.{composed-near}
 
--- a list dominates the degrees that it is the degree list of
+-- the degree list of keys dominates the keys' degrees
 pub dominated : (keys : List ℕ) → DominatesWeights (degree_list keys) (degree keys)
 dominated keys = degrees_dominated (degree_list keys) keys (degree_list_dominates keys)
 

@@ -1,4 +1,4 @@
--- The list of all orders has each order of the entries and nothing else, and is in lexicographic order.
+-- The list of all orders has each order of the entries and nothing else, and it is in lexicographic order.
 use Rattle.std.proofs.Common.{◌≡◌, ℕ, zero, suc, ◌+◌, ◌<◌, ◌≤◌, Bool, true, false, eqb, List, [], ◌∷◌, ◌++◌, length, map, refl, ap, sym, subst, arith, inl, inr}
 use Rattle.std.specs.Prelude.{filter, flat_map, not, ⊤}
 use Rattle.std.specs.List.{AllByRecursion as Each, Contains, IsDistinct, range_with_len}
@@ -9,7 +9,7 @@ use Rattle.entry_sets.proofs.Listing.{each, in_front, in_none, in_rest, one_in}
 use Rattle.order_search.specs.Orders.{IsNotAfter}
 use Rattle.plan_answers.specs.BestOrder.{orders_of, all_orders}
 
--- ---- each element of a list
+-- ---- what is true of each element of a list
 
 pub each_so : {X : Type 0} (P Q : X → Type 0) → ((x : X) → P x → Q x) → (xs : List X) → Each P xs → Each Q xs
 each_so P Q so [] h = tt
@@ -72,7 +72,7 @@ still_in test (x ∷ xs) y k t = elim (one_in x xs y k) [
 
 -- ---- orders of some entries
 
--- different entries of a kind, so many
+-- the order has `count` different entries, and P is true of each of them
 record AreArranged (P : ℕ → Type 0) (count : ℕ) (order : List ℕ) : Type 0 where
   entries : Each P order
   once : IsDistinct eqb order
@@ -100,7 +100,7 @@ arranged P (suc count) entries h =
     (arranged (λ entry. P entry × (eqb first entry ≡ false)) count (others first entries) (kept P first entries h))))
     entries h)
 
--- what is true of each that is listed is true of each that there is
+-- what is true of each order of the list is true of each order of `count` different entries
 at_arranged : (Q : List ℕ → Type 0) (count : ℕ) (entries order : List ℕ) → Each Q (orders_of count entries) → AreArranged (Contains entries) count order → Q order
 at_arranged Q zero entries [] h is = h.0
 at_arranged Q zero entries (x ∷ xs) h is = absurd (omega (arith, is.all))

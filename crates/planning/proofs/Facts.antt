@@ -34,7 +34,7 @@ facts tables accuracy =
       falls = lists_fall tables accuracy;
     }
 
--- what holds of every column, holds of those that equalities name
+-- if Q holds for every column, Q holds for the columns that equalities name
 pub each_column : (Q : ℕ → ℕ → Type 0) (es : List Edge) → ((entry column : ℕ) → Q entry column) → EachNamedColumn Q es
 each_column Q [] h = tt
 each_column Q (e ∷ es) h = (h e.left.entry e.left.column, (h e.right.entry e.right.column, each_column Q es h))

@@ -63,7 +63,7 @@ module _ (tables : Tables) (lists : List (List ℕ)) (accuracy : ℕ) where
           first_there values (value_at row) listed.0 (value_at row) (omega (arith, listed.1, length-map rows value_at))
           (ap (λ (v : Value). is_equal v (value_at row)) (get_or-map value_at rows listed.0 row (value_at row) listed.1 ∙ ap value_at listed.2) ∙ equal_itself (value_at row))
 
-      -- rows have one number exactly where they have one key
+      -- two rows have the same number exactly if they have the same key
       alike : AreEqualAlike number_at (key entry column) rows
       alike row other listed also =
           let told = tells entry column row other (row_low query tables lists are entry row listed) (row_low query tables lists are entry other also) in (
