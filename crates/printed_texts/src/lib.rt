@@ -1,5 +1,5 @@
-//! The texts that a run prints: the plan text, the records of the rows text, and the line that tells a status.
-//! No function here allocates memory, so no call can run out of it.
+//! The texts that a run prints: the plan text, the records of the rows text, and the line of a fault. No function here allocates memory, so
+//! no call can run out of memory.
 //!
 //! In: a plan, the entries of a query, a database and the rows of a choice; or a status, and the names that its line may
 //! use. Out: bytes to a sink.
