@@ -1,4 +1,4 @@
-//! Finds the first wrong value. No function here allocates memory.
+//! Finds the first wrong value that a caller handed in. No function here allocates memory.
 ghost use Rattle.std.specs.Prelude.{◌≡◌, ◌<◌, ◌≤◌, ◌↔◌, ℕ, find, length, IsTrue, MatchOption};
 ghost use Rattle.std.specs.List.{list_any};
 ghost use Rattle.safebound_lists.specs.First.{IsFirstWrong};
