@@ -1,4 +1,4 @@
-//! What holds of statistics files and of the verdicts over them: no law computes anything, and the contract is the law.
+//! Laws about statistics files, and about the verdicts over them. A call does nothing; its contract is the law.
 ghost use Rattle.std.specs.Prelude.{◌≡◌, ◌⊎◌, ◌<◌, ◌≤◌, ℕ, List, Option, Result, Ok, Err, None, Some, false};
 ghost use Rattle.limits.specs.Profile.{most_accuracy, most_file};
 ghost use Rattle.base_io.specs.Files.{Files};
@@ -22,8 +22,8 @@ ghost use Rattle.safebound_top.specs.OutcomeTexts.{out_text};
 ghost use Rattle.prepared_runs.specs.Verdict.{command_run};
 ghost use Rattle.safebound_laws.specs.Printed.{printed};
 
-/// Take a schema that a text declares, and a statistics file that keeps the rules. By the definition the file's text is read as this file. A reader
-/// of the text answers this file too, or that memory ran out.
+/// Take a schema that a text declares, and a statistics file that keeps the rules. By the definition the file's text is read as this file. A
+/// reader of the text also returns this file, or says that memory ran out.
 pub fn files_of_declared_schemas_are_read()
     ensures answered { (text : List ℕ) (schema : Schema) (file : StatsFile) → IsSchemaOf text (Ok schema) → KeepsRules schema file
         → stats_answer schema (file_text schema file) ≡ Ok file }
