@@ -1,4 +1,4 @@
--- The steps that the members of an AND add, one member after another.
+-- The steps that the members of an AND add, one member after another. Steps run over a stack of answers (see Steps).
 use Rattle.std.specs.Prelude.{◌≡◌, Bool, true, false, ◌||◌, List, [], ◌∷◌, ◌++◌, map}
 use Rattle.filtered_lists.specs.Filters.{Conjunction}
 use Rattle.filtered_lists.specs.Ranges.{intersection_for_each_column}

@@ -29,7 +29,7 @@ top_of (list ∷ stack) = list
 abbrev pub total_of : List (List ℕ) → ℕ
 total_of stack = sum_by sum stack
 
--- a step that puts a list on the stack has one of at most 2^32 rows
+-- whether the list of a step, if the step has one, has at most 2^32 rows
 abbrev pub is_small : ListStep → Bool
 is_small (list_step.List list) = nat_le (sum list) (2 ^ 32)
 is_small list_step.And = true

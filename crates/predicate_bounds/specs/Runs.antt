@@ -1,4 +1,4 @@
--- The stack of answers after some steps. The top of the stack is the first element here.
+-- The stack of answers after some steps. An answer is a list, a number of rows, or a test of a row. The top of the stack is the first element here.
 use Rattle.std.specs.Prelude.{List, [], ◌∷◌}
 use Rattle.filtered_lists.specs.Filters.{ComparisonAnswers}
 use Rattle.predicate_bounds.specs.declared.steps.Step.{Step}

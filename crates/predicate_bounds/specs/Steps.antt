@@ -1,5 +1,5 @@
--- An entry's own conjuncts as steps over a stack of answers. A comparison's step puts an answer on the stack; the steps And and Or combine
--- the two answers on top.
+-- An entry's own conjuncts as steps over a stack of answers. An answer is a list, a number of rows, or a test of a row. A comparison's step
+-- puts an answer on the stack; the steps And and Or combine the two answers on top.
 use Rattle.std.specs.Prelude.{ℕ, List, [], ◌∷◌, ◌++◌, option_map}
 use Rattle.csv_tables.specs.Values as values
 use Rattle.csv_tables.specs.Values.{Value}

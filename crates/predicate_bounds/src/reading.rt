@@ -1,5 +1,5 @@
-//! Turns an entry's own conjuncts into steps. NOT is pushed down while conditions are read: if `holds` is false, the opposite of the
-//! condition is read. The recursion is as deep as the condition.
+//! Turns an entry's own conjuncts into steps over a stack of answers (see `steps`). NOT is pushed down while conditions are read: if `holds`
+//! is false, the opposite of the condition is read. The recursion is as deep as the condition.
 ghost use Rattle.std.specs.Prelude.{◌≡◌, ◌<◌, ◌++◌, ◌∷◌, [], false, true, map, length, IfOk, OnOk};
 ghost use Rattle.filtered_lists.specs.Comparisons.{comparison_of};
 ghost use Rattle.filtered_lists.specs.Filters.{and_answer, conjunction_of, one_conjunction, or_answer};

@@ -1,4 +1,4 @@
-//! Steps whose answers are lists, run over a stack of lists.
+//! Runs steps over a stack of lists.
 ghost use Rattle.std.specs.Prelude.{◌≡◌, ◌+◌, ◌*◌, ◌^◌, ◌<◌, ◌≤◌, [], reverse, length, true, IfOk, OnOk, IsTrue};
 ghost use Rattle.std.specs.List.{list_all, sum_by, sum};
 ghost use Rattle.degree_sequences.specs.ByRank.{rank_sum};

@@ -1,4 +1,5 @@
--- Every statistics file that the verdict makes by appending rows keeps the rules and stands for the tables with the new rows.
+-- Every outcome of `append` is an earlier statistics file with rows added, and stands for the earlier file's tables with these rows
+-- (`StandsForMore`).
 use Rattle.std.proofs.Common.{◌≡◌, ℕ, ◌+◌, List, Result, Ok, Err, length, refl, subst, sym, inl, inr}
 use Rattle.std.specs.Prelude.{IfOk, nat_le}
 use Rattle.std.proofs.lemmas.Bool.{cases_Bool}

@@ -138,7 +138,7 @@ module _ {store : Reading} (name : List ℕ) (schema : Schema) (stats : StatsFil
 
 -- ---- the section, and then the new rows
 
--- a refusal of a step that reads nothing
+-- a step that reads nothing satisfies `Reads`, if it stops as its stage does
 unread : {A : Type 0} (store : Reading) (stage : Files → Result A Refusal) (C : Files → FileId → Type 0) (e : Ending) → ((files : Files) → StopsBy (stage files) e)
     → store.misses_after ≡ store.misses_before → store.faults_before ≤ store.faults_after → store.files_after ≡ store.files → Reads store stage C (Err e)
 unread store stage C (ending.Refused r) tells misses later same = record {

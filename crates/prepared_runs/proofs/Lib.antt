@@ -14,14 +14,14 @@
 --   each law about plans is true (`absurd`), and a call with `requires ⊥` needs no body.
 -- - A store that can't fail is a wrapper whose invariant is that no call is listed to fail, and whose ghost `faults` is the constant 0: then
 --   `Rose 0 0` is absurd, and `read_at` needed no written proof.
--- - The shop is a field of the command that no stage looks at (`command_run`), so the verdict of `demo` equals that of an audit by one `ap`
---   and a `refl`. `Ranges` in safebound_words says for each command that only `demo` has a shop, and that values are in their ranges; it is
+-- - The shop is a field of the command that no stage looks at (`command_run`). So the verdict of `demo` equals that of an audit by one `ap`
+--   and a `refl`. `Ranges` in safebound_words says for each command that only `demo` has a shop, and that values are in their ranges. It is
 --   proved by one induction over the table.
 -- - A word's text is taken by `get` only where a file is read. Then one equation about `get` is rewritten at that place, and the clauses
 --   above speak of the command's own words.
 --
--- - The functions that take memory for joins require `MayJoin`. That the plan is within the budget is a clause of `plan_task` (AllowedFacts),
---   and that the plan is within the limit of memory follows from the result of the test (`within_ok`). So these functions can only be called
+-- - The functions that take memory for joins require `MayJoin`. That the plan is within the budget is a clause of `plan_task` (AllowedFacts).
+--   That the plan is within the limit of memory follows from the result of the test (`within_ok`). So these functions can only be called
 --   after the test.
 --
 -- Sources of lists
@@ -30,10 +30,11 @@
 --   (`IsSource`), whose parts have a line for each source (`rows_kept`, `scans_bound`, `levels_bound`, `all_sets` in SourceFacts). Everything
 --   above is about any value with that record: plans (`plan_fits`, `plan_over`), levels, rooms, texts. So no proof above has a case for each
 --   source.
--- - `sets_by`, `scans_by`, `lists_by` and `planned_by` are `unfoldable`: goals stay as long as these names. They are opened in SourceFacts,
---   in the answers of `given_by` (`rw c.in-Columns.is`, and then the clause of the call is the goal), in ShapeFacts, and where the headline
---   says what each source's scans are (`of_columns`, `of_keyed`, `of_reduced` in Runs). `sourced` itself is transparent, so that its lists are
---   `lists_by` without a lemma; a prepared run keeps no schema, since lists and scan bounds don't depend on it.
+-- - `sets_by`, `scans_by`, `lists_by` and `planned_by` are `unfoldable`: goals stay as long as these names. They are opened in SourceFacts
+--   and ShapeFacts, and in the answers of `given_by` (`rw c.in-Columns.is`, and then the clause of the call is the goal). They are also
+--   opened where the headline says what each source's scans are (`of_columns`, `of_keyed`, `of_reduced` in Runs). `sourced` itself is
+--   transparent, so that its lists are `lists_by` without a lemma. A prepared run keeps no schema, since lists and scan bounds don't depend
+--   on it.
 -- - What a source needs of the tables (`Needs`) is a condition for its bounds of sets alone: its lists lose no row, and its bounds of scans
 --   hold, whatever the tables are. That declared keys hold follows from reading the files (KeyFacts): each entry's rows are those in some
 --   file of its table (`AreOfFiles` of table_files). This is a clause of reading and a law of the stage. One lemma goes from there to keys,
@@ -48,13 +49,14 @@
 -- - Facts about a plan are stated by definitions over `AnyPlan` (specs/Shapes: its parts, their bounds and rows, its texts). So the sentences
 --   of the headline, the verdict and the texts have no case for a tree. Only ShapeFacts and RootFacts, and the functions of `shapes` and
 --   `texts`, have a case for each shape.
--- - The entries of a choice for all of them are an order of the query's entries in both shapes (`joined_entries`, `order_is`). So that the
---   printed rows are the answer has one proof, from `last` of `LoseNoRow`.
--- - A plan and its buffers are one value (`Room`): no arm meets an order with the buffers of a tree, and what is left to do has the plan.
+-- - In both shapes the entries of a choice for all entries are an order of the query's entries (`joined_entries`, `order_is`). So there is
+--   one proof that the printed rows are the answer, from `last` of `LoseNoRow`.
+-- - A plan and its buffers are one value (`Room`). So no branch of the code has an order with the buffers of a tree, and what is left to do
+--   has the plan.
 -- - No node of a tree has more rows than its bound, whatever the sizes of the tables (`nodes_fit` of bushy_planning). So the verdict's law
 --   has no condition on sizes. Joins over a tree also require that tables are small, which the code knows about tables that it read
 --   (`plan_over`).
--- - An answer of either shape is `seen` over the answer of its choice, and `seen_ok` takes a plan out again.
+-- - The answer of a shape is made from the answer of its search by `seen`, which changes the value of an answer. `seen_ok` takes the plan out again.
 
 pub mod AllowedFacts
 pub mod Answered

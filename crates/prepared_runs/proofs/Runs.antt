@@ -60,7 +60,7 @@ is_ok : {A : Type 0} (r : Result A Refusal) → IfOk r (λ x. r ≡ Ok x)
 is_ok (Ok x) = refl
 is_ok (Err s) = tt
 
--- if P holds for each value that the answer may be, then P holds for the value of the answer with its error told as a refusal
+-- if P holds for the value of an answer, then P still holds after the answer's error was turned into a refusal
 ok_so : {A E : Type 0} (P : A → Type 0) (f : E → Refusal) (r : Result A E) → ((x : A) → r ≡ Ok x → P x) → IfOk (told f r) P
 ok_so P f (Ok x) h = h x refl
 ok_so P f (Err e) h = tt

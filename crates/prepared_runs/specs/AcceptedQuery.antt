@@ -1,4 +1,4 @@
--- A planned query with its tables and scans, as the promises of a run speak of it.
+-- A planned query with its tables and scans. The promises of a run are about this record.
 use Rattle.std.specs.Prelude.{ℕ, ◌≡◌, ◌<◌, ◌≤◌, List, map, length, slice_index, IsPermutation, Option}
 use Rattle.csv_tables.specs.Rows.{Row}
 use Rattle.query_types.specs.declared.types.Query.{Query}

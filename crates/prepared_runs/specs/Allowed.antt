@@ -13,7 +13,7 @@ abbrev pub shape_cost : AnyPlan → ℕ
 shape_cost (shaped.OrderPlan plan) = greatest plan.levels
 shape_cost (shaped.TreePlan plan) = plan.cost
 
--- memory may be taken for the joins of a plan if the task asks for rows or their counts, the plan costs no more than the budget, and its
+-- memory may be taken for the joins of a plan. The task asks for rows or their counts, and the plan costs no more than the budget. Its
 -- buffers take no more bytes than the limit of memory, if there is one
 pub record MayJoin (task : PlanWork) (plan : AnyPlan) : Type 0 where
   pub asked : task.out ≢ out_text.Nothing

@@ -1,4 +1,4 @@
--- What was read and planned for a query, as the `AcceptedQuery` that promises speak of.
+-- A `PreparedQuery` (all that was read, planned and reserved for a query): its `AcceptedQuery`, and the facts for which its joins can be run.
 use Rattle.std.specs.Prelude.{ℕ, ◌≡◌, ◌+◌, List, length, Option, None, Some, ⊤}
 use Rattle.query_types.specs.declared.types.Query.{Query}
 use Rattle.csv_tables.specs.declared.types.Database.{Database}
@@ -120,8 +120,8 @@ accepted_of prepared = record {
   out = text_left prepared.rest;
 }
 
--- the database has the query's tables, the plan is for the query's entries, and there is room for what is left to do, which takes exactly the
--- bytes of the plan
+-- the database has the query's tables, and the plan is for the query's entries. There is room for what is left to do, and this room takes
+-- exactly the bytes of the plan
 pub record IsPrepared (prepared : PreparedQuery) : Type 0 where
   pub database : IsDatabaseOf prepared.query prepared.db
   pub plan : IsShapedPlan (length prepared.query.from) (plan_left prepared.rest)

@@ -1,4 +1,4 @@
--- What was read and planned, as the outcome of the run.
+-- The outcome of a run, from what was read and planned for it.
 use Rattle.std.specs.Prelude.{◌≡◌, length}
 use Rattle.plans.specs.LeftDeep.{IsPlan}
 use Rattle.reserve_plan.specs.Memory.{plan_bytes}

@@ -289,7 +289,7 @@ fn write_refusal<N: Sink>(refusal: Refusal, names: Named, sink: &mut N) -> Resul
     }
 }
 
-/// Writes the line of a status that is not `Done`. A table is named by its file, a column by its name.
+/// Writes the line of a status that is not `Done`. The line names a table by its file, and a column by its name.
 pub fn write_line<N: Sink>(status: Status, names: Named, sink: &mut N) -> Result<(), Failed>
     requires { status ≢ Status.Done }
     ensures { Wrote (growth N.taken N.faults sink.old sink.new) (fault_line status (named names.entry)) result }

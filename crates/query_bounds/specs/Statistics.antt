@@ -21,15 +21,15 @@ pub record Statistics : Type 0 where
 
 -- ---- when a `QueryStats` has the known counts and lists
 
--- for an entry's row bound `stats` has the lists of one of the entry's columns. Each list sums to the entry's row count for the same filter,
--- and the entry's table has at most 2^32 rows
+-- for an entry's row bound `stats` has the lists of one of the entry's columns. The sum of each list is the entry's row count for the same
+-- filter, and the count of all rows is at most 2^32
 pub record TellsEntry (query : Query) (stats : QueryStats) (known : Statistics) (entry : ℕ) : Type 0 where
   pub column : ℕ
   pub lists : HasRowLists query stats entry (known.lists entry column)
   pub sums : SumTo (known.lists entry column) (known.counts entry)
   pub small : (known.counts entry).whole ≤ 2 ^ 32
 
--- `stats` has the lists of a column of an entry, and each list sums to the entry's row count for the same filter
+-- `stats` has the lists of a column of an entry, and the sum of each list is the entry's row count for the same filter
 pub record TellsColumn (query : Query) (stats : QueryStats) (known : Statistics) (entry column : ℕ) : Type 0 where
   pub lists : HasLists query stats entry column (known.lists entry column)
   pub sums : SumTo (known.lists entry column) (known.counts entry)

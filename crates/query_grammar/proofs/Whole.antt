@@ -27,7 +27,7 @@ pub reads_queries : Reads QuerySpecification query_shape (read_query read_condit
 unfolding QuerySpecification
 reads_queries = reads_query reads_condition
 
--- ---- a reader whose depth is at least the nesting of the tokens reads the same as one without a limit
+-- ---- a reader whose depth is at least the nesting of the tokens reads the same as the reader without a limit
 
 abbrev Shallow : ℕ → List Lexeme → Type 0
 Shallow n text = nesting text ≤ n

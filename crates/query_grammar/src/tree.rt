@@ -19,7 +19,7 @@ pub enum LiteralNode {
     Text(Lexeme),
 }
 
-/// What a test compares.
+/// An operand of a test.
 #[derive(Clone, Copy, Debug)]
 pub enum OperandNode {
     Column(ColumnNode),

@@ -67,7 +67,7 @@ column_alike schema name a b same = at (slice_get schema.tables a.table) (slice_
   at (Some s) None same = cc
   at (Some s) (Some t) same = column_named_alike a.number b.number s name ∙ ap (λ o. is_some (option_and_then (λ table. column_named b.number table name) o)) same
 
--- if an entry's table has a column of a name, then each entry of `brief` with this table gives one column
+-- if an entry's table has a column of a name, then `brief` has at most as many entries of this table as columns of this name
 pub table_columns : (schema : Schema) (name : List ℕ) (entry : Entry) (brief : List Entry) → is_some (column_in schema name entry) ≡ true
     → count_by (λ e. e.table == entry.table) brief ≤ length (columns_in schema name brief)
 table_columns schema name entry [] has = omega arith

@@ -1,4 +1,4 @@
-//! What a query asks.
+//! A query, its conditions and its outputs.
 use base_io::{Boxed, Name, Seq};
 pub use query_grammar::Op;
 

@@ -10,7 +10,7 @@ ghost use Rattle.cond_stats.specs.Lists.{compressed_degrees, list_of_node, list_
 ghost use Rattle.cond_stats.specs.Rows.{filter_values, joined_keys, keys_where};
 ghost use Rattle.relabelling_laws.specs.Relabelling.{AreEqualAlike, IsMissing, IsOneToOne, KeepsOrder, PassAlike, StandAlike};
 
-/// A new number occurs in a column as often as the old number did, and the frequent numbers of the new column are the new numbers of the old
+/// A new number occurs in a column as often as the old number did. The frequent numbers of the new column are the new numbers of the old
 /// column's frequent numbers.
 pub fn columns_are_relabelled()
     ensures degree { (f : ℕ → ℕ) (column : List ℕ) (value : ℕ) → IsOneToOne f column → Contains column value

@@ -1,4 +1,4 @@
--- If no equality of a set joins an entry of a part of the set with an entry outside the part, then the entries of the part have the same row
+-- Let no equality of a set join an entry of a part of the set with an entry outside the part. Then the entries of the part have the same row
 -- bounds and lists in the part as in the set.
 use Rattle.std.proofs.Common.{◌≡◌, ℕ, Bool, true, false, not, ◌&&◌, cond, eqb, List, [], ◌∷◌, length, get_or, refl, ap, sym, ◌∙◌, inl, inr}
 use Rattle.std.specs.Prelude.{if◌then◌else◌, min}

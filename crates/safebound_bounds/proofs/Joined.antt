@@ -132,8 +132,8 @@ module _ (tables : ValuedTables) where
     abbrev tested : ℕ → List ℕ
     tested = with_values own
 
-    -- in a column that the set's equalities name, a key is at most as frequent among the rows with values as in the column, and there are at
-    -- most as many such rows as values
+    -- let a column be one that the set's equalities name. A key is at most as frequent among the rows with values as in the column, and these
+    -- rows are at most as many as the column's values
     few_keys : (p : Place) → Contains (places_of own) p
         → ((a : ℕ) → degree (map (key p.entry p.column) (tested p.entry)) a ≤ degree (present (tables.values p.entry p.column)) a)
         × (length (tested p.entry) ≤ length (present (tables.values p.entry p.column)))

@@ -1,5 +1,5 @@
--- The number of rows of an entry that the equalities of a set can join is at most the entry's row bound, and at least the number of rows that
--- have values in all the columns.
+-- How many rows of an entry the equalities of a set can join (`rows_met`). This number is at most the entry's row bound. It is at least the
+-- number of rows that have values in all the columns.
 use Rattle.std.proofs.Common.{◌≡◌, ℕ, suc, ◌+◌, ◌<◌, ◌≤◌, min, Bool, true, false, cond, eqb, List, [], ◌∷◌, length, map, get_or, refl, sym, subst, inl, inr, arith}
 use Rattle.std.specs.Prelude.{if◌then◌else◌}
 use Rattle.std.specs.List.{AllByRecursion, range_with_len}

@@ -121,8 +121,8 @@ module _ (keys others : List ℕ) (fewer : (a : ℕ) → degree keys a ≤ degre
   weighs_less : (picked : List ℕ) → sum_by (degree keys) picked ≤ sum_by (degree others) picked
   weighs_less picked = sum_by-le-sum_by (degree keys) (degree others) picked fewer
 
-  -- a list that dominates all values also dominates keys that occur at most as often, even if the list is cut at a number that is at least
-  -- the number of keys
+  -- a list that dominates all values also dominates keys that occur at most as often. This is still so if the list is cut at a number of rows
+  -- that is at least the number of keys
   pub cut_dominates : (rows : ℕ) → length keys ≤ rows → (o : Option (List ℕ)) → DominatesKeys (unwrap_or o []) others → DominatesKeys (fitted_if rows o) keys
   cut_dominates rows within None dominates = keys_dominated [] keys (λ picked distinct. omega (arith, weighs_less picked, degrees_dominated [] others dominates picked distinct))
   cut_dominates rows within (Some list) dominates =

@@ -153,9 +153,9 @@ fn may_write(
 /// Writes the bounds of all sets of entries, in rows. The bound of a set is written at the index whose bits are the set's entries. The result
 /// is how many bounds were written. A bound of 2^64 - 1 means 2^64 - 1 or more.
 ///
-/// No bound is too low, if the row bounds and lists fit the tables. Rows may lack values. The choices (one row for each entry of a set) that
-/// satisfy the set's equalities are at most as many as the set's bound (SafeBound, SIGMOD 2023; Degree Sequence Bound, ICDT 2023). A
-/// comparison with a missing value isn't true (SQL-92, 8.2).
+/// No bound is too low, if the row bounds and lists fit the tables. Rows may lack values. Take the choices (one row for each entry of a set)
+/// that satisfy the set's equalities. They are at most as many as the set's bound (SafeBound, SIGMOD 2023; Degree Sequence Bound, ICDT 2023).
+/// A comparison with a missing value isn't true (SQL-92, 8.2).
 pub fn bounds(
     alloc: Global,
     rows: &[u64],

@@ -18,8 +18,8 @@ use std::alloc::Global;
 
 /// Writes the bounds of all sets of entries, in rows. The bound of a set is written at the index whose bits are the set's entries.
 ///
-/// No bound is too low, if the row bounds and lists fit the tables. Rows may lack values. The choices (one row for each entry of a set) that
-/// satisfy the set's equalities are at most as many as the set's bound, or the bound is 2^64 - 1.
+/// No bound is too low, if the row bounds and lists fit the tables. Rows may lack values. Take the choices (one row for each entry of a set)
+/// that satisfy the set's equalities. They are at most as many as the set's bound, or the bound is 2^64 - 1.
 #[unsafe(no_mangle)]
 pub extern "C" fn safebound_bounds(
     alloc: Global,

@@ -4,8 +4,8 @@
 //! and returns the exit status of the program. The words are copied into an array of fixed size, so only the run itself can run out of
 //! memory.
 //!
-//! Callers cite `CallEnds` (in `specs/Command.antt`). It is the headline of the top call, with a store that has exactly these files and whose
-//! reads never fail, and with streams whose writes fail only if their room is full.
+//! Callers cite `CallEnds` (in `specs/Command.antt`). It is the headline of the top call with a store and streams in memory. The store has
+//! exactly these files, and its reads never fail. Writes to a stream fail only if its room is full.
 #![tactic(auto)]
 
 mod command;

@@ -1,4 +1,4 @@
--- For all rows that tables may be read with, there is a database with these rows.
+-- For any tables that are read, there is a database with their rows.
 use Rattle.std.proofs.Common.{◌≡◌, ℕ, ◌<◌, List, [], ◌∷◌, length, Ok, refl, ap, sym, ◌∙◌, subst}
 use Rattle.std.specs.List.{AllByRecursion, IsDistinct}
 use Rattle.std.specs.Str.{IsUtf8}

@@ -32,9 +32,9 @@ pub fn files_of_declared_schemas_are_read()
         → (answer ≡ Ok file) ⊎ (answer ≡ Err error.NoMemory) }
 {}
 
-/// Suppose that `stats` over some files writes the text of a statistics file, and that a file with these bytes is among them. Then `plan --stats`
-/// with this file prints what `plan` prints at the accuracy of `stats`, or both are refused for the same cause. This holds for each budget and each
-/// limit of memory.
+/// Suppose that `stats` over some files writes the text of a statistics file, and that one of the files has these bytes. Then `plan --stats`
+/// with this file prints what `plan` prints at the accuracy of `stats`, or both are refused for the same cause. This holds for each budget
+/// and each limit of memory.
 pub fn files_plan_as_their_tables()
     ensures { (schema_file query_file stats_file : List ℕ) (accuracy budget : ℕ) (memory : Option ℕ) (files : Files) (written : RunOutcome) (text : List ℕ)
         → 0 < accuracy → accuracy ≤ most_accuracy
