@@ -1,5 +1,5 @@
--- What the words and the files determine, in stages. The stages are the words, the schema, the query, the tables or the statistics file, and
--- the plan. For `append` the stages after the schema are the statistics file and the new rows of one of its tables.
+-- The verdict: what the words and the files determine. It is computed in stages: the words, the schema, the query, the tables or the
+-- statistics file, and the plan. For `append` the stages after the schema are the statistics file and the new rows of one of its tables.
 use Rattle.std.specs.Prelude.{ℕ, ◌≡◌, ◌⊎◌, List, Option, None, Some, Result, Ok, Err, IsOkAnd}
 use Rattle.limits.specs.Profile.{most_text}
 use Rattle.base_io.specs.Files.{Files}

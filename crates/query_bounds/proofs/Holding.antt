@@ -94,7 +94,7 @@ has_first query stats known entry tells low =
 
 -- ---- adding the list of one column
 
--- a column is among places and one more place, if it is among the places or at the one more
+-- `is_among` for places and one more place: the column is among the places, or at the one more place
 among_more : (places : List Place) (place : Place) (entry column : ℕ) → is_among (places ++ place ∷ []) entry column ≡ (is_among places entry column || (is_at entry column place || false))
 among_more places place entry column = list_any-append (is_at entry column) places (place ∷ [])
 

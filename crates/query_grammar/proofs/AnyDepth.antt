@@ -12,7 +12,7 @@ use Rattle.query_grammar.specs.Readers.{read_within, read_condition}
 use Rattle.query_grammar.proofs.ConditionRules.{cond_shape, reads_within}
 use Rattle.query_grammar.proofs.EnoughDepth.{within_alike}
 
--- ---- a text of conditions nested at most n deep is one of conditions nested at most n + 1 deep
+-- ---- a text of conditions nested at most n deep is also one of conditions nested at most m deep, if n ≤ m
 
 conds_grow : (T T' : Language CondNode) → IsIn T T' → IsIn (ConditionOf T) (ConditionOf T')
 conds_grow T T' h = made_grows _ _ _ (listed_grows terminal.Or _ _ (made_grows _ _ _ (listed_grows terminal.And _ _ (made_grows _ _ _ (then_grows _ _ _ _ (itself_grows _) h)))))

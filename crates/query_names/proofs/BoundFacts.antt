@@ -39,7 +39,7 @@ use Rattle.query_names.proofs.LookSteps.{looked_of_equal, then_looked, flat_map_
 -- ---- one operand
 
 module _ (binder : Binder) (scope : Scope) where
-  -- a reference that stands for a column
+  -- if a reference stands for a column, an operand made of this column is bound
   pub bound_column : (reference : ColumnNode) (column : EntryColumn) (to : ColumnRef) {o : OperandNode} {text : Bool} {begins : Lexeme}
       → o ≡ operand.Column reference → Some column ≡ resolved_by binder scope reference → (column.from < 256 → to ≡ resolved_column (Some column))
       → text ≡ is_text column.kind → begins ≡ head_of reference

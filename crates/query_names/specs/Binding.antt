@@ -83,7 +83,7 @@ test_value_by binder scope test = (test_meaning (schema_of binder) binder.text.n
 unfoldable pub test_members_by : Binder → Scope → TestNode → List Cond
 test_members_by binder scope test = (test_meaning (schema_of binder) binder.text.now (from_of binder) scope test).members
 
--- the condition that the condition of a text means, and its members
+-- the condition that a condition of the query text means, and its members
 unfoldable pub value_by : Binder → Scope → CondNode → Cond
 value_by binder scope condition = (meaning (schema_of binder) binder.text.now (from_of binder) scope condition).whole
 

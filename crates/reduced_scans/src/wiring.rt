@@ -1,6 +1,6 @@
-//! Builds the uses of scanned rows for counted_sets, which removes rows without a match. In its words, each row is an item. A slot is a value
-//! on one side of an equality. A use says that a row gives the slot of its value on its own side, and needs the slot of this value on the
-//! other side.
+//! Builds the uses of scanned rows for counted_sets, which removes rows without a match. In the words of counted_sets, each row is an item,
+//! and a slot is a value on one side of an equality. A use says that a row gives the slot of its value on its own side, and needs the slot of
+//! this value on the other side.
 ghost use Rattle.std.specs.Prelude.{◌≡◌, ◌+◌, ◌*◌, ◌^◌, ◌<◌, ◌≤◌, ◌∷◌, ◌++◌, [], ℕ, All, List, OnOk, length};
 ghost use Rattle.limits.specs.Profile.{most_conjuncts, most_entries, most_rows};
 ghost use Rattle.berge_tree.specs.declared.edges.Edge.{Edge};

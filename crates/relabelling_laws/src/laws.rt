@@ -21,7 +21,7 @@ pub fn columns_are_relabelled()
 {}
 
 /// Cuts are the numbers at which leaves begin. If the new numbers compare as the old numbers do, the cuts of the new column are the new
-/// numbers of the old cuts. If a test of the new numbers passes where a test of the old numbers does, both tests give the same leaf.
+/// numbers of the old cuts. If a test of the new numbers passes exactly where a test of the old numbers does, both tests give the same leaf.
 pub fn leaves_are_relabelled()
     ensures cuts { (at_most other : ℕ → ℕ → Bool) (f : ℕ → ℕ) (column : List ℕ) → KeepsOrder at_most other f column
         → cuts other (map f column) ≡ map f (cuts at_most column) }

@@ -22,7 +22,8 @@ pub fn appended_files_stand()
         → StandsAfter grows.before grows.section.table grows.rows grows.after }
 {}
 
-/// No plan from the file that `append` writes has a bound that is too low for the table with the new rows.
+/// Suppose that the statistics file that `append` read stands for the tables of a plan's query. Then no bound of a plan from the file that
+/// `append` writes is too low for these tables with the new rows.
 pub fn plans_after_an_append_are_never_under()
     ensures { (files : Files) (schema stats name rows : List ℕ) (outcome : RunOutcome) (grows : GrowsByFile files schema stats name rows outcome)
         → PlansAfter grows.before grows.section.table grows.rows grows.after }

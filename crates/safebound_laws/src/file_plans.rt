@@ -15,24 +15,27 @@ pub fn plans_from_written_files_hold()
         → WroteStats made schema bytes → PlannedFrom schema bytes planned → PlanHolds made planned schema }
 {}
 
-/// `stats`, then `append` any number of times, then `plan --stats`. No scan and no level has more rows than the plan text says, over the rows
-/// that `stats` read, followed by all new rows.
+/// `stats`, then `append` any number of times, then `plan --stats`. Suppose that the statistics file of each call has the bytes that the call
+/// before wrote, and that all calls read the same schema. Then, for every query that the last call accepts, no scan and no level has more
+/// rows than the plan text says, over the rows that `stats` read, followed by all new rows.
 pub fn plans_from_appended_files_hold()
     ensures { (schema : Schema) (bytes : List ℕ) (made : StatsCall) (appends : List AppendCall) (planned : PlanCall)
         → WroteStats made schema bytes → AppendedEach schema bytes appends → PlannedFrom schema (last_bytes bytes appends) planned
         → GrownPlanHolds made appends planned schema }
 {}
 
-/// A plan from the file that `stats` wrote is the same as the plan from the tables. For every query that the later call accepts, `plan` makes
-/// this plan from the rows that `stats` read, at the accuracy of `stats` and within the later call's budget.
+/// `stats`, then `plan --stats`, under the conditions of `plans_from_written_files_hold`: the plan is the same as the plan from the tables.
+/// For every query that the later call accepts, `plan` makes this plan from the rows that `stats` read, at the accuracy of `stats` and within
+/// the later call's budget.
 pub fn plans_from_written_files_are_those_of_the_tables()
     ensures { (schema : Schema) (bytes : List ℕ) (made : StatsCall) (planned : PlanCall)
         → WroteStats made schema bytes → PlannedFrom schema bytes planned → PlanIsOfTables made planned schema }
 {}
 
-/// The bounds of a plan from the file that `stats` wrote are near the bounds without compression, if no conjunct of the query names one entry
-/// alone. At accuracy K, K^n times the printed bound of a level of n entries is at most (K + 1)^n times its bound without compression. At the
-/// usual accuracy, 1, the printed bound is at most 2^n times the bound without compression.
+/// `stats`, then `plan --stats`, under the conditions of `plans_from_written_files_hold`: the bounds of the plan are near the bounds without
+/// compression, if no conjunct of the query names one entry alone. At accuracy K, K^n times the printed bound of a level of n entries is at
+/// most (K + 1)^n times its bound without compression. At the usual accuracy, 1, the printed bound is at most 2^n times the bound without
+/// compression.
 pub fn plans_from_written_files_are_near()
     ensures { (schema : Schema) (bytes : List ℕ) (made : StatsCall) (planned : PlanCall)
         → WroteStats made schema bytes → PlannedFrom schema bytes planned
