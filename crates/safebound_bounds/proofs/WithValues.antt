@@ -91,8 +91,8 @@ module _ (t : ℕ → Bool) (key : ℕ → ℕ) where
       by false is None first rest = rest
       by false is (Some x) first rest = omega (arith, rest)
 
-  -- if each row that passes has its value as its key, then a key is at most as frequent among these rows as among the values, and there are
-  -- at most as many of these rows as values
+  -- let each row that passes the test have its value as its key. Then a key is at most as frequent among these rows as among the values, and
+  -- there are at most as many of these rows as values
   pub keys_are_values : (values : List (Option ℕ)) → ((k : ℕ) → k < length values → t k ≡ true → get_or values k None ≡ Some (key k))
       → ((a : ℕ) → degree (passing 0 (length values)) a ≤ degree (present values) a) × (length (filter t (range_with_len 0 (length values))) ≤ length (present values))
   keys_are_values values have =

@@ -16,8 +16,8 @@ pub fn plans_from_written_files_hold()
 {}
 
 /// `stats`, then `append` any number of times, then `plan --stats`. Suppose that the statistics file of each call has the bytes that the call
-/// before wrote, and that all calls read the same schema. Then, for every query that the last call accepts, no scan and no level has more
-/// rows than the plan text says, over the rows that `stats` read, followed by all new rows.
+/// before wrote, and that all calls read the same schema. Take any query that the last call accepts, over the rows that `stats` read,
+/// followed by all new rows. Then no scan and no level has more rows than the plan text says.
 pub fn plans_from_appended_files_hold()
     ensures { (schema : Schema) (bytes : List ℕ) (made : StatsCall) (appends : List AppendCall) (planned : PlanCall)
         → WroteStats made schema bytes → AppendedEach schema bytes appends → PlannedFrom schema (last_bytes bytes appends) planned
