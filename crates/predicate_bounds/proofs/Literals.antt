@@ -1,4 +1,4 @@
--- Literals and values, and ranges of both.
+-- A literal made of a value has that value again, and so have ranges.
 use Rattle.std.proofs.Common.{◌≡◌, List, [], ◌∷◌, map, Option, None, Some, option_map, refl, ap, ◌∙◌}
 use Rattle.csv_tables.specs.Values as values
 use Rattle.csv_tables.specs.Values.{Value}

@@ -1,4 +1,4 @@
--- What holds of every run that the verdict gives.
+-- Every run that the verdict gives has no bound that is too low, prints the answer, and keeps its limit of memory.
 use Rattle.std.proofs.Common.{◌≡◌, ℕ, ◌≤◌, List, Result, Ok, Err, length, map, get_or, refl, ap, sym, ◌∙◌, subst, arith}
 use Rattle.std.specs.Prelude.{IfOk, IsPermutation}
 use Rattle.std.proofs.Math.Seq.{take-length}
@@ -60,7 +60,7 @@ is_ok : {A : Type 0} (r : Result A Refusal) → IfOk r (λ x. r ≡ Ok x)
 is_ok (Ok x) = refl
 is_ok (Err s) = tt
 
--- what holds of each value that an answer may be
+-- if P holds for the value of an answer, then P still holds after the answer's error was turned into a refusal
 ok_so : {A E : Type 0} (P : A → Type 0) (f : E → Refusal) (r : Result A E) → ((x : A) → r ≡ Ok x → P x) → IfOk (told f r) P
 ok_so P f (Ok x) h = h x refl
 ok_so P f (Err e) h = tt
@@ -77,7 +77,7 @@ schema_ok name files =
     any_ok IsValid (read file.Schema 1048576 name files) schema_of_text
     (λ text. ok_so IsValid schema_refusal (schema_answer text) (λ schema e. schemas.valid text schema e))
 
--- a query that names its own entries, over the rows that its source gives and by its plan
+-- a run whose query names its own entries alone, with the rows and the plan that its source gives
 pub record IsRun (run : AcceptedQuery) : Type 0 where
   pub own : NamesItsEntries run.query
   pub lists : run.lists ≡ lists_by run.source run.query (tables run)
@@ -86,7 +86,7 @@ pub record IsRun (run : AcceptedQuery) : Type 0 where
   pub limit : IsWithinLimit run.memory (shape_bytes run.plan)
   pub scans : (accuracy : ℕ) × ((entry : ℕ) → get_or (scan_bounds run.plan) entry 0 ≡ get_or (scans_by run.source run.query (tables run) accuracy) entry 0)
 
--- a plan over tables is such a run, and else what is promised of it holds
+-- the outcome is sound: a planned run satisfies `IsRun`, and for the other outcomes the promises hold themselves
 abbrev IsSound : RunOutcome → Type 0
 IsSound (Planned run) = IsRun run
 IsSound (StatsMade made_stats) = NoBoundIsTooLow (StatsMade made_stats)
@@ -144,7 +144,7 @@ unfolding verdict
 verdict_ok words files =
     then_ok (λ command. command_stage words ≡ Ok command) IsSound (command_stage words) _ (is_ok (command_stage words)) (λ command is. command_ok command files (has_ranges words command is))
 
--- ---- two sentences
+-- ---- two sentences of the headline: no bound is too low, and the printed rows are the answer
 
 module _ (run : AcceptedQuery) (is : IsRun run) where
   abbrev lists_from : ListSource → List (List ℕ)

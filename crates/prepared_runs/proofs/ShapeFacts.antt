@@ -1,4 +1,4 @@
--- What holds of a plan of either shape by what a source gives, and of the entries that it joins.
+-- A plan of either shape, by the bounds that a source gives: its bounds hold, and it joins each entry once.
 use Rattle.std.proofs.Common.{◌≡◌, ℕ, ◌+◌, ◌-◌, ◌<◌, ◌≤◌, List, Result, Ok, Err, eqb, length, get_or, refl, ap, sym, ◌∙◌, subst, arith}
 use Rattle.std.specs.Prelude.{◌≢◌}
 use Rattle.std.specs.List.{AllByRecursion, IsDistinct}
@@ -42,7 +42,7 @@ use Rattle.prepared_runs.specs.declared.shapes.AnyPlan.TheVariants as shaped
 use Rattle.safebound_words.specs.declared.command.Shape.{Shape}
 use Rattle.safebound_words.specs.declared.command.Shape.TheVariants as shapes
 
--- ---- an answer with its value seen as another
+-- ---- an answer whose value was changed by a function
 
 pub seen_ok : {A B E : Type 0} (f : A → B) (r : Result A E) (y : B) → seen f r ≡ Ok y → (x : A) × (r ≡ Ok x) × (f x ≡ y)
 seen_ok f (Ok x) y is = (x, refl, cc)
@@ -67,16 +67,16 @@ never_wants_memory shapes.Tree given accuracy budget =
     never_seen over (tree_answer (given.sets accuracy) (given.scans accuracy) budget) error.NoMemory
     (trees.never_memory (given.sets accuracy) (given.scans accuracy) budget)
 
--- by bounds that are known the answer is the plan
+-- if the code has the bounds that a source gives, then the best plan by them is that of the definition
 pub planned_known : (shape : Shape) (given : Sourced) (accuracy budget : ℕ) (known : Known) → HasBounds (given.sets accuracy) (given.scans accuracy) known
     → answer_of shape known.sets known.scans budget ≡ planned_by shape given accuracy budget
 unfolding planned_by
 planned_known shape given accuracy budget known gives =
     ap (λ (s : List ℕ). answer_of shape s known.scans budget) gives.sets ∙ ap (λ (s : List ℕ). answer_of shape (given.sets accuracy) s budget) gives.scans
 
--- ---- a plan by what a source gives
+-- ---- a plan by the bounds that a source gives
 
--- it is one for each entry, and no list and no part has more rows than it says
+-- the plan is for the query's entries, and no list and no part has more rows than the plan says
 pub record Fits (query : Query) (tables : Tables) (lists : List (List ℕ)) (made : AnyPlan) : Type 0 where
   pub plan : IsShapedPlan (length query.from) made
   pub scans : (entry : ℕ) → entry < length query.from → rows_listed lists entry ≤ get_or (scan_bounds made) entry 0
@@ -154,14 +154,14 @@ module _ (query : Query) (tables : Tables) (given : Sourced) (is : IsSource quer
     unfolding planned_by
     scan_is_given entry = answer_keeps shape plan made entry
 
--- no bound of a plan over lists is too low for these
+-- if a plan's bounds fit some lists, no list and no part over them has more rows than its bound
 pub over_fits : (query : Query) (tables : Tables) (lists : List (List ℕ)) (plan : AnyPlan) → IsPlanOver query tables lists plan
     → IsShapedPlan (length query.from) plan × (length (scan_bounds plan) ≡ length query.from)
     × ((entry : ℕ) → entry < length query.from → rows_listed lists entry ≤ get_or (scan_bounds plan) entry 0)
 over_fits query tables lists (shaped.OrderPlan plan) is = (is.for_each_entry, is.for_each_entry.scans, is.scans)
 over_fits query tables lists (shaped.TreePlan plan) is = (is.for_each_entry, is.for_each_entry.scans, is.scans)
 
--- ---- the entries that it joins
+-- ---- the entries that a plan joins: each of n entries once
 
 record HasAll (n : ℕ) (order : List ℕ) : Type 0 where
   entries : AllByRecursion (λ entry. entry < n) order
@@ -180,14 +180,14 @@ order_is query plan is = let its = has_all (length query.from) plan is in order_
 pub order_of : (query : Query) (plan : AnyPlan) → IsShapedPlan (length query.from) plan → IsOrderOf query (joined_entries plan)
 order_of query plan is = let its = has_all (length query.from) plan is in record { entries = its.entries; once = its.once; all = its.all }
 
--- ---- over whole scans
+-- ---- the parts of a plan over whole scans are those over whole tables
 
 pub whole_part : (query : Query) (tables : Tables) (plan : AnyPlan) → IsShapedPlan (length query.from) plan → (k : ℕ) → k < part_count plan
     → part_rows query tables (scans_of query tables) plan k ≡ whole_parts query tables plan k
 whole_part query tables (shaped.OrderPlan plan) is k low = levels_of_scans query tables plan.order (k + 1) (order_is query (shaped.OrderPlan plan) is)
 whole_part query tables (shaped.TreePlan plan) is k low = whole_is query tables plan (length plan.scans + k) is (omega arith)
 
--- ---- the last level
+-- ---- the last level over lists is the last level of the query
 
 pub last_level : (query : Query) (db : Database) (plan : Plan) (lists : List (List ℕ)) → IsDatabaseOf query db → LoseNoRow query (tables_of db) lists → IsPlan (length query.from) plan
     → (k : ℕ) → k + 1 ≡ length plan.order → list_levels query (tables_of db) lists plan.order (k + 1) ≡ query_level query db plan.order (k + 1)

@@ -1,4 +1,4 @@
--- What each source gives stands for the rows of the query.
+-- The bounds and lists that each source gives: the lists lose no row of the answer, and no bound is too low.
 use Rattle.std.proofs.Common.{◌≡◌, ℕ, ◌^◌, List, length, ap, sym, ◌∙◌}
 use Rattle.std.proofs.lemmas.List.FromFn.{length-map-range_with_len}
 use Rattle.std.proofs.Math.Seq.{take-length}
@@ -34,7 +34,7 @@ use Rattle.prepared_runs.specs.Standing.{IsSource, LoseNoRow}
 use Rattle.safebound_words.specs.declared.command.ListSource.{ListSource}
 use Rattle.safebound_words.specs.declared.command.ListSource.TheVariants as sources
 
--- ---- an instance for each source
+-- ---- the facts for each source
 
 module _ (query : Query) (tables : Tables) where
   whole_rows : LoseNoRow query tables (scans_of query tables)
@@ -49,7 +49,7 @@ module _ (query : Query) (tables : Tables) where
         ∙ sym (ap (λ (placed : List ℕ). level_of (conjuncts_of query tables) (row_counts tables) placed) (take-length order));
   }
 
-  -- what is joined loses no row, whatever the tables
+  -- no row of the answer is lost by the rows that are joined, whatever the tables are
   pub rows_kept : (source : ListSource) → LoseNoRow query tables (lists_by source query tables)
   unfolding lists_by
   rows_kept sources.Columns = whole_rows
@@ -57,7 +57,7 @@ module _ (query : Query) (tables : Tables) where
   rows_kept sources.Reduced = reduced_rows
   rows_kept sources.Counted = reduced_rows
 
-  -- and no scan has more rows than its bound
+  -- no scan has more rows than its bound
   pub scans_bound : (source : ListSource) (accuracy : ℕ) → BoundLists query tables (lists_by source query tables) (scans_by source query tables accuracy)
   unfolding lists_by scans_by
   scans_bound sources.Columns accuracy = told_bound query tables accuracy
@@ -78,7 +78,7 @@ module _ (query : Query) (tables : Tables) where
       length-map-range_with_len (counted_bound (counted_of query tables (reduced_of query tables)) query tables (reduced_of query tables)) 0 (2 ^ length query.from)
 
   module _ (schema : Schema) where
-    -- nor any level, where the tables keep what the source needs
+    -- if the tables have what the source needs, no level has more rows than the bound of its set
     levels_bound : (source : ListSource) → Needs source schema query tables → (accuracy : ℕ)
         → BoundLevels query tables (lists_by source query tables) (sets_by source schema query tables accuracy)
     unfolding sets_by lists_by

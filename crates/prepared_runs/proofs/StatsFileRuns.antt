@@ -1,4 +1,5 @@
--- What holds of a statistics file that the verdict makes, and of a plan that it makes from one.
+-- A statistics file that the verdict makes stands for its tables, and a plan that the verdict makes from a statistics file has no bound that
+-- is too low.
 use Rattle.std.proofs.Common.{◌≡◌, ℕ, ◌<◌, ◌≤◌, List, [], Option, Result, Ok, Err, length, get_or, refl, ap, sym, ◌∙◌, subst}
 use Rattle.std.specs.Prelude.{IfOk}
 use Rattle.std.proofs.lemmas.List.{get_or-map, length-map}
@@ -74,7 +75,7 @@ pub stats_keep : (name : List ℕ) (schema : Schema) (files : Files) → IsValid
 unfolding stats_stage
 stats_keep name schema files valid = keeps_read schema valid (read file.Stats 67108864 name files)
 
--- ---- a plan from it
+-- ---- a plan from a statistics file
 
 module _ (schema : Schema) (query : Query) (of : IsOf schema query) (stats : StatsFile) (keeps : KeepsRules schema stats) (budget : ℕ) (small : budget ≤ 20000000)
     (memory : Option ℕ) where
@@ -90,7 +91,7 @@ module _ (schema : Schema) (query : Query) (of : IsOf schema query) (stats : Sta
         never_under query stats tables budget plan (names_its_entries schema query of) of.few small (record { schema = schema; keeps = keeps }) stands made))
     planned_so (Err e) made = tt
 
-    -- what follows from that no bound of it is too low, and that it is within its limit
+    -- Q holds for the plan, if Q follows from these two facts: no bound of the plan is too low, and the plan is within its limit
     pub filed_plan_holds : IfOk (stats_file_plan_stage query stats budget memory) Q
     unfolding stats_file_plan_stage
     filed_plan_holds = planned_so (stats_file_plan query stats budget) refl

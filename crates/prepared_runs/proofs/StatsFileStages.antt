@@ -1,4 +1,4 @@
--- The stages of statistics files, step by step.
+-- The stages of statistics files: each function does what its stage says.
 use Rattle.std.proofs.Common.{◌≡◌, ◌⊎◌, ℕ, inl, inr, List, Option, Result, Ok, Err, ap, sym, ◌∙◌, subst}
 use Rattle.std.specs.Prelude.{IfErr, IfOk}
 use Rattle.base_io.specs.Files.{Files}
@@ -61,7 +61,7 @@ module _ {store : Reading} (name : List ℕ) (schema : Schema) where
       then_tells store (read file.Stats 67108864 name) (stats_of_text schema) (AtFile file.Stats) (AtFile file.Stats) text e
       (subst (λ (t : List ℕ). StopsBy (stats_of_text schema t) e) same tells) h
 
--- ---- what the reader answers, as the one answer of the text
+-- ---- the reader returns the one answer that the text has, or NoMemory
 
 module _ (schema : Schema) (text : List ℕ) (is : IsValid schema) (bytes : HasByteColumns schema) where
   pub stats_read : (x : StatsFile) → Answers schema text (Ok x) → stats_answer schema text ≡ Ok x
@@ -80,7 +80,7 @@ module _ (schema : Schema) (text : List ℕ) (is : IsValid schema) (bytes : HasB
 
 -- ---- the plan from a file
 
--- a plan that is made is refused for its bytes alone
+-- a plan that was made is refused only if its bytes are above the limit
 module _ (query : Query) (stats : StatsFile) (plan : Plan) (memory : Option ℕ) where
   abbrev made_of : RunOutcome
   made_of = PlannedFromStats (record { query = query; file = stats; plan = plan; memory = memory })

@@ -1,4 +1,4 @@
--- The outcome of a run that isn't refused, and what is proved of it. The words and the files determine the outcome.
+-- The outcome of a run that isn't refused, and what is proved about the outcome. The words and the files determine it.
 use Rattle.std.specs.Prelude.{ℕ, ◌≡◌, List, Option, ⊤}
 use Rattle.appended_stats.specs.Appended.{file_after}
 use Rattle.appended_stats.specs.Conditions.{HasNewRows}
@@ -46,13 +46,13 @@ pub data RunOutcome : Type 0 where
   PlannedFromStats : PlanFromStatsFile → RunOutcome
   Appended : AppendedRows → RunOutcome
 
--- for all tables for which the file stands, no scan and no level of the plan's order has more rows than the plan says
+-- for all tables for which the statistics file stands, no scan and no level of the plan's order has more rows than the plan says
 abbrev pub HoldsWhereItStands : PlanFromStatsFile → Type 0
 HoldsWhereItStands made = (tables : Tables) → StandsFor made.query made.file tables
     → IsPlanOf made.query tables (scans_of made.query tables) made.plan
 
--- The file is an earlier file with these rows added. If the earlier file stood for some tables, this one stands for the same tables with
--- these rows at the end of their table.
+-- The file is an earlier statistics file with the new rows added. If the earlier file stood for some tables, then the new file stands for
+-- these tables with the new rows at the end of their table.
 pub record StandsForMore (made : AppendedRows) : Type 0 where
   pub before : StatsFile
   pub keeps : KeepsRules made.schema before
@@ -60,8 +60,9 @@ pub record StandsForMore (made : AppendedRows) : Type 0 where
   pub stands : (query : Query) (tables after : Tables) → StandsFor query before tables → HasNewRows query made.table made.rows tables after
       → StandsFor query made.file after
 
--- No bound is too low. A plan from tables has bounds for these tables. A plan from a file has bounds for all tables for which the file stands. A
--- new file stands for the tables from which it is made. A file after an append stands for the tables of the earlier file with the rows added.
+-- No bound is too low. The bounds of a plan from tables hold for these tables. The bounds of a plan from a statistics file hold for all
+-- tables for which the file stands. A new statistics file stands for the tables from which it is made. A file after an append stands for the
+-- tables of the earlier file with the rows added.
 abbrev pub NoBoundIsTooLow : RunOutcome → Type 0
 NoBoundIsTooLow (Planned run) = BoundsHold run
 NoBoundIsTooLow (StatsMade made_stats) = StandsFor made_stats.query made_stats.file (tables_in made_stats.rows)

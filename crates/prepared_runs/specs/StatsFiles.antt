@@ -26,7 +26,7 @@ use Rattle.table_files.specs.TableFile.{read}
 use Rattle.prepared_runs.specs.Limits.{within_limit}
 use Rattle.prepared_runs.specs.RunOutcome.{StatsMade, RunOutcome, PlannedFromStats}
 
--- the statistics file that a text spells over a schema; below, that of the file of this name
+-- the statistics file that a text spells over a schema; `stats_stage` reads the text from the file `name`
 abbrev pub stats_of_text : Schema → List ℕ → Result StatsFile Refusal
 stats_of_text schema text = told stats_refusal (stats_answer schema text)
 
@@ -44,13 +44,13 @@ abbrev pub stats_file_ending : StatsFilePlanError → Ending
 stats_file_ending (error.Missing from) = ending.Refused (refusal.Stats cause.Missing from)
 stats_file_ending (error.Plan e) = plan_ending e
 
--- the outcome of a plan from a file, or MemoryLimit with the bytes of the plan
+-- the outcome of a plan from a statistics file, or MemoryLimit with the bytes of the plan
 abbrev pub stats_file_plan_within : Query → StatsFile → Plan → Option ℕ → Result RunOutcome Refusal
 stats_file_plan_within query stats plan memory = within_limit memory (plan_bytes plan.order plan.scans plan.levels)
     (PlannedFromStats (record { query = query; file = stats; plan = plan; memory = memory }))
 
--- the plan of a query from a statistics file: the best order with its bounds. Or a refusal: Missing with the first entry for which something
--- is missing, PastBits, Budget with the least cost, or MemoryLimit with the bytes of the plan
+-- the plan of a query from a statistics file: the best order with its bounds, or a refusal. The refusals are Missing with the first entry for
+-- which the file has no statistics, PastBits, Budget with the least cost, and MemoryLimit with the bytes of the plan
 unfoldable pub stats_file_plan_stage : Query → StatsFile → ℕ → Option ℕ → Result RunOutcome Refusal
 stats_file_plan_stage query stats budget memory = do
   plan ← told stats_file_refusal (stats_file_plan query stats budget)

@@ -35,7 +35,7 @@ pub fn memory_of(plan: &AnyPlan) -> u128
     }
 }
 
-/// Refuses this number of bytes if there is a limit and they are above it.
+/// Refuses a plan of `bytes` bytes if there is a limit and `bytes` is above it.
 pub fn keep_limit(limit: Option<u64>, bytes: u128) -> Result<(), Refusal>
     ensures { result ≡ limit_test limit bytes }
 {

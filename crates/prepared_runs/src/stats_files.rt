@@ -69,7 +69,7 @@ pub(crate) fn load_stats<S: Store>(
     Ok(file)
 }
 
-// The ending of a run whose planning from a file failed.
+// The ending of a run that found no plan by the statistics file.
 fn ending_of(error: StatsFilePlanError) -> Ending
     ensures { result ≡ stats_file_ending error }
 {
@@ -82,7 +82,7 @@ fn ending_of(error: StatsFilePlanError) -> Ending
     }
 }
 
-// Answers the plan, unless it takes more bytes than the limit of memory.
+// Returns the plan, unless the plan takes more bytes than the limit of memory.
 fn limited(
     query: Query,
     file: StatsFile,
@@ -107,7 +107,7 @@ fn limited(
     })
 }
 
-// Plans a query from a statistics file, within a budget and a limit of memory. It reads no table.
+// Plans a query from a statistics file, within a budget and a limit of memory. No table is read.
 fn plan_from_stats_file(
     alloc: Global,
     schema: &Schema,

@@ -1,4 +1,4 @@
--- What dominates keys dominates other keys that are equal alike.
+-- A list that dominates keys also dominates other keys that are equal in the same rows.
 use Rattle.std.proofs.Common.{◌≡◌, ◌↔◌, ℕ, ◌≤◌, Bool, true, cond, eqb, List, [], ◌∷◌, map, length, refl, ap, sym, ◌∙◌, subst, arith, inl, inr}
 use Rattle.std.specs.List.{AllByRecursion, Contains, IsDistinct, count_by, filter}
 use Rattle.std.proofs.lemmas.Bool.{cases_Bool, eqb-true, eqb-false}
@@ -15,7 +15,7 @@ use Rattle.relabelling_laws.specs.Relabelling.{AreEqualAlike, IsOneToOne}
 use Rattle.relabelling_laws.proofs.Columns.{degrees_are, from_filter, from_map, its_own, keeps}
 use Rattle.relabelling_laws.proofs.Mapped.{All-different, count-mapped, different-mapped, map-mapped}
 
--- of the different keys, those that get one of these numbers
+-- the different keys whose new number is in `picked`
 sources : (ℕ → ℕ) → List ℕ → List ℕ → List ℕ
 sources f keys picked = filter (λ key. is_in picked (f key)) (different keys)
 
@@ -31,7 +31,7 @@ sources_distinct : (f : ℕ → ℕ) (keys picked : List ℕ) → IsDistinct eqb
 unfolding sources
 sources_distinct f keys picked = IsDistinct-filter (λ key. is_in picked (f key)) (different keys) (IsDistinct-different keys)
 
--- no more keys than numbers that they get
+-- there are at most as many of these keys as numbers in `picked`
 sources_few : (f : ℕ → ℕ) (keys picked : List ℕ) → IsOneToOne f keys → length (sources f keys picked) ≤ length picked
 unfolding sources
 sources_few f keys picked one =
@@ -46,7 +46,7 @@ sources_few f keys picked one =
       count_by-is_in (different (map f keys)) (IsDistinct-different (map f keys)) picked,
     )
 
--- a list that dominates keys dominates what they get
+-- a list that dominates keys dominates their new numbers
 pub still_dominates : (s : List ℕ) (f : ℕ → ℕ) (keys : List ℕ) → IsOneToOne f keys → DominatesKeys s keys → DominatesKeys s (map f keys)
 still_dominates s f keys one dominates picked apart =
     let found : List ℕ = sources f keys picked in

@@ -1,7 +1,7 @@
-//! The library as C sees it: each call of include/safebound.h, thin over the crates that check values and answer.
+//! The library for callers in C: the calls of include/safebound.h. Each call hands its values to a crate that checks them and computes the result.
 //!
-//! A call answers a status and writes a number to `*detail`. `TellsAnswer` says what the two mean, and what was written into the caller's
-//! buffer. No call has a precondition, and no call keeps anything for the next one.
+//! A call returns a status and writes a number to `*detail`. `TellsAnswer` says what the two numbers mean, and what was written into the
+//! caller's buffer. No call has a precondition, and no call keeps anything for the next call.
 #![tactic(auto)]
 
 mod bounding;

@@ -1,4 +1,4 @@
--- A word that isn't UTF-8, among the words of a call.
+-- Some word of a call isn't UTF-8.
 use Rattle.std.proofs.Common.{ℕ, ◌<◌, List, map, length, get_or}
 use Rattle.std.specs.Borrow.{Bor}
 use Rattle.std.specs.List.{Any}

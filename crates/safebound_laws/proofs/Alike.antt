@@ -1,4 +1,4 @@
--- A plan from the file of a query's tables, and one over these tables.
+-- A plan from the statistics file of a query's tables prints the same as a plan from these tables.
 use Rattle.std.proofs.Common.{◌≡◌, ℕ, ◌<◌, ◌≤◌, List, Bool, true, false, Option, None, Some, Result, Ok, Err, refl, ap, sym, ◌∙◌}
 use Rattle.std.specs.Prelude.{length, nat_le, if◌then◌else◌}
 use Rattle.limits.specs.Profile.{most_accuracy, most_file}
@@ -58,7 +58,7 @@ use Rattle.safebound_top.proofs.Promises.{declares, query_of_schema}
 use Rattle.safebound_laws.specs.Printed.{printed}
 use Rattle.safebound_laws.proofs.Databases.{database_found}
 
--- the work that `plan` asks for
+-- the task of the command `plan`
 abbrev task : ℕ → ℕ → Option ℕ → PlanWork
 task budget accuracy memory = record { budget = budget; accuracy = accuracy; source = sources.Columns; shape = shapes.Order; memory = memory; out = out.Nothing }
 
@@ -69,16 +69,16 @@ test_alike : (test : Bool) (r : Refusal) (x y : RunOutcome) → printed x ≡ pr
 test_alike true r x y same = ap (λ (p : Option (List ℕ) × Option (List ℕ)). Ok p) same
 test_alike false r x y same = refl
 
--- outcomes that print the same print the same within the same limit too
+-- if two outcomes print the same, they print the same under a limit of memory
 limits_alike : (memory : Option ℕ) (bytes : ℕ) (x y : RunOutcome) → printed x ≡ printed y
     → seen printed (within_limit memory bytes x) ≡ seen printed (within_limit memory bytes y)
 limits_alike None bytes x y same = ap (λ (p : Option (List ℕ) × Option (List ℕ)). Ok p) same
 limits_alike (Some limit) bytes x y same = test_alike (nat_le bytes limit) (refusal.MemoryLimit bytes) x y same
 
--- ---- from the query on
+-- ---- the stages after the query
 
 module _ (query : Query) (file : StatsFile) (rows : List (List Row)) (budget accuracy : ℕ) (memory : Option ℕ) where
-  -- the outcome of a plan from the file, and of a plan from the tables
+  -- the outcome of a plan from the file, and then that of a plan from the tables
   by_file : Result Plan PlanError → Result RunOutcome Refusal
   by_file answer = told stats_file_refusal (where_told answer) >>= λ plan. stats_file_plan_within query file plan memory
 
@@ -145,7 +145,7 @@ module _ (schema : Schema) (query : Query) (db : Database) (over : IsOverSchema 
       ∙ sym (ap (seen printed) (from_tables tables))
       ∙ sym (ap (λ rows. seen printed (rows >>= plan_stage (task budget accuracy memory) schema query)) rows)
 
--- ---- from the words' request on
+-- ---- the stages of the whole command
 
 module _ (schema_file query_file : List ℕ) (files : Files) (schema : Schema) (query : Query) (schema_is : schema_stage schema_file files ≡ Ok schema)
     (query_is : query_stage query_file schema files ≡ Ok query) where
@@ -155,9 +155,9 @@ module _ (schema_file query_file : List ℕ) (files : Files) (schema : Schema) (
       ap (λ (s : Result Schema Refusal). s >>= λ s. aim_run (aims.Query query_file work) s files) schema_is
       ∙ ap (λ (q : Result Query Refusal). q >>= λ q. work_run work schema q files) query_is
 
--- ---- what `stats` writes
+-- ---- the file that `stats` writes
 
--- the schema, the query and the rows that a file of statistics is made of
+-- the schema, the query and the rows from which a statistics file is made
 pub record FileMade (schema_file query_file : List ℕ) (accuracy : ℕ) (files : Files) (written : RunOutcome) : Type 0 where
   pub schema : Schema
   pub schema_is : schema_stage schema_file files ≡ Ok schema
@@ -184,7 +184,7 @@ file_made schema_file query_file accuracy files written ran =
       is = cc (filed.2);
     }
 
--- ---- both commands
+-- ---- both commands print the same
 
 pub files_alike : (schema_file query_file stats_file : List ℕ) (accuracy budget : ℕ) (memory : Option ℕ) (files : Files) (written : RunOutcome) (text : List ℕ)
     → 0 < accuracy → accuracy ≤ most_accuracy

@@ -40,7 +40,7 @@ module _ (schema : Schema) (stats : StatsFile) (table before : ℕ) (rows : List
   abbrev made : RunOutcome
   made = Appended (record { schema = schema; table = table; rows = rows; file = file_after stats table rows })
 
-  -- there is an outcome only if the rows are few enough, and the outcome is `made`
+  -- if there is an outcome, the table has at most most_rows rows with the new rows, and the outcome is `made`
   grown_so : (outcome : RunOutcome) → grown_stage schema stats table before rows ≡ Ok outcome → (before + length rows ≤ most_rows) × (outcome ≡ made)
   unfolding grown_stage
   grown_so outcome is = elim (cases_Bool (nat_le (before + length rows) most_rows)) [

@@ -1,4 +1,4 @@
--- No file of `demo` is absent, and no read of its store fails: it never ends with a read fault.
+-- No file of `demo` is absent, and no read of its store fails, so `demo` never ends with a read fault.
 use Rattle.std.proofs.Common.{◌≡◌, inl, inr, ℕ, List, Option, None, Some, Result, Ok, Err, refl, ap, sym, ◌∙◌, subst, arith}
 use Rattle.std.specs.Prelude.{codes}
 use Rattle.base_io.specs.Causes.{Rose}
@@ -44,7 +44,7 @@ use Rattle.prepared_runs.proofs.LimitFacts.{within_misses}
 use Rattle.table_files.proofs.StagedFiles.{told_ok}
 use Rattle.safebound_top.proofs.Promises.{query_of_schema}
 
--- ---- no reader tells of an absent file
+-- ---- no reader of a text gives the refusal Missing
 
 schemas_miss : {A : Type 0} (r : Result A SchemaError) → MissesNothing (told schema_refusal r)
 schemas_miss (Ok schema) id e = cc

@@ -1,4 +1,4 @@
--- What a run over whole columns prints is near the bounds without compression.
+-- The bounds that a run over whole columns prints are near the bounds without compression.
 use Rattle.std.proofs.Common.{◌≡◌, ℕ, List, Option, Result, Ok, Err, ap, sym, ◌∙◌, subst, arith}
 use Rattle.base_io.specs.Files.{Files}
 use Rattle.order_search.specs.declared.refusal.PlanError.{PlanError}
@@ -35,7 +35,7 @@ use Rattle.safebound_words.specs.declared.command.Shape.{Shape}
 use Rattle.safebound_words.specs.declared.command.Shape.TheVariants as shapes
 use Rattle.safebound_top.proofs.Promises.{Stages, query_of_schema, stages}
 
--- if the answer is an order, the search for an order found it, and likewise for a tree
+-- if the answer is an order, the search for an order found it; and if the answer is a tree, the search for a tree found it
 seen_along : (r : Result Plan PlanError) (plan : Plan) → seen (λ p. shaped.OrderPlan p) r ≡ Ok (shaped.OrderPlan plan) → r ≡ Ok plan
 seen_along (Ok p) plan e = (let same : p ≡ plan = cc in ap Ok same)
 seen_along (Err s) plan e = cc
@@ -75,7 +75,7 @@ tree_planned : (shape : Shape) (schema : Schema) (query : Query) (ts : Tables) (
 unfolding planned_by sets_by scans_by
 tree_planned shape schema query ts accuracy budget plan e = tree_is_answer shape _ _ budget plan e
 
--- ---- of an accepted run
+-- ---- the bounds of an accepted run
 
 module _ (schema_file query_file : List ℕ) (task : PlanWork) (files : Files) (run : AcceptedQuery) (s : Stages schema_file query_file task files (Planned run))
     (source : run.source ≡ sources.Columns) (none : FiltersNoEntry run.query) where

@@ -1,4 +1,4 @@
--- A plan from a statistics file, if it is known for which tables the file stands.
+-- The bounds of a plan from a statistics file hold for all tables for which the file is known to stand.
 use Rattle.std.proofs.Common.{◌≡◌, ℕ, ◌<◌, ◌==◌, ◌++◌, true, false, List, [], length, get_or, Option, None, Some, Result, Ok, Err, refl, ap, sym, ◌∙◌, subst, arith}
 use Rattle.std.specs.Prelude.{unwrap_or}
 use Rattle.std.proofs.lemmas.Bool.{eq-eqb}
@@ -95,7 +95,7 @@ plan_made schema_file query_file stats_file budget memory files outcome ran =
       is = kept.0;
     }
 
--- ---- the tables of another query
+-- ---- the rows of another query's entries
 
 -- an entry of the other query has the rows of the first entry of its table
 abbrev pub moved : Query → Tables → Query → Tables
@@ -115,7 +115,7 @@ module _ (query : Query) (tables : Tables) (share : ShareRows query tables) (oth
           let its = first_is query (table_of other place) first is in
           share entry first low its.0 (same ∙ sym its.1) ∙ ap (λ (o : Option ℕ). tables (unwrap_or o 0)) (sym is)
 
--- with rows added to both
+-- two queries still have the same rows after the same rows are added to the tables of both
 added_same : (query : Query) (tables : Tables) (other : Query) (also : Tables) (added : List Added) → HaveSameRows query tables other also
     → HaveSameRows query (with_added query tables added) other (with_added other also added)
 added_same query tables other also added have entry place low within same =
@@ -139,9 +139,9 @@ in_file files schema query entry rows of low staged =
       read = read.2;
     }
 
--- ---- the plan
+-- ---- the plan of a call of `plan --stats`
 
--- from a file that is known to stand for tables of the query that `stats` read
+-- the plan is made from a statistics file that is known to stand for tables of the query that `stats` read
 module _ (made : StatsCall) (schema : Schema) (first_bytes : List ℕ) (start : FromStats made first_bytes schema) (bytes : List ℕ) (tables : Tables)
     (known : Known schema start.query bytes tables) (planned : PlanCall) (from : PlannedFrom schema bytes planned) where
   abbrev command : Command
@@ -167,7 +167,7 @@ module _ (made : StatsCall) (schema : Schema) (first_bytes : List ℕ) (start : 
   pub of_schema : IsOf schema its.query
   of_schema = query_of_schema planned.query_file planned.files schema its.query query_there
 
-  -- ---- the rows of its entries
+  -- ---- the rows of the planned query's entries
 
   pub made_so : (first_missing its.query its.stats ≡ None) × (planned_by_file its.query its.stats planned.budget ≡ Ok its.plan)
   unfolding stats_file_plan
@@ -194,7 +194,7 @@ module _ (made : StatsCall) (schema : Schema) (first_bytes : List ℕ) (start : 
   pub over : IsOver made planned schema its.query (moved start.query (tables_of start.database) its.query)
   over = record { asks = asks planned.query_file planned.files schema its.query query_there; rows = rows_there }
 
-  -- ---- its text
+  -- ---- the plan's text
 
   abbrev pub its_plan : PlanFromStatsFile
   its_plan = record { query = its.query; file = its.stats; plan = its.plan; memory = planned.memory }
@@ -214,7 +214,7 @@ module _ (made : StatsCall) (schema : Schema) (first_bytes : List ℕ) (start : 
   pub written : Grew planned.call.notes (stats_file_plan_text (record { query = its.query; file = its.stats; plan = its.plan; memory = planned.memory }))
   written = subst (λ (o : RunOutcome). GrewWhole planned.call.notes (notes_text o)) (sym its.is) (ended planned.call command planned.files from.done).notes
 
--- ---- from what `stats` wrote
+-- ---- a plan from the file that `stats` wrote
 
 module _ (schema : Schema) (bytes : List ℕ) (made : StatsCall) (planned : PlanCall) (wrote : WroteStats made schema bytes) (from : PlannedFrom schema bytes planned) where
   start : FromStats made bytes schema
@@ -236,7 +236,7 @@ module _ (schema : Schema) (bytes : List ℕ) (made : StatsCall) (planned : Plan
         written = written made schema bytes s bytes (tables_of s.database) s.known planned from;
       }
 
--- ---- from what appends made of it
+-- ---- a plan from the file after any number of appends
 
 module _ (schema : Schema) (bytes : List ℕ) (made : StatsCall) (appends : List AppendCall) (planned : PlanCall) (wrote : WroteStats made schema bytes)
     (did : AppendedEach schema bytes appends) (from : PlannedFrom schema (last_bytes bytes appends) planned) where

@@ -1,4 +1,4 @@
--- What a plan from a statistics file says of the rows in table files: those that `stats` read, and those that `append` read after it.
+-- What a plan from a statistics file says about the rows in table files: the rows that `stats` read, and the rows that `append` read after `stats`.
 use Rattle.std.specs.Prelude.{ℕ, ◌≡◌, ◌<◌, ◌==◌, if◌then◌else◌, ◌++◌, List, [], ◌∷◌, length, slice_get, Some, Ok, true, ⊤}
 use Rattle.std.specs.List.{flat_map}
 use Rattle.std.specs.Str.{str_eq_ignore_ascii_case}
@@ -23,7 +23,7 @@ use Rattle.safebound_laws.specs.FileCalls.{AppendCall, PlanCall, StatsCall}
 
 -- ---- the rows that `stats` read
 
--- `query` is the query that `plan --stats` read. `tables` has for each of its entries the rows of its table's file, as `stats` read it
+-- `query` is the query that `plan --stats` read. `tables` has for each entry of the query the rows of its table's file, as `stats` read the file
 pub record IsOver (made : StatsCall) (planned : PlanCall) (schema : Schema) (query : Query) (tables : Tables) : Type 0 where
   pub asks : AsksQuery planned.files planned.query_file schema query
   pub rows : (entry : ℕ) → entry < length query.from → AreInFile made.files schema query entry (tables entry)
@@ -47,7 +47,7 @@ pub record PlanIsOfTables (made : StatsCall) (planned : PlanCall) (schema : Sche
   pub same : planned_over query tables made.accuracy planned.budget ≡ Ok plan
   pub written : Grew planned.call.notes (plan_lines query.from plan ++ memory_text planned.memory (plan_bytes plan.order plan.scans plan.levels))
 
--- `plan --stats` wrote a plan to notes, and the bound of each level is near the uncompressed one over the rows that `stats` read
+-- `plan --stats` wrote a plan to notes, and the bound of each level is near the bound without compression, over the rows that `stats` read
 pub record PlanIsNear (made : StatsCall) (planned : PlanCall) (schema : Schema) : Type 0 where
   pub query : Query
   pub tables : Tables
@@ -63,7 +63,7 @@ pub record Added : Type 0 where
   pub table : ℕ
   pub rows : List Row
 
--- the words of `append` name the table and a file, and the added rows are those in this file
+-- the words of `append` name the table and a file, and the added rows are the rows in this file
 pub record AddsRowsOfFile (schema : Schema) (append : AppendCall) (added : Added) : Type 0 where
   pub table : Table
   pub is_table : slice_get schema.tables added.table ≡ Some table
@@ -72,7 +72,7 @@ pub record AddsRowsOfFile (schema : Schema) (append : AppendCall) (added : Added
   pub there : file_of append.files append.names.rows_file ≡ Some bytes
   pub read : rows_of_file table bytes ≡ Ok added.rows
 
--- each call of `append` added the rows at the same place of the other list
+-- the two lists are equally long, and the call of `append` at each place added the rows at the same place of the other list
 abbrev pub AddEach : Schema → List AppendCall → List Added → Type 0
 AddEach schema [] [] = ⊤
 AddEach schema [] (added ∷ more) = ⊥
@@ -83,7 +83,7 @@ AddEach schema (append ∷ appends) (added ∷ more) = AddsRowsOfFile schema app
 abbrev pub added_rows : ℕ → List Added → List Row
 added_rows table added = flat_map (λ (one : Added). if table == one.table then one.rows else []) added
 
--- the rows of each entry, and after them those that were added to its table
+-- the rows of each entry, followed by the rows that were added to its table
 abbrev pub with_added : Query → Tables → List Added → Tables
 with_added query tables added entry = tables entry ++ added_rows (table_of query entry) added
 

@@ -1,4 +1,4 @@
--- What a run prints, by its outcome.
+-- The texts that a run prints, from its outcome.
 use Rattle.std.specs.Prelude.{ℕ, List, Option}
 use Rattle.prepared_runs.specs.RunOutcome.{RunOutcome}
 use Rattle.safebound_top.specs.OutcomeTexts.{notes_text, out_text}

@@ -1,4 +1,4 @@
-//! Laws about every run. A function here does nothing: its `ensures` clauses are the law.
+//! Laws about every run. A call does nothing; its contract is the law.
 ghost use Rattle.std.specs.Prelude.{◌≡◌, ◌≢◌, ◌∷◌, [], ℕ, List, Err, IfOk, Ok, Some, codes};
 ghost use Rattle.base_io.specs.Files.{Files};
 ghost use Rattle.csv_tables.specs.Files.{rows_of_file};
@@ -47,9 +47,9 @@ pub fn demo_is_an_audit()
         → verdict words files ≡ verdict (codes "audit" ∷ codes "schema.sql" ∷ codes "query.sql" ∷ []) files }
 {}
 
-/// A source gives bounds, and the rows that are joined. At every accuracy, no bound is below the number of rows that it bounds, and the joined
-/// rows lose no row of the answer. The source `Keyed` carries conditions through keys, so it needs tables in which the declared keys hold. They
-/// hold in all tables that were read from files.
+/// A source gives bounds, and the rows that are joined. At every accuracy, each bound is at least the number of rows that it bounds, and no
+/// row of the answer is lost if only the given rows are joined. The source `Keyed` carries conditions along declared keys, so it needs tables
+/// in which the declared keys hold. They hold in all tables that were read from files.
 pub fn sources_stand()
     ensures stand { (source : ListSource) (schema : Schema) (query : Query) (tables : Tables) → Needs source schema query tables
         → IsSource query tables (sourced source schema query tables) }
