@@ -86,7 +86,7 @@ is_whole s = by (less 0 s.section.rows) (both (same_number (length s.pair.cuts) 
     by (inl some) (inr fails) = inr (λ h. fails (h some))
     by (inr none) (inr fails) = inl (λ h. absurd (none h))
 
--- ---- values that may be next, by their words
+-- ---- the value that may come next and is spelled by given words
 
 pub next_accuracy : (word : List ℕ) → Decided (Spelled number_word MayBeAccuracy (word, []))
 next_accuracy word =
@@ -94,7 +94,7 @@ next_accuracy word =
     (λ h. let most = h.may.1 in (h.value, omega arith, (h.may.0, ap first_word h.spells)))
     (below {P = λ n. (least_accuracy ≤ n) × (decimal n ≡ word)} (λ n. both (at_most least_accuracy n) (same_numbers (decimal n) word)) (suc most_accuracy))
 
--- if it is decided which value spells one word, it is decided which value spells the pair of this word and an empty one
+-- a decision about values that are spelled by one word, as a decision about values that are spelled by a line with this word alone
 as_one : {X : Type 0} (text : X → List ℕ) (MayBe : X → Type 0) (word : List ℕ) → Decided (Spelled text MayBe word) → Decided (Spelled (λ x. alone (text x)) MayBe (word, []))
 as_one text MayBe word d =
     alike (λ h. record { value = h.value; may = h.may; spells = ap alone h.spells }) (λ h. record { value = h.value; may = h.may; spells = ap first_word h.spells }) d

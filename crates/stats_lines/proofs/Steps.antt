@@ -29,7 +29,7 @@ Outcome = Result (Unit {0}) Fault
 
 -- ---- the words of a line spell a value
 
--- the draft after a value that may come next and has these words is taken, or the fault if there is no such value
+-- a value that may come next and has these words is taken, which gives `draft`; or there is no such value, and `result` is the fault
 record Taken {X : Type 0} (text : X → List ℕ × List ℕ) (MayBe : X → Type 0) (After : Draft → X → Type 0) (words : List ℕ × List ℕ) : Type 0 where
   draft : Draft
   result : Outcome

@@ -1,4 +1,4 @@
--- A valid draft (one as which some file begins) stays valid when a table or a pair begins or ends.
+-- A valid draft (one that some file which keeps the rules extends) stays valid when a table or a pair begins or ends.
 use Rattle.std.proofs.Common.{◌≡◌, ◌≢◌, ℕ, zero, suc, ◌^◌, ◌<◌, ◌≤◌, List, [], ◌∷◌, ◌++◌, length, get_or, replicate, refl, ap, sym, subst, ◌∙◌, arith, append-nil, Option, Some, None}
 use Rattle.std.specs.Prelude.{All, AllPairs, slice_get, sum, pos}
 use Rattle.std.specs.declared.cmp.Ordering.TheVariants.{Greater}
@@ -33,7 +33,7 @@ nothing : {X : Type 0} (xs ys : List X) → xs ++ ys ≡ [] → (xs ≡ []) × (
 nothing [] ys e = (refl, e)
 nothing (x ∷ xs) ys e = absurd (cc)
 
--- if all cuts are read, a pair that begins as the current one has no further cuts
+-- if all cuts are read, a pair that extends the current one has no further cuts
 cuts_whole : (kind : Kind) (rows : ℕ) (front old : List Datum) (nodes : List (List ℕ)) → IsHistogramOf kind rows (front ++ old) nodes → (0 < rows → length front ≡ 32) → old ≡ []
 cuts_whole kind zero front old nodes (none, others) all = (nothing front old none).1
 cuts_whole kind (suc n) front old nodes is all = no_more front old (is.leaves ∙ sym (all (omega arith)))

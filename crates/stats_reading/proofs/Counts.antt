@@ -1,4 +1,5 @@
--- Pairs of a table agree: those with the same filter column have the same counts, those with the same joined column the same list of all rows.
+-- Pairs of a table agree: those with the same filter column have the same counts, and those with the same joined column have the same list of all
+-- rows.
 use Rattle.std.proofs.Common.{◌≡◌, ℕ, zero, suc, ◌<◌, List, length, get_or, refl, sym, subst, ◌∙◌, arith, Option, Some, None}
 use Rattle.std.specs.Prelude.{All, AllPairs, slice_get}
 use Rattle.std.proofs.lemmas.Option.{get_or_from_slice_get, slice_get_within}
@@ -55,7 +56,7 @@ members_agree pairs i j d e agree lt is = subst (λ (x : Pair). Agree (get_or pa
     at (behind h) = agree_back (get_or pairs j d) (get_or pairs i d) (agree j i d h lt)
 
 -- if pair p agrees with all earlier pairs, another pair with p's columns and list of all rows does too, provided that it has p's counts if an earlier
--- pair has the filter column
+-- pair has p's filter column
 pub agrees_after : (table : Table) (s : Draft) (p other : Pair) (rows : ℕ) → IsKnown table s → PairRules table rows s.section.pairs p → p.filter ≡ s.pair.filter
     → other.filter ≡ p.filter → other.joined ≡ p.joined → other.whole ≡ p.whole → ((q : Pair) → IsLike s q → HaveSameFilterCounts p other) → All (λ q. Agree q other) s.section.pairs
 agrees_after table s p other rows known rules at_filter same_filter same_joined same_whole counts k d lt =

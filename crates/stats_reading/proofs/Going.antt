@@ -1,4 +1,4 @@
--- A step: the lines that may follow a draft begin with the given line exactly if the lines after it may follow the next draft.
+-- A step: a line with further lines may follow a draft exactly if the further lines may follow the next draft.
 use Rattle.std.proofs.Common.{◌≡◌, ◌↔◌, inl, inr, ℕ, List, ◌∷◌, refl, sym, subst, ◌∙◌}
 use Rattle.std.specs.Prelude.{⊤, Result, Ok, Err}
 use Rattle.stats_file.specs.declared.types.StatsFile.{StatsFile}
@@ -18,14 +18,15 @@ Words = List ℕ × List ℕ
 abbrev pub two : List ℕ → List ℕ → Words
 two a b = (a, b)
 
--- the files that go on with this line are those that go on with a value that may come next and whose line this is, and the value's words determine it
+-- to read `line` is to take a value: a file goes on with the line exactly if the line is that of a value which may come next; words determine the
+-- value
 pub record IsStep {X : Type 0} (line_of : X → List ℕ) (text : X → Words) (MayBe Then : X → Type 0) (Before Next : StatsFile → Lines → Type 0) (line : List ℕ) (words : Words) : Type 0 where
   pub opens : (file : StatsFile) (more : Lines) → Before file (line ∷ more) → Opened line_of MayBe (λ v. Then v → Next file more) line
   pub closes : (v : X) (file : StatsFile) (more : Lines) → Then v → MayBe v → Next file more → Before file (line_of v ∷ more)
   pub same : (a b : X) → MayBe a → MayBe b → text a ≡ text b → a ≡ b
   pub spells : (v : X) → MayBe v → (line_of v ≡ line) ↔ (text v ≡ words)
 
--- how an answer to a line relates the files that may follow before it and after it
+-- what an answer to a line says of the files that may follow before the line and after it
 abbrev pub FilesGo : (StatsFile → Lines → Type 0) → (StatsFile → Lines → Type 0) → Type 0 → List ℕ → Result (Unit {0}) Fault → Type 0
 FilesGo Before After Valid line (Ok done) = ((file : StatsFile) (more : Lines) → Before file (line ∷ more) ↔ After file more) × Valid
 FilesGo Before After Valid line (Err fault.Syntax) = ⊥

@@ -1,4 +1,4 @@
--- A valid draft (one as which some file begins) stays valid when the next cut or node is read into its current pair.
+-- A valid draft (one that some file which keeps the rules extends) stays valid when the next cut or node is read into its current pair.
 use Rattle.std.proofs.Common.{◌≡◌, ◌≢◌, ℕ, zero, suc, ◌-◌, ◌<◌, List, [], ◌∷◌, ◌++◌, length, length-append, map, replicate, refl, ap, sym, subst, ◌∙◌, arith, append_assoc, Option, Some, None}
 use Rattle.std.specs.Prelude.{All, AllPairs, slice_get, sum}
 use Rattle.std.specs.declared.cmp.Ordering.TheVariants.{Greater}

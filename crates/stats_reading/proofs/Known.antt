@@ -82,7 +82,7 @@ pub no_words : (schema : Schema) (s : Draft) (k : LineKind) (a b l : List ℕ) �
     → (more : List (List ℕ)) → TextLeft s.stage (ended l ∷ more) → ⊥
 no_words schema s k a b l may none = no_line schema s l (λ j f g is. none (may.only j f g is))
 
--- the answer is right after the fault of a line was corrected: a rule is broken only by a line of the grammar
+-- the answer stays right if its fault is corrected: for a line that isn't one of the grammar, Rule becomes Syntax
 pub faulted : (schema : Schema) (s t : Draft) (k : LineKind) (a b l : List ℕ) (old new : Fault) → MayBeLineOf k a b l → (IsLineOf k a b l → LineAnswers schema s t (ended l) (Err old))
     → IsFaultOf k a b old new → LineAnswers schema s t (ended l) (Err new)
 faulted schema s t k a b l fault.Rule fault.Rule may answers is = answers (record { parts = is; whole = may.whole })

@@ -1,4 +1,4 @@
--- If a pair keeps the rules and begins as the draft's current pair, the value that comes next in it may come next in the draft.
+-- If a pair keeps the rules and extends the draft's current pair, the next value of this pair may come next in the draft.
 use Rattle.std.proofs.Common.{◌≡◌, ◌≢◌, ℕ, zero, suc, ◌+◌, ◌-◌, ◌<◌, ◌≤◌, List, ◌∷◌, ◌++◌, length, length-append, map, ap, sym, subst, ◌∙◌, arith, Some}
 use Rattle.std.specs.Prelude.{All, AllPairs, slice_get, sum}
 use Rattle.std.specs.declared.cmp.Ordering.TheVariants.{Greater}

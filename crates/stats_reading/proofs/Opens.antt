@@ -1,4 +1,4 @@
--- If a file begins as the draft, its next line in the current pair is that of a value that may come next.
+-- If a file extends the draft, its next line in the current pair is that of a value that may come next.
 use Rattle.std.proofs.Common.{◌≡◌, ℕ, List, [], ◌∷◌, ◌++◌, map, refl, ap, sym, subst, ◌∙◌, append-nil, append_assoc, Some}
 use Rattle.std.specs.Prelude.{slice_get}
 use Rattle.schema_types.specs.declared.types.Schema.{Schema}

@@ -71,7 +71,7 @@ all_same P (suc m) x h = at (all_same P m x h)
     at rest zero d lt = h
     at rest (suc k) d lt = rest k d (omega arith)
 
--- a list in order stays in order when x, which isn't before any element, is appended m times
+-- a list in order by R stays in order when x is appended m times, if R relates each element to x, and x to itself
 pub pairs_padded : {X : Type 0} (R : X → X → Type 0) (m : ℕ) (xs : List X) (x : X) → AllPairs R xs → All (λ y. R y x) xs → R x x → AllPairs R (xs ++ replicate m x)
 pairs_padded R zero xs x pairs above own = subst (AllPairs R) (sym (append-nil xs)) pairs
 pairs_padded R (suc m) xs x pairs above own =

@@ -75,7 +75,7 @@ read_more schema bytes rest text others s t line h split goes =
       );
     }
 
--- ---- for each valid draft there is a file that begins as it
+-- ---- for each valid draft there is a file that extends it
 
 record Begun (at : Stage) (schema : Schema) (s : Draft) : Type 0 where
   file : StatsFile
@@ -120,7 +120,7 @@ begun_at stage.Cuts schema s v = record { file = file_of_draft s (section_of s (
 begun_at stage.Nodes schema s v = record { file = file_of_draft s (section_of s (v.pair ∷ []) ∷ []); more = v.own ++ last; left = in_pair (NodesLeft s.pair) schema s v }
 begun_at stage.Done schema s v = record { file = file_of_draft s []; more = []; left = (v, refl, refl) }
 
--- there is a file that begins with the lines that were read
+-- there is a file whose first lines are those that were read
 read_up_to : (schema : Schema) (bytes rest : List ℕ) (s : Draft) (line : ℕ) (h : IsRead schema bytes rest s line) → IsReadUpTo schema bytes h.lines rest
 read_up_to schema bytes rest s line h =
     let b = begun_at s.stage schema s h.valid in

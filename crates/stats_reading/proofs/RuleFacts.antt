@@ -28,12 +28,12 @@ section_rules schema table section is exists =
     let same = same_some is.table table (slice_get schema.tables section.table) is.table_is exists in
     record { pairs = subst (λ t. All (IsPair t section.rows) section.pairs) same is.pairs; order = is.order; agree = is.agree }
 
--- if a file that begins as the draft keeps the rules, its current table does
+-- if a file that extends the draft keeps the rules, its current table does
 pub section_at : (schema : Schema) (s : Draft) (pairs : List Pair) (tables : List TableStats) → KeepsRules schema (file_of_draft s (section_of s pairs ∷ tables))
     → IsSection schema (section_of s pairs)
 section_at schema s pairs tables keeps = all_here (IsSection schema) s.tables (section_of s pairs) tables keeps.tables
 
--- if a file keeps the rules, the pair that comes after those of the draft keeps the rules for it
+-- if a file keeps the rules, the pair that comes after those of the draft satisfies `PairRules`
 pub pair_rules : (schema : Schema) (table : Table) (s : Draft) (pair : Pair) (pairs : List Pair) (tables : List TableStats) → slice_get schema.tables s.section.table ≡ Some table
     → KeepsRules schema (file_of_draft s (section_of s (pair ∷ pairs) ∷ tables)) → PairRules table s.section.rows s.section.pairs pair
 pair_rules schema table s pair pairs tables exists keeps =
@@ -68,7 +68,7 @@ fewer_pairs_section schema s pairs more is =
       agree = pairs_front Agree (s.section.pairs ++ pairs) more (subst (AllPairs Agree) same is.agree);
     }
 
--- a file that keeps the rules still does if its last table is exchanged for one that keeps them, at the same place of the schema
+-- a file still keeps the rules if its last section is exchanged for another section of the same table that keeps them
 other_last : (schema : Schema) (s : Draft) (a b : TableStats) → a.table ≡ b.table → IsSection schema b → KeepsRules schema (file_of_draft s (a ∷ [])) → KeepsRules schema (file_of_draft s (b ∷ []))
 other_last schema s a b same is keeps =
     let order = pairs_here (λ (x y : TableStats). x.table < y.table) s.tables a [] keeps.order in
@@ -80,14 +80,14 @@ other_last schema s a b same is keeps =
       tables = all_more (IsSection schema) s.tables b (all_left (IsSection schema) s.tables (a ∷ []) keeps.tables) is;
     }
 
--- if a file that begins as the draft keeps the rules, the file with only the pairs of the draft does
+-- if a file that extends the draft keeps the rules, the file with only the pairs of the draft does
 pub without_pair : (schema : Schema) (s : Draft) (pairs : List Pair) (tables : List TableStats) → KeepsRules schema (file_of_draft s (section_of s pairs ∷ tables))
     → KeepsRules schema (file_of_draft s (section_of s [] ∷ []))
 without_pair schema s pairs tables keeps =
     let one = fewer_tables schema s (section_of s pairs ∷ []) tables keeps in
     other_last schema s (section_of s pairs) (section_of s []) refl (fewer_pairs_section schema s [] pairs (section_at schema s pairs [] one)) one
 
--- if a pair keeps the rules for it, the draft may go on with this pair
+-- if a pair satisfies `PairRules`, the draft may go on with this pair
 pub with_pair : (schema : Schema) (table : Table) (s : Draft) (pair : Pair) → slice_get schema.tables s.section.table ≡ Some table
     → KeepsRules schema (file_of_draft s (section_of s [] ∷ [])) → PairRules table s.section.rows s.section.pairs pair
     → KeepsRules schema (file_of_draft s (section_of s (pair ∷ []) ∷ []))

@@ -67,7 +67,7 @@ map_get f (z ∷ xs) (suc i) y is = map_get f xs i y is
 
 -- ---- equal lists of lines
 
--- the first line of mapped elements with other lines after them is the first of the mapped elements, with these lines after it
+-- `line` is the line of the first element of `xs`, and `more` are the lines of its other elements, followed by `after`
 pub record FromMap {X : Type 0} (f : X → List ℕ) (xs : List X) (line : List ℕ) (more after : List (List ℕ)) : Type 0 where
   pub head : X
   pub rest : List X

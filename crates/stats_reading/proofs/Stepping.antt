@@ -40,7 +40,7 @@ of_one first word l whole = ap ended whole ∙ append_assoc first word (codes "\
 of_two : (first a b l : List ℕ) → l ≡ first ++ (a ++ (codes " " ++ b)) → ended l ≡ first ++ (a ++ (codes " " ++ (b ++ codes "\n")))
 of_two first a b l whole = of_one first (a ++ (codes " " ++ b)) l whole ∙ ap (λ (x : List ℕ). first ++ x) (append_assoc a (codes " " ++ b) (codes "\n"))
 
--- a line that is one of the grammar without its line end is one with it
+-- if a line without its line end has words of the grammar, the line with its line end is one of the grammar
 pub kind_line : (k : LineKind) (a b l : List ℕ) → IsLineOf k a b l → IsOfKind k (ended l)
 kind_line kind.First a b l is = record { word = a; word_is = is.parts.0; whole = of_one (codes "safebound-stats 1 ") a l is.whole }
 kind_line kind.Table a b l is = record { first = a; second = b; first_is = is.parts.0; second_is = is.parts.1; whole = of_two (codes "table ") a b l is.whole }

@@ -153,7 +153,7 @@ pub record IsSameTotal (place : ℕ) (node : List ℕ) (q : Pair) : Type 0 where
   pub there : slice_get q.nodes place ≡ Some other
   pub total : sum other ≡ sum node
 
--- a node may be the next one: all cuts are read
+-- a node may be the next one, after all cuts
 pub record NodeFollows (s : Draft) (node : List ℕ) : Type 0 where
   pub some : 0 < s.section.rows
   pub all_cuts : length s.pair.cuts ≡ 32

@@ -1,5 +1,5 @@
--- What a line does to a draft: either the draft goes on with it, for every file and text, or the line is refused and no file or no text may go on with
--- it.
+-- What a line does to a draft. Either the draft goes on with the line, or the line is refused: no text of the grammar, or no file that keeps the
+-- rules, goes on with it.
 use Rattle.std.specs.Prelude.{ℕ, ◌≡◌, ◌<◌, ◌↔◌, ⊤, All, length, List, [], ◌∷◌, Some, slice_get, Result, Ok, Err}
 use Rattle.schema_types.specs.declared.types.Schema.{Schema}
 use Rattle.schema_types.specs.declared.types.Table.{Table}
@@ -16,7 +16,7 @@ use Rattle.stats_reading.specs.Stages.{TextLeft}
 use Rattle.stats_reading.specs.Steps.{Ends, EndsAnd, PairEnds, TableEnds}
 use Rattle.stats_reading.specs.Valid.{IsValidDraft}
 
--- the words of a line are read as those of a new table, in a draft without an open pair and an open table
+-- the words of a line are read as those of a new table, in a draft with neither an open pair nor an open table
 abbrev pub BeginsTable : Schema → Draft → List ℕ × List ℕ → Draft → Result (Unit {0}) Fault → Type 0
 BeginsTable schema t words m result =
     Takes table_words (MayBeTable schema m) (λ v. t ≡ record m { section = empty_section v.place v.rows }) words result
@@ -53,7 +53,7 @@ WordsAreRead at schema kind.End s t words result = Ends (TableEnds at s) t resul
 abbrev pub LineIsRead : Schema → LineKind → Draft → Draft → List ℕ × List ℕ → Result (Unit {0}) Fault → Type 0
 LineIsRead schema k s t words result = WordsAreRead s.stage schema k s t words result
 
--- the line is taken: any lines that may follow it in draft `s` may follow in draft `t`, and the converse
+-- the line is taken: further lines may follow it in draft `s` exactly if they may follow in draft `t`
 pub record Goes (schema : Schema) (s t : Draft) (line : List ℕ) : Type 0 where
   pub files : (file : StatsFile) (more : List (List ℕ)) → FileLeft s.stage schema s file (line ∷ more) ↔ FileLeft t.stage schema t file more
   pub texts : (more : List (List ℕ)) → TextLeft s.stage (line ∷ more) ↔ TextLeft t.stage more

@@ -94,7 +94,7 @@ IsFaultOf kind first second fault.Rule fault.NoMemory = ⊥
 IsFaultOf kind first second fault.Syntax new = new ≡ fault.Syntax
 IsFaultOf kind first second fault.NoMemory new = new ≡ fault.NoMemory
 
--- `None` if the line begins as no kind does; otherwise the only kind as which the line begins
+-- `None` if the line has the fixed first part of no kind; otherwise the only kind whose first part the line may have
 abbrev pub CanBe : List ℕ → Option LineKind → Type 0
 CanBe line None = (kind : LineKind) (rest : List ℕ) → line ≡ front kind ++ rest → ⊥
 CanBe line (Some only) = (kind : LineKind) (rest : List ℕ) → line ≡ front kind ++ rest → kind ≡ only

@@ -1,4 +1,4 @@
--- Lines that are still to be read: a file begins as the draft, and these lines of its text remain.
+-- Lines that are still to be read: a file extends the draft, and these lines of the file's text remain.
 use Rattle.std.specs.Prelude.{ℕ, ◌≡◌, List, [], ◌∷◌, ◌++◌, map, Some, slice_get, codes}
 use Rattle.std.specs.List.{flat_map}
 use Rattle.schema_types.specs.declared.types.Schema.{Schema}
@@ -27,7 +27,7 @@ histogram_lines cuts nodes = map cut_line cuts ++ map histogram_node_line nodes
 abbrev pub frequent_lines : List (Datum × List ℕ) → List ℕ → List Datum → List (List ℕ) → List (List ℕ)
 frequent_lines frequent rest cuts nodes = map value_line frequent ++ (rest_line rest ∷ histogram_lines cuts nodes)
 
--- ---- a pair that begins as the current one
+-- ---- a pair that extends the current one
 
 -- pair p is the current pair d with more elements in each list
 pub record PairGrows (d p : Pair) (frequent : List (Datum × List ℕ)) (cuts : List Datum) (nodes : List (List ℕ)) : Type 0 where
@@ -65,7 +65,7 @@ CutsLeft d p lines = (cuts : List Datum) × TreeLeft d p cuts lines
 abbrev pub NodesLeft : Pair → Pair → List (List ℕ) → Type 0
 NodesLeft d p lines = TreeLeft d p [] lines
 
--- ---- a file that begins as the draft
+-- ---- a file that extends the draft
 
 -- the lines of further tables, and the last line of the file
 abbrev pub tables_left : Schema → List TableStats → List (List ℕ)
@@ -113,7 +113,7 @@ pub record InPair (Left : Pair → List (List ℕ) → Type 0) (schema : Schema)
   pub is : file ≡ file_of_draft s (section_of s (pair ∷ pairs) ∷ tables)
   pub all : lines ≡ own ++ pairs_left schema table pairs tables
 
--- the file begins as the draft does at this stage, and `lines` are the remaining lines of its text
+-- the file extends the draft, which is at this stage, and `lines` are the remaining lines of the file's text
 abbrev pub FileLeft : Stage → Schema → Draft → StatsFile → List (List ℕ) → Type 0
 FileLeft stage.Start schema s file lines = KeepsRules schema file × (lines ≡ file_lines schema file)
 FileLeft stage.Tables schema s file lines = InFile schema s file lines

@@ -1,4 +1,4 @@
--- A draft is valid at a stage if some file that keeps the rules begins as it.
+-- A draft is valid at a stage if some file that keeps the rules extends it.
 use Rattle.std.specs.Prelude.{ℕ, ◌≡◌, List, [], ◌∷◌, Some, slice_get}
 use Rattle.schema_types.specs.declared.types.Column.{Column}
 use Rattle.schema_types.specs.declared.types.Schema.{Schema}
@@ -25,7 +25,7 @@ pub record IsValidTable (schema : Schema) (s : Draft) : Type 0 where
   pub exists : slice_get schema.tables s.section.table ≡ Some table
   pub keeps : KeepsRules schema (file_of_draft s (section_of s [] ∷ []))
 
--- some pair that begins as the current one keeps the rules in this table
+-- some pair that extends the current one keeps the rules in this table
 pub record IsValidPair (Left : Pair → List (List ℕ) → Type 0) (schema : Schema) (s : Draft) : Type 0 where
   pub table : Table
   pub exists : slice_get schema.tables s.section.table ≡ Some table

@@ -7,9 +7,9 @@ use base_io::NoMemory;
 /// Why a line is refused.
 #[derive(Clone, Copy, Debug, PartialEq, Eq)]
 pub enum Fault {
-    /// No text of the grammar begins with this line and those before it.
+    /// No text of the grammar begins with the lines up to this one.
     Syntax,
-    /// Some text of the grammar begins with this line and those before it, but no text of a file that keeps the rules.
+    /// Some text of the grammar begins with the lines up to this one, but no text of a file that keeps the rules does.
     Rule,
     NoMemory,
 }

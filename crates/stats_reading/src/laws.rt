@@ -17,7 +17,7 @@ pub fn a_text_spells_one_file()
 {}
 
 /// If the text of a file is read, the answer is this file, or that memory is lacking; the text is never refused. The law asks that the schema's column
-/// names consist of bytes. That the other names and the values do follows from the rules.
+/// names consist of bytes. By the rules, the other names and the values consist of bytes too.
 pub fn a_written_file_is_read()
     ensures { (schema : Schema) (file : StatsFile) (answer : Result StatsFile StatsError)
         → IsValid schema → HasByteColumns schema → KeepsRules schema file
