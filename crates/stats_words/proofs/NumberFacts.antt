@@ -113,7 +113,7 @@ no_dash n rest small e =
 behind : (a b : List ℕ) → 45 ∷ a ≡ 45 ∷ b → a ≡ b
 behind a b e = cc
 
--- a dash before digits: they spell no number, zero, or a positive number
+-- the number after a dash, in three cases: the digits spell no number, zero, or another number
 pub negative_none : (digits : List ℕ) → Spells decimal (λ n. n ≤ 2 ^ 63) digits None → Spells signed_decimal (FitsSigned w64) (45 ∷ digits) None
 negative_none digits h = none
   where

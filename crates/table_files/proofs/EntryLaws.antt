@@ -12,7 +12,7 @@ use Rattle.outcomes.specs.declared.refusal.Refusal.{Refusal}
 use Rattle.table_files.specs.Stage.{numbers_of, place_of, rows_by_entry, rows_of_each, table_rows, tables_of_query, tables_stage}
 use Rattle.table_files.proofs.PlaceFacts.{at_place, has_different, has_each, has_place}
 
--- if two steps in a row succeed, the first one succeeds, and the second one with the first one's value
+-- if two steps in a row succeed, the first one succeeds, and so does the second one on the first one's value
 pub two_steps : {A B : Type 0} (r : Result A Refusal) (f : A → Result B Refusal) (y : B) → (r >>= f) ≡ Ok y → (x : A) × (r ≡ Ok x) × (f x ≡ Ok y)
 two_steps (Ok x) f y h = (x, refl, h)
 two_steps (Err e) f y h = cc

@@ -17,7 +17,7 @@ use Rattle.outcomes.proofs.ReadFacts.{then_gives, then_stops, then_tells}
 use Rattle.table_files.specs.FileNames.{file_name}
 use Rattle.table_files.specs.TableFile.{file_rows, read, rows_in, rows_of_bytes}
 
--- if the reader refuses the bytes with error e, the run's ending tells e
+-- if the reader refuses the bytes with error e, the run ends with the refusal for e
 table_tells : (number : ℕ) (answer : Result (List Row) TableError) (e : TableError) → Refuses answer e → StopsBy (told (table_refusal number) answer) (table_ending number e)
 table_tells number answer table.NoMemory h = tt
 table_tells number answer (table.Utf8 at) h = (ap (told (table_refusal number)) h, (λ file e. cc), (λ e. cc))

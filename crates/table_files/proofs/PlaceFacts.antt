@@ -1,4 +1,4 @@
--- Lists in which each number is kept once, and the places of numbers in them.
+-- The list `different`, in which each number is kept once, and the places of numbers in a list.
 use Rattle.std.proofs.Common.{◌≡◌, ℕ, zero, suc, ◌+◌, ◌<◌, ◌≤◌, ◌||◌, Bool, true, false, cond, not, eqb, inl, inr, List, [], ◌∷◌, ◌++◌, length, get_or, take, refl, sym, ap, ◌∙◌, arith, append-nil}
 use Rattle.std.proofs.lemmas.Bool.{cases_Bool, eq-eqb, eqb-false, eqb-true, false≢true}
 use Rattle.std.proofs.lemmas.List.{map-append, take_more}
@@ -41,7 +41,7 @@ place_within xs n = prefix_len-le-length (λ x. not (eqb n x)) xs
 pub at_place : (xs : List ℕ) (n : ℕ) → place_of xs n < length xs → get_or xs (place_of xs n) 0 ≡ n
 at_place xs n lt = sym (eqb-true n (get_or xs (place_of xs n) 0) (passes_at_first (eqb n) xs 0 lt))
 
--- a list has each of its numbers
+-- `has` finds each number of a list
 pub has_each : (xs : List ℕ) (i : ℕ) → i < length xs → has xs (get_or xs i 0) ≡ true
 has_each [] i lt = absurd (omega arith)
 has_each (x ∷ xs) zero lt = rw (eq-eqb x x refl) refl
@@ -50,7 +50,7 @@ has_each (x ∷ xs) (suc i) lt = elim (cases_Bool (eqb (get_or xs i 0) x)) [
   | inr e ↦ rw e (has_each xs i (omega arith))
 ]
 
--- ---- each number is kept once
+-- ---- `different` keeps each number once
 
 has_kept : (m n : ℕ) (xs : List ℕ) → eqb n m ≡ false → has (without m xs) n ≡ has xs n
 has_kept m n [] d = refl
@@ -63,7 +63,7 @@ has_kept m n (x ∷ xs) d = elim (cases_Bool (eqb x m)) [
       ap (λ (l : List ℕ). has l n) left ∙ ap (λ (b : Bool). eqb n x || b) (has_kept m n xs d))
 ]
 
--- a number of a list is in the list in which each number is kept once
+-- `different` loses no number
 pub has_different : (ns : List ℕ) (n : ℕ) → has ns n ≡ true → has (different ns) n ≡ true
 has_different [] n h = h
 has_different (m ∷ ns) n h = elim (cases_Bool (eqb n m)) [
@@ -73,7 +73,7 @@ has_different (m ∷ ns) n h = elim (cases_Bool (eqb n m)) [
       here ∙ has_kept m n (different ns) e ∙ has_different ns n (sym rest ∙ h))
 ]
 
--- a number that is new to the list is appended
+-- if n isn't among the numbers so far, `different` appends it
 new_last : (ns : List ℕ) (n : ℕ) → has (different ns) n ≡ false → different (ns ++ n ∷ []) ≡ different ns ++ n ∷ []
 new_last [] n h = refl
 new_last (m ∷ ns) n h = elim (cases_Bool (eqb n m)) [
@@ -100,7 +100,7 @@ old_none (m ∷ ns) n h = elim (cases_Bool (eqb n m)) [
       ap (λ (l : List ℕ). m ∷ without m l) (old_none ns n there))
 ]
 
--- a number is new if its place is the list's length, and then it is appended
+-- n isn't among the numbers so far if its place is the length of `different`, and then it is appended
 pub different_new : (ns : List ℕ) (n : ℕ) → place_of (different ns) n ≡ length (different ns) → different (ns ++ n ∷ []) ≡ different ns ++ n ∷ []
 different_new ns n past = elim (cases_Bool (has (different ns) n)) [
   | inl there ↦ absurd (omega (arith, has_place (different ns) n there))
@@ -113,7 +113,7 @@ different_old ns n lt = elim (cases_Bool (has (different ns) n)) [
   | inr fresh ↦ absurd (omega (arith, no_place (different ns) n fresh))
 ]
 
--- ---- without the repeated numbers a list isn't longer, and keeps a property of its numbers
+-- ---- `different` isn't longer than the list, and a property of all numbers of the list is one of its numbers
 
 kept_short : (m : ℕ) (xs : List ℕ) → length (without m xs) ≤ length xs
 kept_short m [] = omega arith

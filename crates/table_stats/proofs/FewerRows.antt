@@ -1,4 +1,4 @@
--- If each row that passes test p passes test q, the rows that pass p have at most as many picked keys as those that pass q.
+-- If each row that passes test p passes test q, any given keys have at most as many rows that pass p as rows that pass q.
 use Rattle.std.proofs.Common.{◌≡◌, ℕ, zero, suc, ◌+◌, ◌<◌, ◌≤◌, Bool, true, cond, List, [], ◌∷◌, map, arith, inl, inr}
 use Rattle.std.specs.List.{AllByRecursion, count_by, filter, range_with_len}
 use Rattle.std.proofs.lemmas.Bool.{cases_Bool}

@@ -43,7 +43,7 @@ x_where t = record {
   filter = Some (cond.Test t);
 }
 
--- the test X = and a literal, whose name begins at byte 22
+-- the test X = and a literal, where X is byte 22 of the text
 abbrev x_is : LiteralNode → TestNode
 x_is l = test.Compare (operand.Column (record { table = None; column = token terminal.Name 22 23 })) op.Eq (operand.Literal l)
 

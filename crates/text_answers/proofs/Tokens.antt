@@ -17,7 +17,7 @@ abbrev pub AreTold : List ℕ → Result (List Token) ℕ → Type 0
 AreTold text (Ok tokens) = IsLexed text tokens
 AreTold text (Err at) = IsBad text at
 
--- the tokens after the byte order mark are the same whether the text is cut there or dropped up to there
+-- the tokens after the byte order mark don't change if as many bytes are taken as there are
 cut_walk : (text : List ℕ) → tokens_at (mark_len text) (take (length text - mark_len text) (drop (mark_len text) text)) ≡ tokens_at (mark_len text) (drop (mark_len text) text)
 cut_walk text = ap (tokens_at (mark_len text)) (take_rest text (mark_len text))
 

@@ -32,7 +32,7 @@ pub fn query_texts()
     ensures of_schema { (schema : Schema) (text : List ℕ) (query : Query) → query_answer schema text ≡ Ok query → IsOf schema query }
 {}
 
-/// A query that is computed as an answer has at most 256 conjuncts and 1,024 outputs, and so has a query that is read.
+/// A query that is computed as an answer has at most 256 conjuncts and 1,024 outputs, and so has each query that the contract of `read_query` allows.
 pub fn query_limits()
     ensures few_conjuncts { (schema : Schema) (text : List ℕ) (query : Query) → query_answer schema text ≡ Ok query
         → length query.conjuncts ≤ most_conjuncts }

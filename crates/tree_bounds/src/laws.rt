@@ -18,8 +18,9 @@ ghost use Rattle.tree_bounds.specs.SetBounds.{IsBoundOfSet, IsBoundOfTurn, SetHa
 ghost use Rattle.tree_bounds.specs.Tables.{KeyedTables, Agrees, ChoicesAreDifferent, Satisfies, SetDominates, TreeDominates};
 ghost use Rattle.tree_bounds.specs.TreeBounds.{EntryBounds, TreeHasLists, bound_of_tree, bound_of_trees};
 
-/// The bound of a tree is never under. If the lists dominate the tables, there are at most as many different choices as the bound says. A choice takes
-/// one row of each entry, and the keys of the rows agree in each class (Degree Sequence Bound, ICDT 2023; SafeBound, SIGMOD 2023).
+/// The bound of a tree is never under the number of choices: if the lists dominate the tables, there are at most as many different choices as the
+/// bound says. A choice takes one row of each entry, and the keys of the rows agree in each class (Degree Sequence Bound, ICDT 2023; SafeBound, SIGMOD
+/// 2023).
 pub fn trees_are_never_under()
     ensures one { (b : EntryBounds) (tables : KeyedTables) (t : BergeTree) → TreeHasLists b t → TreeDominates b tables t
         → (choices : List (ℕ → ℕ)) → AllByRecursion (Agrees tables t) choices → ChoicesAreDifferent (entries t) choices
@@ -63,8 +64,9 @@ pub fn bounds_are_one()
         → IsBoundOfSet b es subset n ↔ (n ≡ bound_of_set b es subset) }
 {}
 
-/// The bound of a set is never under. A choice takes one row of each entry of the set and satisfies all equalities of the set. There are at most as
-/// many different choices as the bound says, in each turn and so in the least. The equalities that a turn leaves out only exclude choices.
+/// The bound of a set is never under the number of choices: there are at most as many different choices as the bound says, in each turn and so in the
+/// least. A choice takes one row of each entry of the set and satisfies all equalities of the set. The equalities that a turn leaves out only exclude
+/// choices.
 pub fn sets_are_never_under()
     ensures each_turn { (b : EntryBounds) (tables : KeyedTables) (es : List Edge) (subset : ℕ)
         → SetHasLists b es subset → SetDominates b tables es subset → (choices : List (ℕ → ℕ))
@@ -76,7 +78,7 @@ pub fn sets_are_never_under()
         → ChoicesAreDifferent (entries_of_set subset) choices → length choices ≤ bound_of_set b es subset }
 {}
 
-/// The bound of a set is never under if only scanned rows are chosen and the lists dominate these rows.
+/// The bound of a set is never under the number of choices if only scanned rows are chosen and the lists dominate these rows.
 pub fn scans_are_never_under()
     ensures { (b : EntryBounds) (scans : ℕ → List ℕ) (key : ℕ → ℕ → ℕ → ℕ) (es : List Edge) (subset : ℕ)
         → SetHasLists b es subset → SetDominates b (scanned scans key) es subset → (choices : List (ℕ → ℕ))
@@ -110,8 +112,8 @@ pub fn bounds_are_near()
         ≤ (accuracy + 1) ^ length (entries_of_set subset) * bound_of_set exact es subset }
 {}
 
-/// A bound that is saturated (cut off at 2^128 - 1) at each step is the saturated bound. A bound that is never under is still never under after it is
-/// saturated, or is 2^128 - 1.
+/// A bound that is saturated (cut off at 2^128 - 1) at each step is the saturated bound. If a bound is never under a number, the saturated bound isn't
+/// under it either, or is 2^128 - 1.
 pub fn bounds_saturate()
     ensures entry { (parent : List ℕ) (children : List ChildLists)
         → map saturated (composed parent (map saturated_class children)) ≡ map saturated (composed parent children) }
