@@ -91,7 +91,7 @@ for_all {X = X} {P = P} one (x ∷ xs) = by (one x) (for_all {P = P} one xs)
     by (inl p) (inr fails) = inr (λ h. fails (λ k d lt. h (suc k) d (omega arith)))
     by (inr fails) ps = inr (λ h. fails (h 0 x (omega arith)))
 
--- decides whether P holds of the element at a place; where there is no element, the answer is yes
+-- decides whether the element at a place has property P; where there is no element, the answer is yes
 pub where_found : {X : Type 0} {P : X → Type 0} → ((x : X) → Decided (P x)) → (xs : List X) (place : ℕ) → Decided ((x : X) → slice_get xs place ≡ Some x → P x)
 where_found {X = X} {P = P} one xs place = by (slice_get xs place) refl
   where
@@ -103,7 +103,7 @@ where_found {X = X} {P = P} one xs place = by (slice_get xs place) refl
         at (inl p) = inl (λ x is. let there : y ≡ x = cc in subst P there p)
         at (inr fails) = inr (λ h. fails (h y e))
 
--- decides whether there is an element at a place for which P holds
+-- decides whether there is an element at a place and it has property P
 pub is_there : {X : Type 0} {P : X → Type 0} → ((x : X) → Decided (P x)) → (xs : List X) (place : ℕ) → Decided ((x : X) × (slice_get xs place ≡ Some x) × P x)
 is_there {X = X} {P = P} one xs place = by (slice_get xs place) refl
   where

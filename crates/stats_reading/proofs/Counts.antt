@@ -55,8 +55,8 @@ members_agree pairs i j d e agree lt is = subst (λ (x : Pair). Agree (get_or pa
     at (same h) = subst (λ (n : ℕ). Agree (get_or pairs i d) (get_or pairs n d)) h (agree_itself (get_or pairs i d))
     at (behind h) = agree_back (get_or pairs j d) (get_or pairs i d) (agree j i d h lt)
 
--- if pair p agrees with all earlier pairs, another pair with p's columns and list of all rows does too, provided that it has p's counts if an earlier
--- pair has p's filter column
+-- if pair p agrees with all earlier pairs, so does `other`, a pair with p's columns and list of all rows. If an earlier pair has p's filter column,
+-- `other` must have p's counts
 pub agrees_after : (table : Table) (s : Draft) (p other : Pair) (rows : ℕ) → IsKnown table s → PairRules table rows s.section.pairs p → p.filter ≡ s.pair.filter
     → other.filter ≡ p.filter → other.joined ≡ p.joined → other.whole ≡ p.whole → ((q : Pair) → IsLike s q → HaveSameFilterCounts p other) → All (λ q. Agree q other) s.section.pairs
 agrees_after table s p other rows known rules at_filter same_filter same_joined same_whole counts k d lt =

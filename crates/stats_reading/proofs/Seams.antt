@@ -31,7 +31,7 @@ pairs_front R xs ys h i j d less lt =
     subst (λ x. R x (get_or xs j d)) (get_or_append_left xs ys d i at_i)
     (subst (λ y. R (get_or (xs ++ ys) i d) y) (get_or_append_left xs ys d j lt) (h i j d less (omega arith)))
 
--- if R holds of each two elements in order, it holds of each element of the prefix with the element after the prefix
+-- if any two elements of a list, in order, are related by R, so is each element of the prefix with the element after the prefix
 pub pairs_here : {X : Type 0} (R : X → X → Type 0) (xs : List X) (y : X) (ys : List X) → AllPairs R (xs ++ y ∷ ys) → All (λ x. R x y) xs
 pairs_here R xs y ys h k d lt =
     let len = length-append xs (y ∷ ys) in
@@ -44,7 +44,7 @@ get_here xs y ys =
     let len = length-append xs (y ∷ ys) in
     slice_get-get_or (xs ++ y ∷ ys) (length xs) y (omega arith) ∙ ap Some (at_seam xs y ys y)
 
--- a property of all elements holds of the element at a place
+-- if all elements have a property, the element at a place has it
 pub all_at : {X : Type 0} (P : X → Type 0) (xs : List X) (i : ℕ) (x : X) → All P xs → slice_get xs i ≡ Some x → P x
 all_at P xs i x h is = subst P (get_or_from_slice_get xs i x x is) (h i x (slice_get_within xs i x is))
 

@@ -29,7 +29,7 @@ module _ (key : ℕ → ℕ) (p q : ℕ → Bool) where
   pub fewer_dominated : (s rows : List ℕ) → AllByRecursion PassesBoth rows → DominatesKeys s (map key (filter q rows)) → DominatesKeys s (map key (filter p rows))
   fewer_dominated s rows all dominates picked apart = omega (arith, fewer (is_in picked) rows all, dominates picked apart)
 
--- if Q holds of each number below the end of a range, it holds of each number in the range
+-- if each number below the end of a range has property Q, each number in the range has it
 pub all_in_range : (Q : ℕ → Type 0) (first count : ℕ) → ((x : ℕ) → x < first + count → Q x) → AllByRecursion Q (range_with_len first count)
 all_in_range Q first zero h = tt
 all_in_range Q first (suc count) h = (h first (omega arith), all_in_range Q (first + 1) count (λ x low. h x (omega arith)))

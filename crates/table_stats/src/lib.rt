@@ -5,8 +5,8 @@
 //! columns of cells have the same lists, and that the lists stand for the tables.
 //!
 //! In: tables as lists of rows. Out: definitions and laws; nothing here runs. Callers cite `column_lists` and `entry_counts` (in
-//! `specs/Statistics.antt`) for the statistics, `TellsValues` (in `specs/Keys.antt`) for keys of rows, `IsCellFor` (in `specs/Cells.antt`) for the
-//! cell of a literal, and `laws`. `examples` works out a table of six rows.
+//! `specs/Statistics.antt`) for the statistics, and `TellsValues` (in `specs/Keys.antt`) for keys of rows. For the cell of a literal they cite
+//! `IsCellFor` (in `specs/Cells.antt`). `laws` has the laws, and `examples` works out a table of six rows.
 #![tactic(auto)]
 
 pub mod examples;

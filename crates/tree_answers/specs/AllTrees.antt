@@ -31,8 +31,8 @@ is_before (node left right) (node left' right') =
     nat_lt (leaf_set left) (leaf_set left')
     || ((leaf_set left == leaf_set left') && (is_before left left' || (is_same left left' && is_before right right')))
 
--- a tree is no worse than another if it costs less, or if it costs the same and its total is less, or if cost and total are the same and the other
--- tree isn't before it
+-- a tree is no worse than another if it costs less. If both cost the same, the tree with the smaller total is better. If the totals are the same too,
+-- it is no worse if the other tree isn't before it
 abbrev pub is_no_worse : List ℕ → PlanTree → PlanTree → Bool
 is_no_worse bounds tree other =
     nat_lt (cost bounds tree) (cost bounds other)

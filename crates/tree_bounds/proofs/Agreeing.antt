@@ -66,7 +66,7 @@ module _ (Q : ℕ → ℕ → Type 0) where
     ]
   ]
 
-  -- if Q holds of each column that the set's equalities name, it holds of each column that a kept equality names
+  -- if each column that the set's equalities name has property Q, so has each column that a kept equality names
   pub named_in_turn : (subset turn : ℕ) (es : List Edge) → EachNamedColumn Q (equalities_within subset es) → (p : Place) → Contains (places_of (kept_of subset turn es)) p → Q p.entry p.column
   named_in_turn subset turn es h = by_places (kept_of subset turn es) (of_turn AtBoth subset turn es (by_edges (equalities_within subset es) h))
 

@@ -5,21 +5,21 @@ use Rattle.berge_tree.specs.declared.edges.Edge.{Edge}
 use Rattle.berge_tree.specs.Equalities.{places_of}
 use Rattle.berge_tree.specs.Trees.{Classes, no_class, and_class, Members, one_member, and_member, BergeTree}
 
--- Q holds of each column below an entry: of the entry's columns in the classes below it, and of each column below these classes
+-- each column below an entry has property Q: the entry's columns in the classes below it, and each column below these classes
 abbrev mutual
   pub EachColumnBelow : (ℕ → ℕ → Type 0) → ℕ → Classes → Type 0
   EachColumnBelow Q entry no_class = ⊤
   EachColumnBelow Q entry (and_class column members rest) = Q entry column × EachColumnWithin Q members × EachColumnBelow Q entry rest
 
-  -- Q holds of each column below a class, beginning with those that the class joins
+  -- each column below a class has property Q, beginning with those that the class joins
   pub EachColumnWithin : (ℕ → ℕ → Type 0) → Members → Type 0
   EachColumnWithin Q (one_member entry column below) = Q entry column × EachColumnBelow Q entry below
   EachColumnWithin Q (and_member entry column below rest) = Q entry column × EachColumnBelow Q entry below × EachColumnWithin Q rest
 
--- Q holds of each column of a tree
+-- each column of a tree has property Q
 abbrev pub EachColumn : (ℕ → ℕ → Type 0) → BergeTree → Type 0
 EachColumn Q t = EachColumnBelow Q t.root t.below
 
--- Q holds of each column that an equality names
+-- each column that an equality names has property Q
 abbrev pub EachNamedColumn : (ℕ → ℕ → Type 0) → List Edge → Type 0
 EachNamedColumn Q es = AllByRecursion (λ p. Q p.entry p.column) (places_of es)

@@ -93,8 +93,8 @@ pub fn small_sets_have_plain_bounds()
         → bound_of_set b es subset ≡ b.rows entry }
 {}
 
-/// Bounds from near lists are near the exact bounds. If K times each row bound and each running sum is at most K + 1 times the exact one, K^n times
-/// the bound is at most (K + 1)^n times the exact bound, where n is the number of entries.
+/// Bounds from near lists are near the exact bounds. The premise is that K times each row bound and each running sum is at most K + 1 times the exact
+/// one. Then K^n times the bound is at most (K + 1)^n times the exact bound, where n is the number of entries.
 pub fn bounds_are_near()
     ensures tree { (accuracy : ℕ) (b exact : EntryBounds) (t : BergeTree) → TreeHasLists b t → TreeHasLists exact t → TreeIsNear accuracy b exact t
         → accuracy ^ length (entries t) * bound_of_tree b t ≤ (accuracy + 1) ^ length (entries t) * bound_of_tree exact t }
