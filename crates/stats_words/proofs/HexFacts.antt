@@ -19,7 +19,7 @@ shuffled false false b all = refl
 two_more : (n : ℕ) → (suc (suc n) % 2 == 0) ≡ (n % 2 == 0)
 two_more n = let e : suc (suc n) % 2 ≡ n % 2 = omega arith in ap (λ m. m == 0) e
 
--- pairs of digits are an even number of digits
+-- a word is a sequence of pairs of hexadecimal digits exactly if it has an even number of characters and all are hexadecimal digits
 pub pairs_test : (ds : List ℕ) → (length ds % 2 == 0 && list_all is_hex_digit ds) ≡ are_hex_pairs ds
 pairs_test [] = refl
 pairs_test (a ∷ []) = refl
@@ -61,7 +61,7 @@ is_even ds are =
 abbrev pub PairsAre : List ℕ → List ℕ → ℕ → Type 0
 PairsAre ds bytes n = (k : ℕ) → k < n → (get_or ds (2 * k) 0 ≡ hex_digit (get_or bytes k 0 / 16)) × (get_or ds (2 * k + 1) 0 ≡ hex_digit (get_or bytes k 0 % 16))
 
--- digits that are the pairs of bytes, place by place
+-- if each pair of digits is that of the byte at the same place, the digits are those of all bytes
 pub same_pairs : (ds bytes : List ℕ) → length ds ≡ 2 * length bytes → PairsAre ds bytes (length bytes) → ds ≡ flat_map hex_byte bytes
 same_pairs [] [] len are = refl
 same_pairs (a ∷ ds) [] len are = absurd (omega arith)

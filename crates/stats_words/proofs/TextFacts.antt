@@ -1,4 +1,4 @@
--- Texts as values.
+-- Words that spell texts.
 use Rattle.std.proofs.Common.{[], ◌≡◌, ◌≢◌, ℕ, ◌+◌, ◌/◌, ◌%◌, ◌<◌, ltb, Bool, true, false, cond, inl, inr, List, ◌∷◌, ◌++◌, get_or, drop, refl, ap, sym, subst, ◌∙◌, arith, None, Some, Option}
 use Rattle.std.specs.Prelude.{FitsSigned, IsUtf8, MatchOption}
 use Rattle.std.specs.Fmt.{signed_decimal}
@@ -54,7 +54,7 @@ same_byte a b high low =
     let back : a % 16 ≡ b % 16 = same_digit (a % 16) (b % 16) low in
     omega arith
 
--- different bytes have different digits
+-- bytes with the same hexadecimal digits are equal
 pub same_bytes : (a b : List ℕ) → flat_map hex_byte a ≡ flat_map hex_byte b → a ≡ b
 same_bytes [] [] e = refl
 same_bytes [] (y ∷ b) e = absurd (cc)
@@ -78,7 +78,7 @@ no_hex most word other = none
     none (datums.Int n) never e = never
     none (datums.Text bytes) utf8 e = other (subst (λ (w : List ℕ). IsHexWord w) e (hex_word bytes (utf8_bytes bytes utf8)))
 
--- what bytes are as a text is what their word spells
+-- if a word is the hexadecimal digits of some bytes, it spells the text of these bytes, or no text if the bytes aren't UTF-8
 pub text_spelled : (most : ℕ) (word bytes : List ℕ) (r : Option Datum) → hex_text bytes ≡ word
     → MatchOption r (IsUtf8 bytes → ⊥) (λ d. IsUtf8 bytes × (d ≡ datums.Text bytes)) → Spells datum_text (IsOfKind (kinds.Text most)) word r
 text_spelled most word bytes None is other = none
