@@ -136,7 +136,7 @@ take_greatest(Counting *counting, DegreeList *into, const DegreeList *list)
 	if (dominates(into, list))
 		return;
 	before = MemoryContextSwitchTo(MemoryContextGetParent(counting->group));
-	both = greatest(*into, *list);
+	both = greater_by_rank(*into, *list);
 	if (into->runs)
 		pfree(into->runs);
 	*into = both;

@@ -283,7 +283,7 @@ bool		kept_fresh_only = false;
 static bool
 same_parts(const Seen *seen)
 {
-	return seen->sources == NIL || get_rel_relkind(seen->relation) != RELKIND_PARTITIONED_TABLE || equal(sources_of(seen->relation), seen->sources);
+	return seen->sources == NIL || get_rel_relkind(seen->relation) != RELKIND_PARTITIONED_TABLE || equal(written_through(seen->relation), seen->sources);
 }
 
 /* The statistics of a table as the active snapshot sees them, or NULL. What is dropped meanwhile stays until no plan is in the making.

@@ -69,7 +69,7 @@ summed(DegreeList one, DegreeList other)
 /* The list of rows that have any one of two values, whichever it is: at each rank the greater degree. It has runs of its own, since who
    counts gives the memory of both back. */
 DegreeList
-greatest(DegreeList one, DegreeList other)
+greater_by_rank(DegreeList one, DegreeList other)
 {
 	size_t		room = one.length + other.length;
 	DegreeList	both = {Max(one.rows, other.rows), room, palloc((room + 1) * sizeof(safebound_run))};

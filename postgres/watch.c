@@ -44,7 +44,7 @@ static ProcessUtility_hook_type utility_before;
 
 /* A table, all that it inherits from, and the parts of a partitioned one: a statement on each of them may write to it. */
 List *
-sources_of(Oid relation)
+written_through(Oid relation)
 {
 	Relation	inherits = table_open(InheritsRelationId, AccessShareLock);
 	List	   *sources = list_make1_oid(relation);
@@ -114,7 +114,7 @@ has_triggers(Oid source, bool applies)
 static bool
 is_intact(Oid relation, List *followed)
 {
-	List	   *sources = sources_of(relation);
+	List	   *sources = written_through(relation);
 	ListCell   *cell;
 
 	if (!equal(sources, followed))
@@ -355,7 +355,7 @@ safebound_watch(PG_FUNCTION_ARGS)
 {
 	Oid			relation = PG_GETARG_OID(0);
 	bool		triggers = may_have_triggers(relation);
-	List	   *sources = sources_of(relation);
+	List	   *sources = written_through(relation);
 	int64		lists;
 	ListCell   *cell;
 
@@ -386,7 +386,7 @@ safebound_unwatch(PG_FUNCTION_ARGS)
 	SPI_connect();
 	if (were)
 		note_sources(relation, NIL);
-	foreach(cell, triggers ? sources_of(relation) : NIL)
+	foreach(cell, triggers ? written_through(relation) : NIL)
 		if (lfirst_oid(cell) == relation || is_part_of(lfirst_oid(cell), relation))
 			drop_triggers(lfirst_oid(cell));
 	SPI_finish();

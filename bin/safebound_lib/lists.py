@@ -8,7 +8,7 @@ from typing import Any, Dict, List, Tuple, TYPE_CHECKING
 
 from safebound.sql_texts import number_of, text_of, written_text
 
-from .query import Joined, Literal, Reference, equality, meant, references_of
+from .query import Compound, Literal, Reference, equality, meant, references_of
 
 if TYPE_CHECKING:
     from .query import Entry, Query, Test as Comparison
@@ -100,9 +100,9 @@ class Group:
     members: list[Test | Group]
 
 
-def normal(condition: Joined | Comparison, is_not: bool = False) -> Test | Group:
+def normal(condition: Compound | Comparison, is_not: bool = False) -> Test | Group:
     """A condition without NOT."""
-    if isinstance(condition, Joined):
+    if isinstance(condition, Compound):
         if condition.by == "NOT":
             return normal(condition.members[0], not is_not)
         by = "OR" if is_not == (condition.by == "AND") else "AND"
@@ -187,7 +187,7 @@ def joined_columns(query: Query, schema: Schema, entry: Entry) -> list[str]:
     return found
 
 
-def entries_of(query: Query, schema: Schema, condition: Joined | Comparison) -> set[str]:
+def entries_of(query: Query, schema: Schema, condition: Compound | Comparison) -> set[str]:
     """The names of the entries that a condition names."""
     return {found[0].name for r in references_of(condition) for found in [meant(query, r, schema)] if found}
 

@@ -11,7 +11,7 @@ from dataclasses import dataclass, field
 from typing import Optional
 
 from . import program
-from .convert import packed
+from .convert import not_text_message
 from .explain import laid_out
 from .explain.reads import OF_SHEETS, OF_TEXTS
 from .explain.usage import is_query
@@ -245,7 +245,7 @@ def none_in(folder: str, before: Optional[str]) -> list[str]:
 
 def packed_file(file: str) -> bool:
     with open(file, "rb") as f:
-        return bool(packed(f.read(8)))
+        return bool(not_text_message(f.read(8)))
 
 
 def tables_of(query: str) -> list[str]:

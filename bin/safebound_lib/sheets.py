@@ -9,7 +9,7 @@ from typing import Optional
 
 from safebound.sql_texts import LEAST_NUMBER, MOST_NUMBER, MOST_TABLE_BYTES, folded, written_name
 
-from .convert import SEPARATORS, encoding_of, packed
+from .convert import SEPARATORS, encoding_of, not_text_message
 from .decimals import of_decimals
 from .explain.tables import header_differs, closed_late, number_expected, quoted as marked
 from .near import listed
@@ -199,8 +199,8 @@ def bytes_of(file: str, word: str) -> bytes:
         raise NoTable(
             "It is longer than 64 MiB, which is the most for a table. Leave out columns and rows that no query needs."
         )
-    if packed(data):
-        raise NoTable(f"It {packed(data)}.")
+    if not_text_message(data):
+        raise NoTable(f"It {not_text_message(data)}.")
     if encoding_of(data) not in ("utf-8", "utf-8-sig"):
         first = first_strange(data)
         raise NoTable(f"It isn't in UTF-8{first}. This writes it so:\n    safebound convert {plain(word)}")

@@ -36,7 +36,7 @@ class Planner:
         self.at = {token.at: number for number, token in enumerate(self.pieces)}
         self.query = Finder(text, self.pieces).found()
         refuse_volatile(Statement(text), self.pieces, engine)
-        engine.catalog.takes(text.rstrip().rstrip(";"))
+        engine.catalog.check(text.rstrip().rstrip(";"))
         self.blocks: dict[int, Block] = {}
         self.plans: dict[int, BlockPlan] = {}
         self.visible: dict[int, list[Part]] = {}

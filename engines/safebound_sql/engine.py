@@ -33,11 +33,11 @@ class Catalog(ABC):
         two it is, and its definition as SQL."""
 
     @abstractmethod
-    def takes(self, sql: str) -> None:
+    def check(self, sql: str) -> None:
         """Raises EngineFault where the engine refuses the query."""
 
     @abstractmethod
-    def exports(self, column: Column) -> bool:
+    def can_export(self, column: Column) -> bool:
         """Whether the column can be written to a table file: its values are whole numbers, or texts that are equal only
         if their characters are."""
 
@@ -57,7 +57,7 @@ class Catalog(ABC):
     def complaint(self, sql: str) -> str | None:
         """What the engine says is wrong with the query, or None where it says nothing."""
         try:
-            self.takes(sql)
+            self.check(sql)
         except EngineFault as fault:
             return str(fault)
         return None

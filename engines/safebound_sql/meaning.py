@@ -97,7 +97,7 @@ class Meaning:
         refuse_volatile(self.statement, pieces, engine)
         self.names = Names(self.statement, engine)
         alone = text.rstrip().rstrip(";")
-        engine.catalog.takes(alone)
+        engine.catalog.check(alone)
         self.outputs_names = self._names_of_outputs(alone)
         self.query = Query(self.names.entries)
         self._understand(pieces)

@@ -314,7 +314,7 @@ class PostgresCatalog(Catalog):
         why = "whose rows may be others in each statement; make a table of it, and name that"
         return {name: f"it has rows of {wrapper}, {why}" for name, wrapper in found}
 
-    def takes(self, sql: str) -> None:
+    def check(self, sql: str) -> None:
         self._explain(sql)
 
     def expected(self, sql: str) -> int | None:
@@ -332,7 +332,7 @@ class PostgresCatalog(Catalog):
         number = int(str(column.kind).split()[0])
         return number in SAME_WHEN_EQUAL or column.type.startswith(("numeric(", "character("))
 
-    def exports(self, column: Column) -> bool:
+    def can_export(self, column: Column) -> bool:
         return self.whole_numbers(column) or (self._is_text(column) and not self._folds(column))
 
     def whole_numbers(self, column: Column) -> bool:

@@ -220,7 +220,7 @@ class SqliteCatalog(Catalog):
             (name, "the view", text) for name in names for view, text in views if _last(name) == DIALECT.key(view, True)
         ]
 
-    def takes(self, sql: str) -> None:
+    def check(self, sql: str) -> None:
         self.connection.rows(f"EXPLAIN {sql}")
 
     def stands_alone(self, inner: list[Token]) -> str | None:
@@ -234,7 +234,7 @@ class SqliteCatalog(Catalog):
     def output_names(self, sql: str) -> list[str]:
         return self.connection.names(f"SELECT * FROM ({sql}\n) LIMIT 0")
 
-    def exports(self, column: Column) -> bool:
+    def can_export(self, column: Column) -> bool:
         return column.kind in (("INTEGER", "BINARY"), ("TEXT", "BINARY"))
 
     def whole_numbers(self, column: Column) -> bool:

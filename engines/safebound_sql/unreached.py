@@ -151,7 +151,7 @@ class SchemaFile(Catalog):
     def view_texts(self, names: set[str]) -> list[tuple[str, str, str]]:
         return []
 
-    def takes(self, sql: str) -> None:
+    def check(self, sql: str) -> None:
         """Refuses what would be read here in another way than by the engine."""
         statement, pieces = Statement(sql), tokens(sql, self.dialect.rules)
         for token in _no_inner_joins(pieces):
@@ -215,7 +215,7 @@ class SchemaFile(Catalog):
     def complaint(self, sql: str) -> str | None:
         return None
 
-    def exports(self, column: Column) -> bool:
+    def can_export(self, column: Column) -> bool:
         raise not_reached(self.dialect)
 
     def whole_numbers(self, column: Column) -> bool:

@@ -10,7 +10,7 @@ from . import read
 from ..faults import fault_of
 from ..near import listed
 from ..program import answer
-from ..query import equality, groups
+from ..query import components, equality
 from ..table import ACCURACY, BUDGET, BUSHY, COUNT, KEYS, MOST_BUDGET, MOST_BUDGET_OF_A_TREE, REDUCE, USUAL_BUDGET
 from ..terminal import saying
 from ..words import option_of
@@ -55,7 +55,7 @@ def most_of(run: Run) -> int:
 def not_connected(run: Run) -> str:
     """A sentence where no equality connects all entries: that is mostly a condition that was forgotten."""
     query = run.query
-    found = groups(query, run.schema)
+    found = components(query, run.schema)
     if len(found) < 2:
         return ""
     named = [listed(query.entries[i].name for i in group) for group in found]

@@ -9,7 +9,7 @@ from dataclasses import dataclass
 from collections.abc import Callable
 from typing import Optional, Tuple, TYPE_CHECKING
 
-from ..convert import packed
+from ..convert import not_text_message
 from ..near import hint, listed
 from ..spot import plain, spot
 from ..tokens import Token
@@ -152,8 +152,8 @@ def no_text(file: str, data: bytes, at: int, run: Run) -> list[str] | None:
 
 def how_to_convert(data: bytes, file: str, run: Run) -> str:
     """The command that writes a file in UTF-8."""
-    if packed(data):
-        return f"The file {packed(data)}."
+    if not_text_message(data):
+        return f"The file {not_text_message(data)}."
     is_wide = data[:2] in (b"\xff\xfe", b"\xfe\xff")
     looks = (
         "The file looks like UTF-16, as Excel writes its Unicode texts" if is_wide

@@ -1,4 +1,4 @@
-"""Wrong bodies: each is an edit that a test has to fail for, on the engine where it can be seen."""
+"""Mutants of the program: each is made by one wrong edit, and a test has to fail, on the engine where that shows."""
 
 from __future__ import annotations
 
@@ -19,7 +19,7 @@ PACKAGE = Path(__file__).resolve().parents[1] / "safebound_sql"
 class Edit:
     """What goes wrong, in which file, by which edit, and the test that fails.
 
-    The gate tries those with which a bound could be too low or a row wrong, where no other one of them is like it.
+    With `gate` the gate tries it too: a bound could be too low or a row wrong, and no other one of these is like it.
     """
 
     name: str
@@ -366,4 +366,4 @@ def _edited(edit: Edit, folder: Path) -> int:
 
 def _answer(edit: Edit, begin: float, wrong: str) -> Done:
     took = time.monotonic() - begin, sum(os.times()[:4])
-    return Done([Result(f"wrong body: {edit.name}", *took, "failed" if wrong else "ok", wrong)])
+    return Done([Result(f"mutant: {edit.name}", *took, "failed" if wrong else "ok", wrong)])

@@ -1,6 +1,6 @@
 """Puts known bugs into the extension, one at a time, and sees whether its tests find them.
 
-    postgres/tests/wrong_bodies.py [WORD]
+    postgres/tests/mutants.py [WORD]
 
 Each bug is an edit of a C file. For each edit whose name has WORD in it (without WORD for all of them) the extension
 is built anew, and the test that has to fail is run on a server of its own. An edit whose test passes is printed as
