@@ -168,7 +168,9 @@ def parsed(text: str, separator: str) -> Iterator[list[str]]:
 
 
 def evenness(text: str, separator: str) -> tuple[bool, int, int]:
-    """How well a separator fits: whether it splits the header, how many records are as wide, and the header's width."""
+    """How well a separator fits: whether it splits the header, how many records have as many fields as the header, and
+    how many these are.
+    """
     widths = [len(record) for _, record in zip(range(LOOKED_AT), parsed(text, separator))]
     wide = widths[0] if widths else 1
     return wide > 1, widths.count(wide), wide
@@ -197,7 +199,9 @@ def unused_name(name: str) -> str:
 def write_result(
     file: str, old: bytes, new: bytes, output: str | None, says: str, warning: str, numbers_kept: bool
 ) -> int:
-    """Writes the new text, over no other file. If the input has the target's name, its old bytes are kept first."""
+    """Writes the new text, and answers the exit status. No other file is written over. If the target is the input
+    itself, the old bytes are first kept in a file of another name.
+    """
     folder, base = os.path.split(file)
     target = output or os.path.join(
         folder, base.lower() if base.lower().endswith((".csv", ".sql")) else os.path.splitext(base)[0].lower() + ".csv"

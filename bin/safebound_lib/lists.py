@@ -101,7 +101,7 @@ class Group:
 
 
 def normal(condition: Compound | Comparison, is_not: bool = False) -> Test | Group:
-    """A condition without NOT."""
+    """The condition with each NOT moved into the comparisons below it."""
     if isinstance(condition, Compound):
         if condition.by == "NOT":
             return normal(condition.members[0], not is_not)
@@ -148,7 +148,7 @@ def flat(condition: Test | Group) -> list[Test | Group]:
 
 
 def asked(condition: Test | Group) -> list[Asked]:
-    """What a condition asks of statistics. The ranges of one AND on a column are one."""
+    """What a condition asks of statistics. Ranges of one column within one AND are asked for as one range."""
     found: list[Asked] = []
     ranges: dict[str, tuple[list[Value], list[Value]]] = {}
     for member in flat(condition):

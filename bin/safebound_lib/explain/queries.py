@@ -74,7 +74,7 @@ def of_a_proposal(fault: Fault, query: Query, schema: Schema, run: Run) -> list[
 
 
 def odd_value(query: Query, schema: Schema, at: int) -> list[str]:
-    """Where a number is compared with a column that nearly all values would make a number: the value that doesn't."""
+    """If a number is compared with a column in which nearly all values are numbers: sentences on a value that isn't."""
     from ..sheets import of_values, sheet_of
     test = next(t for t in query.tests if any(o.token.start == at for o in t.operands[1:]))
     other = next(o for o in test.operands[1:] if o.token.start == at)
@@ -340,7 +340,7 @@ def side(query: Query, operand: Literal | Reference, schema: Schema) -> str:
 
 
 def mended(query: Query, left: Literal | Reference, other: Literal | Reference, schema: Schema) -> list[str]:
-    """How the literal of the two is written as the other one's kind."""
+    """How to write the literal so that it is of the other operand's kind."""
     if isinstance(left, Reference) and isinstance(other, Reference):
         return [of_the_kind(query, left, other, schema)]
     literal, beside = (other, left) if isinstance(other, Literal) else (left, other)
