@@ -56,8 +56,8 @@ class Column:
 
     @property
     def odd(self) -> Optional[str]:
-        """In a column of numbers with a few other values: the first of these. A number with a leading zero doesn't count
-    as one: such columns are meant as texts.
+        """In a column of numbers with a few other values: the first of these. A number with a leading zero isn't one of
+    them: a column of such numbers is meant as texts.
     """
         found = [value for value in self.values if value and not value.isdigit() and not NUMBER.fullmatch(value)]
         return found[0] if found and few(len(found), len(self.values)) else None

@@ -60,7 +60,8 @@ class Shown:
         return found or [NO_CONDITION] * (is_join and self.at is not None)
 
     def said(self) -> list[tuple[str, str, str]]:
-        """The lines below the picture: a step or entry, whether the condition is its own or joins it, and the condition."""
+        """The lines below the picture: a step or entry, whether a condition is its own or joins it, and the condition.
+        """
         if self.plan.is_tree:
             lines = [
                 (f"{number}  {alias}", "its own", words) for number, alias in enumerate(self.plan.entries)

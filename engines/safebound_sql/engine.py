@@ -50,8 +50,8 @@ class Catalog(ABC):
         """Whether the engine orders the column's texts by code points."""
 
     def same_when_equal(self, column: Column) -> bool:
-        """Whether every function treats two values alike that GROUP BY puts into one group. 1.0 and 1.00 are one group
-        of a numeric column, and their texts differ."""
+        """Whether every function gives one result for all values that GROUP BY puts into one group. In a numeric column
+        it doesn't: 1.0 and 1.00 are one group, and their texts differ."""
         return False
 
     def complaint(self, sql: str) -> str | None:
