@@ -3,7 +3,7 @@
 
 #include "common/int.h"
 
-/* The library answers statuses; all values are checked before, so that only memory can be wanting. */
+/* Raises an error if a call of the library failed. All values are checked before, so only memory can be lacking. */
 void
 library_check(safebound_status status, uint64 detail, const char *call)
 {
@@ -132,7 +132,7 @@ advance(Place *place, uint64 keys)
 	}
 }
 
-/* Whether a list has nothing that is greater in the other one, so that it is the greatest of both already. Who counts asks this for each
+/* Whether a list has at least the other one's degree at each rank, so that greater_by_rank wouldn't change it. Counting asks this for each
    value. */
 bool
 dominates(const DegreeList *one, const DegreeList *other)
