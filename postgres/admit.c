@@ -76,7 +76,7 @@ on_rel_paths(PlannerInfo *root, RelOptInfo *rel, Index rti, RangeTblEntry *rte)
 }
 
 static PlannedStmt *
-plan_before(Query *parse, const char *text, int options, ParamListInfo parameters)
+call_planner_before(Query *parse, const char *text, int options, ParamListInfo parameters)
 {
 	return planner_before ? planner_before(parse, text, options, parameters) : standard_planner(parse, text, options, parameters);
 }
@@ -89,11 +89,11 @@ on_planner(Query *parse, const char *text, int options, ParamListInfo parameters
 	List	   *joins;
 
 	if (budget == 0)
-		return plan_before(parse, text, options, parameters);
+		return call_planner_before(parse, text, options, parameters);
 	call = &mine;
 	PG_TRY();
 	{
-		plan = plan_before(parse, text, options, parameters);
+		plan = call_planner_before(parse, text, options, parameters);
 	}
 	PG_FINALLY();
 	{

@@ -6,7 +6,7 @@
 
 #include "nodes/plannodes.h"
 
-/* A join of a plan: the relations that it joins, by their numbers in one PlannerInfo; root NULL where they can't be told. */
+/* A join of a plan: the relations that it joins, by their numbers in one PlannerInfo; root is NULL if they aren't known. */
 typedef struct PlanJoin
 {
 	PlannerInfo *root;

@@ -123,7 +123,7 @@ put_bounds(FunctionCallInfo fcinfo, const char *asked)
 	PlannedStmt *plan = plan_and_tell(analysed(asked), asked, &queries);
 	ListCell   *cell;
 
-	/* Who may not run the query sees nothing of it. */
+	/* A user who may not run the query sees nothing of it. */
 	ExecCheckRTPerms(plan->rtable, true);
 	foreach(cell, queries)
 		roots = lappend(roots, ((BoundedQuery *) lfirst(cell))->root);
@@ -138,7 +138,7 @@ put_bounds(FunctionCallInfo fcinfo, const char *asked)
 	}
 }
 
-/* Statistics stay after the planning, since the bounds are made of them then. */
+/* Statistics stay in memory after the planning, since the bounds are computed from them only then. */
 Datum
 safebound_bounds_of(PG_FUNCTION_ARGS)
 {

@@ -44,7 +44,7 @@ sort_collation(Oid collation)
 	return OidIsValid(collation) && get_collation_isdeterministic(collation) ? C_COLLATION_OID : collation;
 }
 
-/* Whether that is the order of the column too, so that a part of it is a range. */
+/* Whether the sort gives the column's own order, so that a part of the sorted values is a range. */
 static bool
 keeps_order(Oid collation)
 {
@@ -136,7 +136,7 @@ note_common(Coding *coding)
 	into->value = datumCopy(coding->last, column->attribute->attbyval, column->attribute->attlen);
 }
 
-/* A leaf ends with a value where as many rows have come as its share is. The last one is open until all have come. */
+/* Ends a leaf with the last value, if the leaves so far have their share of the rows. The last leaf gets its share with the last row. */
 static void
 note_leaf(Coding *coding)
 {
@@ -302,7 +302,7 @@ full_name(Relation relation)
 	return quote_qualified_identifier(get_namespace_name(RelationGetNamespace(relation)), RelationGetRelationName(relation));
 }
 
-/* A query for the columns of what each value of the referring column refers to, by the order of its codes. */
+/* A query for the columns of the rows to which the values of the referring column refer, in the order of these values' codes. */
 static char *
 query_along(const Making *making, const Column *along, Relation referred, const ForeignKeyCacheInfo *reference, List *numbers)
 {
@@ -345,7 +345,7 @@ open_own(const char *query)
 	return portal;
 }
 
-/* Rows of the query go to a sort for each of its columns. Row 0 stands for NULL, which refers to nothing. */
+/* Puts each column of the query's rows into a sort of its own. Row 0 stands for NULL, which refers to nothing. */
 static void
 sort_referred(const char *query, int length, Tuplesortstate **sorts, TupleTableSlot **slots, uint32 rows)
 {

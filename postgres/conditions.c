@@ -13,7 +13,7 @@
 #include "utils/pg_locale.h"
 #include "utils/typcache.h"
 
-/* More values than these of IN or = ANY are not looked at. */
+/* IN and = ANY with more values are not looked at. */
 #define MOST_VALUES 1000
 
 /* Whose conditions are looked at, and which lists are taken for them: those of the relation itself, or of one that refers to it. */
@@ -47,7 +47,7 @@ pair_of(const Conditioned *of, AttrNumber column)
 	return kept_pair_along(of->table, of->joined, column, of->reference);
 }
 
-/* The family of the operators by which a column's values were told apart, where a clause under `collation` tells the same ones apart;
+/* The operator family whose = said which values of a column are equal when it was counted, if under `collation` the same ones are equal;
    else InvalidOid. */
 Oid
 equality_family(Oid relation, AttrNumber column, Oid collation)
@@ -63,7 +63,7 @@ equality_family(Oid relation, AttrNumber column, Oid collation)
 	return lookup_type_cache(type, TYPECACHE_BTREE_OPFAMILY)->btree_opf;
 }
 
-/* Whether an operator is the equality by which the column's values were told apart. */
+/* Whether an operator is the = that said which values are equal when the column was counted. */
 bool
 is_equality(Oid relation, AttrNumber column, Oid operator, Oid collation)
 {
@@ -78,10 +78,10 @@ typedef struct Range
 	AttrNumber	column;
 	const KeptPair *pair;
 	int			first;
-	int			last;			/* below `first`: there is none */
+	int			last;			/* below `first`: the range is empty */
 } Range;
 
-/* The first leaf whose greatest value isn't on the near side of a value; as many as there are where each one is. */
+/* The first leaf whose greatest value isn't before `value`, by the operator `before`; the number of leaves if there is none. */
 static int
 leaf_at(const KeptPair *pair, Oid before, Oid collation, Datum value)
 {
@@ -102,7 +102,7 @@ leaf_at(const KeptPair *pair, Oid before, Oid collation, Datum value)
 	return from;
 }
 
-/* The leaves in which values are that stand in a relation of the column's order to a value of another type. */
+/* Sets the range to the leaves with values that a comparison lets pass. `value` may be of another type than the column. */
 static void
 set_range(Range *range, const KeptPair *pair, int strategy, Oid less, Oid less_equal, Oid collation, Datum value)
 {
@@ -162,7 +162,7 @@ range_of_comparison(const Conditioned *of, OpExpr *clause, Range *range)
 	return true;
 }
 
-/* The bytes in front of the first sign of a pattern that isn't itself; their number. */
+/* How many bytes of a LIKE pattern stand before its first wildcard or escape. */
 static int
 front_of(const char *pattern, int length)
 {
@@ -173,7 +173,7 @@ front_of(const char *pattern, int length)
 	return front;
 }
 
-/* The least text behind all that begin with a front, in the order of bytes; NULL where there is none. */
+/* The least text, in the order of bytes, that is greater than all texts that begin with `front`; NULL if there is none. */
 static text *
 behind(const char *front, int length)
 {
@@ -231,7 +231,7 @@ range_of_clause(const Conditioned *of, Node *clause, Range *range)
 	return range_of_comparison(of, (OpExpr *) clause, range) || range_of_like(of, (OpExpr *) clause, range);
 }
 
-/* The list of leaves: the sum of the fewest nodes that they are. */
+/* The list of a range of leaves: the sum of the lists of the fewest nodes that make up the range. */
 static DegreeList
 list_of_range(const Range *range)
 {
@@ -376,7 +376,7 @@ list_of_null_test(const Conditioned *of, NullTest *test, DegreeList *list)
 	return true;
 }
 
-/* What ranges of one column leave together. */
+/* Adds a range. If there is one of the same column already, that one becomes what both have in common. */
 static void
 add_range(List **ranges, const Range *range)
 {
@@ -398,7 +398,7 @@ add_range(List **ranges, const Range *range)
 	*ranges = lappend(*ranges, known);
 }
 
-/* The lesser of what so many conditions have left and of what one more leaves. */
+/* Lowers a list, which is of the `taken` conditions before, by the list of one more condition. */
 static void
 add_list(const Conditioned *of, DegreeList *list, const DegreeList *one, int taken)
 {
@@ -406,7 +406,7 @@ add_list(const Conditioned *of, DegreeList *list, const DegreeList *one, int tak
 	*list = taken > 0 ? lesser(*list, *one) : *one;
 }
 
-/* AND: the lesser of what is understood. */
+/* AND: the lesser of the lists of the conditions that are understood. */
 static bool
 list_of_all(const Conditioned *of, List *clauses, DegreeList *list)
 {
@@ -495,8 +495,8 @@ list_under(const KeptTable *table, RelOptInfo *rel, AttrNumber joined, Bitmapset
 	return with_deltas(table, joined, list);
 }
 
-/* The list of a joined column over the rows that refer to a row that passes the conditions of its relation. False where there is none.
-   Where rows that come are followed, what is referred to has to be as it was: a change there brings rows without a statement here. */
+/* The list of a joined column over the rows that refer to a row that passes the conditions of its relation. False if there is none.
+   If the table is watched, the one that it refers to has to be unchanged: a change there may let other rows of this table pass. */
 bool
 list_along(const KeptTable *table, const Reference *reference, RelOptInfo *referred, AttrNumber joined, DegreeList *list, Bitmapset **used, bool *loose)
 {

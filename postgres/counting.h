@@ -38,7 +38,7 @@ typedef struct CommonValue
 	Datum		value;
 } CommonValue;
 
-/* A part of a column's values, from behind the last part's on. All parts have about as many rows. */
+/* A range of a column's values, which begins after the last value of the leaf before it. All leaves have about as many rows. */
 typedef struct Leaf
 {
 	uint32		last;			/* the highest code */

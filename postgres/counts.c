@@ -6,7 +6,7 @@
 #include "utils/datum.h"
 #include "utils/memutils.h"
 
-/* Degrees below this one are counted without being looked for. */
+/* Degrees below this one are counted in an array, without a search. */
 #define FEW 32
 
 /* How many keys have each degree. */
@@ -66,7 +66,7 @@ add_high_degree(Degrees *degrees, uint64 degree)
 	degrees->length++;
 }
 
-/* A key of degree 0 is none. */
+/* Degree 0 isn't counted: it has no key. */
 static inline void
 add_degree(Degrees *degrees, uint64 degree)
 {
@@ -126,7 +126,7 @@ put_kept_list(Counting *counting, ListKind kind, const Datum *value, DegreeList 
 	counting->making->lists++;
 }
 
-/* The greatest of what was seen, which outlives the group. */
+/* Raises a list to the greater degree at each rank. Its memory outlives the group's. */
 static void
 take_greatest(Counting *counting, DegreeList *into, const DegreeList *list)
 {
@@ -136,7 +136,7 @@ take_greatest(Counting *counting, DegreeList *into, const DegreeList *list)
 	if (dominates(into, list))
 		return;
 	before = MemoryContextSwitchTo(MemoryContextGetParent(counting->group));
-	both = greatest(*into, *list);
+	both = greater_by_rank(*into, *list);
 	if (into->runs)
 		pfree(into->runs);
 	*into = both;
@@ -189,7 +189,7 @@ typedef struct Order
 static bool
 fits(uint64 numbers)
 {
-	/* Sorting may have the other half. */
+	/* Sorting may take the other half of the memory. */
 	return numbers * sizeof(uint32) <= (uint64) maintenance_work_mem * 1024 / 2;
 }
 
@@ -205,7 +205,7 @@ count_codes(const Making *making, const Column *column)
 	return counts;
 }
 
-/* From how many rows have each code to how many have a lower one. */
+/* Turns the number of rows of each code into the number of rows of lower codes. */
 static void
 sum_up(uint32 *counts, uint32 highest)
 {
@@ -225,7 +225,7 @@ order_rows(const Making *making, const Column *joined)
 {
 	Order		order = {.joined = joined};
 
-	/* Codes of a filter column stand beside. */
+	/* The codes of a filter column take memory too. */
 	if (joined == NULL || !fits(2 * (uint64) making->rows + joined->highest + 2))
 		return order;
 	order.ends = count_codes(making, joined);
@@ -264,7 +264,7 @@ sort_pairs(Pairs *pairs, const Making *making, const Column *joined, const Colum
 	for (uint32 row = 0; row < making->rows; row++)
 	{
 		uint64		high = next_code(joined);
-		/* A column may be both. */
+		/* The joined column may be the filter column too. */
 		uint64		low = filter == joined ? high : next_code(filter);
 
 		CHECK_FOR_INTERRUPTS();
@@ -342,7 +342,7 @@ leaf_of(const Column *filter, uint32 code)
 	return from;
 }
 
-/* Leaves and the nodes above them: each node is two of the level below, and the last one may be one. */
+/* Leaves and the nodes above them: each node has two of the level below, and the last one of a level may have one alone. */
 typedef struct Nodes
 {
 	int			leaves;
@@ -417,8 +417,8 @@ put_nodes(Counting *counting, const Nodes *nodes)
 					  list_of_degrees(&nodes->degrees[i]));
 }
 
-/* Pairs of codes with how often they stand: the filter column's above the joined one's, and the count below. A count that is too high
-   for its bits is put in parts. */
+/* Pairs of codes with their counts, in one number: the filter column's code in the highest bits, then the joined one's, then the count.
+   A count that is too high for its bits is put as several numbers. */
 typedef struct Counted
 {
 	Sorted	   *sorted;
@@ -507,7 +507,7 @@ counted_begin(const Counting *counting)
 	int			bits = bits_of(counting->filter) + counted.joined_bits;
 
 	counted.count_bits = Min(63 - bits, 31);
-	/* Pairs come by their joined code. */
+	/* Pairs come in the order of their joined codes. */
 	counted.sorted = sorted_begin(counting->making->rows, counted.count_bits + counted.joined_bits, counted.count_bits + bits);
 	return counted;
 }
@@ -564,7 +564,7 @@ keep_pair(Making *making, const Order *order, const Column *filter)
 	MemoryContextDelete(pair);
 }
 
-/* The lists of one joined column by all filter columns, or with NULL of rows alone. No filter columns: the list of all rows. */
+/* Keeps the lists of a joined column by all filter columns; if it is NULL, only numbers of rows. Without filter columns: the list of all rows. */
 static void
 keep_joined(Making *making, const Column *joined, const Column *filters, int length)
 {

@@ -1,7 +1,7 @@
 /* Rows that came: written by triggers as one delta for each statement, and added to the lists by whoever reads them.
 
-   Deltas are only inserted, and deleted only by who counts the table anew, as far as its snapshot sees them. So a snapshot that sees a
-   row sees it counted in the lists or in a delta: both come with the same commit. */
+   Deltas are inserted, and never changed. Counting the table anew deletes those that its snapshot sees. So a snapshot that sees a row sees
+   it counted in the lists or in a delta, since both come with the same commit. */
 #include "watch.h"
 
 #include "access/genam.h"
@@ -18,7 +18,7 @@
 #include "utils/rel.h"
 #include "utils/snapmgr.h"
 
-/* The runs of a sum are as many as those of all parts: from so many on it is made shorter. */
+/* A sum has as many runs as all its lists. From this many on it is compressed. */
 #define MANY_RUNS 64
 
 static Datum *
@@ -47,7 +47,7 @@ array_numbers(Datum array)
 	return numbers;
 }
 
-/* Three numbers for each. */
+/* The referred tables of an array, which has three numbers for each. */
 static List *
 array_referred(Datum array)
 {
@@ -189,8 +189,8 @@ count_deltas(Oid relation, Snapshot snapshot)
 	return count;
 }
 
-/* The tables that a table refers to and that still are what they were when it was counted. Under one version deltas only come, so that
-   as many are the same ones. */
+/* The tables that a table refers to and that still are what they were when it was counted. Under one version deltas are only added,
+   so if there are as many as then, they are the same ones. */
 List *
 unchanged_references(const Seen *seen, Snapshot snapshot)
 {
@@ -218,7 +218,7 @@ list_at(Deltas *deltas, AttrNumber number)
 	return NULL;
 }
 
-/* Of a column that a delta has no list of, all its rows may have one value. */
+/* The list of a column for which a delta has none: all its rows may have one value. */
 static DegreeList
 one_value(uint64 rows)
 {
@@ -346,7 +346,7 @@ with_deltas(const KeptTable *table, AttrNumber joined, DegreeList list)
 	return all;
 }
 
-/* Inserted into the heap itself, since who writes to a table has no right on the extension's. */
+/* Inserts into the heap directly, since a user who writes to a table has no rights on the extension's tables. */
 void
 write_delta(Oid relation, int64 rows, StringInfo lists)
 {

@@ -1,4 +1,4 @@
-/* What is expected of joins: PostgreSQL's own number, corrected by what statistics tell beside bounds. */
+/* Expected rows of joins: PostgreSQL's own number, corrected by what the statistics tell beside bounds. */
 #include "planning.h"
 
 #include <math.h>
@@ -14,10 +14,10 @@
 #include "utils/selfuncs.h"
 #include "utils/syscache.h"
 
-/* What a bound of two relations weighs. */
+/* The weight of a bound in the mean for a join of two relations (rows_by_mode). */
 #define WEIGHT_OF_TWO 0.25
 
-/* A semi-join's right side makes no rows. */
+/* Whether one of both relations is on the right side of a semi- or anti-join, which makes no rows. */
 static bool
 is_in_semi_join(BoundedQuery *query, const Carried *carried)
 {
@@ -34,7 +34,8 @@ is_in_semi_join(BoundedQuery *query, const Carried *carried)
 	return false;
 }
 
-/* By how much more of the referring rows than of the others pass the other relation's conditions. PostgreSQL expects as many. */
+/* The share of the referring rows whose referred row passes the conditions, divided by the share of the referred relation's own rows that
+   pass. PostgreSQL takes both shares for equal. */
 static double
 share_along(BoundedQuery *query, Carried *carried)
 {
@@ -94,8 +95,8 @@ entry_asked_for(BoundedQuery *query, const RangeTblEntry *asked)
 	return NULL;
 }
 
-/* The share of a column's rows that is found for a value: where each value is looked for once, or as often as it stands; 0 where there is
-   none. */
+/* The share of a column's rows that is found for one value on average, if each value is looked for once, or with `as_often` as often as it
+   stands there. 0 if no row has a value. */
 static double
 share_of_value(const DegreeList *list, bool as_often)
 {
@@ -114,9 +115,9 @@ share_of_value(const DegreeList *list, bool as_often)
 	return as_often ? squares / (rows * rows) : 1 / values;
 }
 
-/* A number of distinct values that ANALYZE has made of a sample is often far too low; then it is made of the counted list. PostgreSQL takes
-   all values for equally frequent, so what is found for one is a mean of what is found where each is looked for once, and where each is as
-   often as it stands. */
+/* ANALYZE looks at a sample, and often finds far too few distinct values. Then their number is computed from the counted list. PostgreSQL
+   takes all values for equally frequent. So the number is chosen for the rows that are found for one value: a mean of both shares of
+   share_of_value. */
 static void
 set_distinct_values(Form_pg_statistic statistics, const DegreeList *list)
 {
@@ -124,7 +125,7 @@ set_distinct_values(Form_pg_statistic statistics, const DegreeList *list)
 	double		share = pow(once, 1 - WEIGHT_OF_TWO) * pow(share_of_value(list, true), WEIGHT_OF_TWO);
 	double		told = statistics->stadistinct < 0 ? -statistics->stadistinct * list->rows : statistics->stadistinct;
 
-	/* Many values become more as rows come: ANALYZE tells them as a part of the rows. */
+	/* If there are many values, further rows bring further ones. So their number is given as a part of the rows, as ANALYZE does. */
 	if (once > 0 && told < 0.95 / once)
 		statistics->stadistinct = share * list->rows < 10 ? -1 / share / list->rows : 1 / share;
 }
@@ -139,7 +140,7 @@ counted_statistics(const RangeTblEntry *asked, AttrNumber column, const DegreeLi
 	return HeapTupleIsValid(tuple) ? tuple : NULL;
 }
 
-/* What PostgreSQL asks where nobody hooks. */
+/* What PostgreSQL checks itself if no hook gives it statistics. */
 static bool
 may_read(const RangeTblEntry *entry, AttrNumber column)
 {
@@ -159,7 +160,7 @@ look_at_statistics(const Entry *entry, const RangeTblEntry *asked, AttrNumber co
 	};
 }
 
-/* They are asked for again and again while a query is planned. */
+/* They are kept while the query is planned, since PostgreSQL asks for them again and again. */
 static CountedStatistics *
 statistics_asked_for(BoundedQuery *query, const RangeTblEntry *asked, AttrNumber column)
 {
@@ -182,7 +183,8 @@ keep_tuple(HeapTuple tuple)
 {
 }
 
-/* The numbers of distinct values, by which PostgreSQL expects rows of joins, and costs of scans that are repeated for each row of others. */
+/* Gives PostgreSQL the counted numbers of distinct values. By these it estimates rows of joins, and costs of scans that are repeated for
+   each row of another relation. */
 static bool
 on_relation_stats(PlannerInfo *root, RangeTblEntry *entry, AttrNumber column, VariableStatData *data)
 {
@@ -206,8 +208,8 @@ whole_list(BoundedQuery *query, Var *var)
 	return pair ? &pair->lists[0].list : NULL;
 }
 
-/* The share of rows that an index finds by one column for a value of another: where that one is unique each value is looked for once, and
-   where it is the same column as often as it stands there. Else it is PostgreSQL's, and 0 here. */
+/* The share of rows that an index finds by the column `looked` for a value of the column `looking`. If `looking` is unique, each value is
+   looked for once. If it is the same column, each is looked for as often as it stands there. Else PostgreSQL's number stays: 0. */
 static double
 share_found(BoundedQuery *query, Var *looked, Var *looking)
 {

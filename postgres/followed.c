@@ -1,8 +1,8 @@
 /* The triggers of tables that are watched.
 
    A statement trigger counts the rows that a statement wrote. From its beginning until then the table isn't known to this backend, since
-   a query within the statement may see rows that aren't counted yet; other backends don't see them before the commit. Of rows that a
-   replica applies only row triggers are told: they mark the table as not known. */
+   a query within the statement may see rows that aren't counted yet; other backends don't see them before the commit. For rows that
+   a replica applies only row triggers run: they mark the table as not known. */
 #include "watch.h"
 
 #include "access/xact.h"
@@ -334,7 +334,7 @@ count_rows(const Seen *seen, TriggerData *trigger)
 	if (own && new.length > 0 && trigger->tg_oldtable)
 		leave_unchanged(&new, trigger->tg_oldtable);
 	initStringInfo(&lists);
-	/* Which rows of a table above are this one's isn't known: they are told without lists. */
+	/* It isn't known which rows of a table above are this one's, so their delta has no lists. */
 	while (own && new.counted > 0 && (number = bms_next_member(seen->joined, number)) >= 0)
 		put_column(&lists, &new, number);
 	if (new.counted > 0)

@@ -1,4 +1,4 @@
-"""A PostgreSQL with the extension that changes nothing of the machine's own: its programs are copied into a folder,
+"""A PostgreSQL with the extension, which leaves the machine's own unchanged: its programs are copied into a folder,
 and the rest is linked.
 
 PostgreSQL finds its folders from the place of its program, so a copy of the program has extensions of its own.
@@ -28,7 +28,7 @@ def told(word: str) -> str:
 
 
 def missing() -> str | None:
-    """What of all that tests need isn't installed."""
+    """What tests need and isn't installed; None if all of it is."""
     if not shutil.which("pg_config") or not importlib.util.find_spec("psycopg"):
         return "pg_config or psycopg"
     if not told("--version").startswith("PostgreSQL 15"):
@@ -61,7 +61,7 @@ def lay_server(root: str) -> str:
 
 
 def install() -> None:
-    """Into the server whose pg_config comes first on the PATH."""
+    """Builds the extension, and installs it into the server whose pg_config comes first on the PATH."""
     for target in ("all", "install"):
         subprocess.run(["make", "-s", "-C", HERE, target], check=True)
 

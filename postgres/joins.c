@@ -9,7 +9,7 @@
 #include "utils/lsyscache.h"
 
 /* A list of more runs is compressed before it is joined, since a plan waits for its bounds. */
-#define LONGEST_LIST 48
+#define MOST_RUNS 48
 #define PLANNING_ACCURACY 6
 
 /* Only so many relations of one query can be known, since a set of them is a number of 64 bits. */
@@ -37,7 +37,7 @@ entry_of(BoundedQuery *query, int relid)
 static DegreeList
 shortened(DegreeList list)
 {
-	return list.length > LONGEST_LIST ? compressed(list, PLANNING_ACCURACY) : list;
+	return list.length > MOST_RUNS ? compressed(list, PLANNING_ACCURACY) : list;
 }
 
 /* The place of a joined column in `columns`, to which a new one is added; -1 if no list of it is kept. */

@@ -91,7 +91,7 @@ has_order(Form_pg_attribute attribute)
 static Bitmapset *
 named_columns(Relation relation, ArrayType *names)
 {
-	Bitmapset  *numbers = bms_make_singleton(0);	/* no names aren't all names */
+	Bitmapset  *numbers = bms_make_singleton(0);	/* 0: an empty list of names isn't all columns */
 	Datum	   *values;
 	bool	   *nulls;
 	int			length;
@@ -142,8 +142,8 @@ choose_columns(Making *making, Bitmapset *joined, Bitmapset *filters)
 	}
 }
 
-/* Whether there can be lists along a reference: who keeps the table may read the other one whole, values are equal on both sides as they
-   are in each column, and numbers of them fit into the memory. */
+/* Whether there can be lists along a reference: the user may read the whole other table, the same = holds in both columns and between
+   them, and numbers of their values fit into the memory. */
 static bool
 may_follow(const Making *making, const Column *along, const ForeignKeyCacheInfo *reference)
 {

@@ -51,7 +51,7 @@ extension_table(const char *name)
 	return OidIsValid(schema) ? get_relname_relid(name, schema) : InvalidOid;
 }
 
-/* What changed since the statistics were made may have other values: a column of another type or collation. */
+/* Whether a column has the type and the collation that it had when it was counted. Otherwise its values may be others. */
 static bool
 same_column(Oid relation, AttrNumber number, Oid type, Oid collation)
 {
@@ -167,7 +167,7 @@ read_table(KeptTable *table, Relation lists, Snapshot snapshot)
 	table->known = kept_pair(table, 0, 0) != NULL;
 }
 
-/* Below the current context, so that nothing of it stays after an error. */
+/* Reads the statistics into a memory context below the current one, so that nothing of them stays after an error. */
 static KeptTable *
 loaded(const Seen *seen, Snapshot snapshot)
 {
@@ -225,7 +225,7 @@ kept_release(void)
 	holders--;
 }
 
-/* Called where no plan is in the making. */
+/* Frees what was dropped. It is called when no plan is in the making. */
 void
 kept_free_dropped(void)
 {
@@ -283,7 +283,7 @@ bool		kept_fresh_only = false;
 static bool
 same_parts(const Seen *seen)
 {
-	return seen->sources == NIL || get_rel_relkind(seen->relation) != RELKIND_PARTITIONED_TABLE || equal(sources_of(seen->relation), seen->sources);
+	return seen->sources == NIL || get_rel_relkind(seen->relation) != RELKIND_PARTITIONED_TABLE || equal(written_through(seen->relation), seen->sources);
 }
 
 /* The statistics of a table as the active snapshot sees them, or NULL. What is dropped meanwhile stays until no plan is in the making.

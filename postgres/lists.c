@@ -3,7 +3,7 @@
 
 #include "common/int.h"
 
-/* The library answers statuses; all values are checked before, so that only memory can be wanting. */
+/* Raises an error if a call of the library failed. All values are checked before, so only memory can be lacking. */
 void
 library_check(safebound_status status, uint64 detail, const char *call)
 {
@@ -69,7 +69,7 @@ summed(DegreeList one, DegreeList other)
 /* The list of rows that have any one of two values, whichever it is: at each rank the greater degree. It has runs of its own, since who
    counts gives the memory of both back. */
 DegreeList
-greatest(DegreeList one, DegreeList other)
+greater_by_rank(DegreeList one, DegreeList other)
 {
 	size_t		room = one.length + other.length;
 	DegreeList	both = {Max(one.rows, other.rows), room, palloc((room + 1) * sizeof(safebound_run))};
@@ -132,7 +132,7 @@ advance(Place *place, uint64 keys)
 	}
 }
 
-/* Whether a list has nothing that is greater in the other one, so that it is the greatest of both already. Who counts asks this for each
+/* Whether a list has at least the other one's degree at each rank, so that greater_by_rank wouldn't change it. Counting asks this for each
    value. */
 bool
 dominates(const DegreeList *one, const DegreeList *other)

@@ -1,4 +1,4 @@
-/* The extension's module: its settings, and its parts begin. */
+/* The extension's module: it defines settings, and starts all other parts. */
 #include "admit.h"
 #include "watch.h"
 

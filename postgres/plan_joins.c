@@ -1,8 +1,8 @@
 /* The joins of a finished plan, each with the relations of the planner that it joins.
 
    A plan's scans name entries of the plan's own range table, in which the entries of all subqueries stand one behind the other. The
-   planner copies an entry there with the pointer to its names, by which it is found again. A scan below a join may be of a subquery
-   whose own node the planner took away; it stands then for that subquery. */
+   planner copies an entry there with the pointer to its names, by which it is found again. A scan below a join may be in a subquery
+   whose own scan node the planner removed. It then stands for that subquery. */
 #include "admit.h"
 
 #include "miscadmin.h"
@@ -33,7 +33,7 @@ typedef struct Search
 
 static Scans scans_below(Search *search, Plan *plan);
 
-/* The entries that a scan has joined before its rows come: a foreign server may, or what another extension has planned. */
+/* The entries that a scan joins itself, as a scan on a foreign server or one of another extension may. */
 static Bitmapset *
 joined_elsewhere(Plan *plan)
 {
@@ -100,7 +100,7 @@ has_joins(PlannedStmt *plan)
 	return any_join(plan->planTree);
 }
 
-/* The planner knew that nothing comes from here. */
+/* Whether the planner knew that this node has no rows. */
 static bool
 is_empty(Plan *plan)
 {
@@ -151,8 +151,8 @@ leaf_scans(Plan *plan)
 	return (Scans) {NULL, is_empty(plan)};
 }
 
-/* The parent of a child in its own part of the planner; 0 where it is no child. A finished plan's numbers of both are moved by as much as
-   the part's entries were, while the array still has the child at its number from before. */
+/* The parent of a child in its own part of the planner; 0 where it is no child. In a finished plan the numbers of both are moved, like
+   those of all entries of the part, but the array still has the child at its old number. */
 static Index
 parent_of(PlannerInfo *root, Index child)
 {
@@ -161,7 +161,7 @@ parent_of(PlannerInfo *root, Index child)
 	return info ? info->parent_relid - (info->child_relid - child) : 0;
 }
 
-/* The number that an entry has in `root`, where it stands in a subquery below it too; 0 where it isn't below. */
+/* The number in `root` of an entry, or of the subquery of `root` in which the entry stands; 0 if it isn't below `root`. */
 static Index
 relid_in(PlannerInfo *root, const Origin *origin)
 {

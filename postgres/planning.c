@@ -29,13 +29,13 @@ typedef struct Planning
 {
 	struct Planning *outer;
 	List	   *queries;		/* of BoundedQuery, one for each PlannerInfo that has joins or scans */
-	List	  **told;			/* where the queries go at its end; NULL: nowhere */
+	List	  **queries_out;	/* where the queries go at its end; NULL: nowhere */
 } Planning;
 
 static Planning *planning;
 
 /* Where the next call of the planner puts its queries. */
-static List **told_next;
+static List **next_queries_out;
 
 /* How many rows PostgreSQL by itself expects of a relation. A join relation is in the table once its bound was looked for. */
 typedef struct OwnRows
@@ -85,9 +85,9 @@ rows_by_mode(double bound, double expected, int relations)
 static double
 scan_rows(const Entry *entry)
 {
-	bool		blind = estimates_mode == ESTIMATES_MEAN && entry->rel->baserestrictinfo != NIL && entry->used == NULL;
+	bool		conditions_unknown = estimates_mode == ESTIMATES_MEAN && entry->rel->baserestrictinfo != NIL && entry->used == NULL;
 
-	return blind ? Min(entry->rel->rows, (double) entry->rows) : rows_by_mode((double) entry->rows, entry->rel->rows, 1);
+	return conditions_unknown ? Min(entry->rel->rows, (double) entry->rows) : rows_by_mode((double) entry->rows, entry->rel->rows, 1);
 }
 
 /* All base relations get their numbers before the first one's paths are final: what its paths cost depends on the rows of others. */
@@ -223,7 +223,7 @@ set_append_rows(BoundedQuery *query, RelOptInfo *rel)
 static void
 on_rel_paths(PlannerInfo *root, RelOptInfo *rel, Index rti, RangeTblEntry *rte)
 {
-	if (planning != NULL && (estimates_mode != ESTIMATES_OFF || planning->told))
+	if (planning != NULL && (estimates_mode != ESTIMATES_OFF || planning->queries_out))
 	{
 		bool		first = query_of(root, false) == NULL;
 		BoundedQuery *query = query_of(root, true);
@@ -363,12 +363,12 @@ on_join_search(PlannerInfo *root, int levels, List *initial)
 static PlannedStmt *
 on_planner(Query *parse, const char *text, int options, ParamListInfo parameters)
 {
-	Planning	mine = {.outer = planning,.told = told_next};
+	Planning	mine = {.outer = planning,.queries_out = next_queries_out};
 	PlannedStmt *plan;
 
 	if (planning == NULL)
 		kept_free_dropped();
-	told_next = NULL;
+	next_queries_out = NULL;
 	planning = &mine;
 	PG_TRY();
 	{
@@ -379,8 +379,8 @@ on_planner(Query *parse, const char *text, int options, ParamListInfo parameters
 		planning = mine.outer;
 	}
 	PG_END_TRY();
-	if (mine.told)
-		*mine.told = mine.queries;
+	if (mine.queries_out)
+		*mine.queries_out = mine.queries;
 	return plan;
 }
 
@@ -391,15 +391,15 @@ plan_and_tell(Query *query, const char *text, List **queries)
 	PlannedStmt *plan;
 
 	*queries = NIL;
-	told_next = queries;
+	next_queries_out = queries;
 	PG_TRY();
 	{
 		plan = pg_plan_query(query, text, CURSOR_OPT_PARALLEL_OK, NULL);
 	}
 	PG_FINALLY();
 	{
-		/* Another planner hook may have failed before ours took `told_next`. */
-		told_next = NULL;
+		/* Another planner hook may have failed before ours took `next_queries_out`. */
+		next_queries_out = NULL;
 	}
 	PG_END_TRY();
 	return plan;

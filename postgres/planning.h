@@ -1,4 +1,4 @@
-/* What one PlannerInfo's relations and equalities are to the library. */
+/* What is known of the relations and equalities of one PlannerInfo, in the library's terms. */
 #ifndef SAFEBOUND_PLANNING_H
 #define SAFEBOUND_PLANNING_H
 
@@ -7,7 +7,7 @@
 #include "nodes/plannodes.h"
 #include "utils/hsearch.h"
 
-/* Of more outer and semi-joins in one join nothing is bounded: the ways in which their sides may be missing double with each. */
+/* A join with more outer and semi-joins in it isn't bounded: each of them doubles the ways in which sides may be missing. */
 #define MOST_SPECIAL_JOINS 6
 
 /* No row bound is known. */
@@ -39,13 +39,13 @@ typedef struct JoinedColumn
 	Index		relid;
 	AttrNumber	number;
 	DegreeList	list;
-	List	   *narrowed;		/* of Narrowed: what it was asked for in sets */
+	List	   *narrowed;		/* of Narrowed: its lists in sets so far */
 } JoinedColumn;
 
-/* A joined column's list where conditions of relations hold that its own refers to. */
+/* A joined column's list in sets that join its relation to ones that it refers to, under the conditions of those too. */
 typedef struct Narrowed
 {
-	Bitmapset  *held;			/* their places in `carried` */
+	Bitmapset  *held;			/* the references that are joined along, by their places in `carried` */
 	DegreeList	list;
 } Narrowed;
 
@@ -57,7 +57,7 @@ typedef struct EqualColumns
 	int		   *columns;
 } EqualColumns;
 
-/* A relation that refers to another one, by an equality of both: it has lists under the other one's conditions. */
+/* A reference of a relation to another one, along an equality of the query. The referring one has lists under the other's conditions. */
 typedef struct Carried
 {
 	Index		referring;

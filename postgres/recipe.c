@@ -1,8 +1,8 @@
 /* What the bounds of a plan's joins are made of, kept with the plan, so that they can be made again when it runs.
 
-   A finished plan has no equivalence classes and no conditions as they were. They are copied into the plan as an entry of its range
-   table that nothing names, of the kind that is a single row without columns: the lists of its values hold them. Such an entry lies in
-   no table, takes no lock and is asked for no right; plans that are cached or copied keep it. A parallel worker doesn't get it. */
+   A finished plan has no equivalence classes and no conditions as they were. They are copied into the plan, into an entry of its
+   range table that nothing refers to. It is of the kind RTE_RESULT, and its values_lists hold them. Such an entry belongs to no table, takes
+   no lock and needs no rights. Plans that are cached or copied keep it. A parallel worker doesn't get it. */
 #include "admit.h"
 
 #include "nodes/makefuncs.h"
@@ -47,7 +47,7 @@ relids_of(List *numbers)
 	return relids;
 }
 
-/* What is known of an entry without its columns: which table it is, or that it is none. */
+/* An entry without its columns: it only says which table it is, if it is a table. */
 static RangeTblEntry *
 slim_entry(PlannerInfo *root, int relid)
 {
@@ -152,7 +152,7 @@ part_of_root(PlannerInfo *root, List *joins)
 	return part;
 }
 
-/* Keeps with a plan what the bounds of its joins are made of. The first value is how many joins can't be told. */
+/* Keeps with a plan what the bounds of its joins are made of. The first value is how many joins have unknown relations. */
 void
 put_recipe(PlannedStmt *plan, List *joins)
 {

@@ -6,7 +6,7 @@
 -- accuracy, common and ranges are what `keep` was called with.
 -- joined and filters are the numbers of the table's own columns that were counted as joined columns and as filter columns.
 -- version is a new number each time that the table is counted.
--- sources are the tables to which a statement may bring rows of this one; NULL where the table isn't watched.
+-- sources are the tables that a statement may write to when it brings rows to this one; NULL where the table isn't watched.
 -- referred has three numbers for each watched table that this one refers to: its oid, and its version and how many deltas it had when this
 -- table was counted.
 CREATE SEQUENCE versions;

@@ -83,7 +83,7 @@ extern DegreeList degrees_of(const uint64 *keys, size_t length, uint64 rows);
 extern DegreeList compressed(DegreeList list, int accuracy);
 extern DegreeList summed(DegreeList one, DegreeList other);
 extern DegreeList lesser(DegreeList one, DegreeList other);
-extern DegreeList greatest(DegreeList one, DegreeList other);
+extern DegreeList greater_by_rank(DegreeList one, DegreeList other);
 extern bool dominates(const DegreeList *one, const DegreeList *other);
 extern void put_number(StringInfo into, uint64 number);
 extern void put_list(StringInfo into, const DegreeList *list);
@@ -97,7 +97,7 @@ extern uint64 write_own(const char *statement, int length, Oid *types, Datum *va
 extern int64 keep_table(Oid relation, Bitmapset *joined, Bitmapset *filters, int most_common, int most_leaves, int accuracy, bool folding);
 
 /* watch.c: the tables, this one too, on which a statement may write rows to this table. */
-extern List *sources_of(Oid relation);
+extern List *written_through(Oid relation);
 
 /* admit.c: while it is true no query is refused. */
 extern bool admission_paused;

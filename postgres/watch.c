@@ -32,10 +32,10 @@ PG_FUNCTION_INFO_V1(safebound_unwatch);
 PG_FUNCTION_INFO_V1(safebound_fold);
 PG_FUNCTION_INFO_V1(safebound_on_change);
 
-/* As many deltas are folded by who analyzes. */
+/* ANALYZE folds the deltas of a table from this many on. */
 #define MANY_DELTAS 100
 
-/* What keep takes where it isn't told. */
+/* How a table is counted that wasn't kept before. */
 #define COMMON 100
 #define RANGES 64
 #define ACCURACY 8
@@ -44,7 +44,7 @@ static ProcessUtility_hook_type utility_before;
 
 /* A table, all that it inherits from, and the parts of a partitioned one: a statement on each of them may write to it. */
 List *
-sources_of(Oid relation)
+written_through(Oid relation)
 {
 	Relation	inherits = table_open(InheritsRelationId, AccessShareLock);
 	List	   *sources = list_make1_oid(relation);
@@ -114,7 +114,7 @@ has_triggers(Oid source, bool applies)
 static bool
 is_intact(Oid relation, List *followed)
 {
-	List	   *sources = sources_of(relation);
+	List	   *sources = written_through(relation);
 	ListCell   *cell;
 
 	if (!equal(sources, followed))
@@ -195,7 +195,7 @@ note_sources(Oid relation, List *sources)
 			  " WHERE relation = $1", 2, types, values);
 }
 
-/* The columns of which changes are told, of a table that is watched and known; NULL where it isn't. */
+/* The columns of a table whose changes are followed; NULL if the table isn't watched and known. */
 static Bitmapset *
 columns_told(Oid relation, Seen *seen)
 {
@@ -204,8 +204,8 @@ columns_told(Oid relation, Seen *seen)
 	return bms_union(seen->joined, seen->filters);
 }
 
-/* What the lists along a reference were made of, as the active snapshot sees it: three numbers for each table of which all changes to
-   their columns are told. */
+/* What the lists along a reference were made of, as the active snapshot sees it: three numbers for each referred table, if all
+   changes to the columns that were used are followed. */
 static List *
 references_told(Oid relation, uint64 rows, SPITupleTable *lists)
 {
@@ -331,7 +331,7 @@ keep_again(Oid relation, bool folding)
 
 	if (!see_table(relation, NULL, &seen))
 		return keep_table(relation, NULL, NULL, COMMON, RANGES, ACCURACY, folding);
-	/* A set with 0 alone is no column; NULL would be all. */
+	/* With 0 in it a set without columns isn't NULL, which would be all columns. */
 	return keep_table(relation, bms_add_member(seen.joined, 0), bms_add_member(seen.filters, 0), seen.common, seen.ranges, seen.accuracy, folding);
 }
 
@@ -342,10 +342,10 @@ may_have_triggers(Oid relation)
 	Relation	opened = open_owned(relation);
 	bool		may = opened->rd_rel->relkind != RELKIND_MATVIEW;
 
-	/* It is dropped at the end of the session without an event. */
+	/* A temporary table is dropped at the end of the session without an event that could be seen. */
 	if (opened->rd_rel->relpersistence == RELPERSISTENCE_TEMP)
 		ereport(ERROR, (errcode(ERRCODE_FEATURE_NOT_SUPPORTED), errmsg("\"%s\" is a temporary table, and can't be watched", get_rel_name(relation))));
-	/* Its triggers change while nobody here has it open. */
+	/* It is closed here, since its triggers can't be changed while this backend has it open. */
 	relation_close(opened, NoLock);
 	return may;
 }
@@ -355,7 +355,7 @@ safebound_watch(PG_FUNCTION_ARGS)
 {
 	Oid			relation = PG_GETARG_OID(0);
 	bool		triggers = may_have_triggers(relation);
-	List	   *sources = sources_of(relation);
+	List	   *sources = written_through(relation);
 	int64		lists;
 	ListCell   *cell;
 
@@ -386,7 +386,7 @@ safebound_unwatch(PG_FUNCTION_ARGS)
 	SPI_connect();
 	if (were)
 		note_sources(relation, NIL);
-	foreach(cell, triggers ? sources_of(relation) : NIL)
+	foreach(cell, triggers ? written_through(relation) : NIL)
 		if (lfirst_oid(cell) == relation || is_part_of(lfirst_oid(cell), relation))
 			drop_triggers(lfirst_oid(cell));
 	SPI_finish();
@@ -404,7 +404,7 @@ safebound_fold(PG_FUNCTION_ARGS)
 	PG_RETURN_INT64(keep_again(relation, true));
 }
 
-/* Who analyzes folds: all that he owns, or what he names. */
+/* ANALYZE folds: the tables that it names, or without names all that the user owns. */
 static void
 fold_full(List *named)
 {
@@ -468,7 +468,7 @@ on_utility(PlannedStmt *statement, const char *text, bool read_only, ProcessUtil
 	}
 }
 
-/* A table that isn't followed any more as it was. Where a mark is there already and nobody is about to take it away, it is enough. */
+/* Marks a table that is no longer followed completely. A mark that is there already is enough, unless somebody is about to delete it. */
 static void
 mark_broken(Oid relation)
 {

@@ -138,7 +138,7 @@ def record(files: dict[str, bytes]) -> bytes:
 
 
 def write(folder: str, files: dict[str, bytes]) -> str:
-    """Makes a wheel of the files and its own, and gives its name."""
+    """Makes a wheel of the files, adds those that describe it, and gives its name."""
     wheel = f"Wheel-Version: 1.0\nGenerator: build_safebound\nRoot-Is-Purelib: false\nTag: {tag()}\n"
     own = {"METADATA": metadata(), "WHEEL": wheel.encode(), "LICENSE": read(place_of("LICENSE"))}
     files = {**files, **{f"{INFO}/{name}": data for name, data in own.items()}}

@@ -1,4 +1,4 @@
-"""What each of these faults has to be told: its place, its cause and its remedy. The list was written before any of
+"""What the explanation of each of these faults has to say: place, cause and remedy. The list was written before any of
 them was run, though not before the code of the explanations was read.
 
 A word of a list stands for all its alternatives, which `|` separates; one of them has to be said. Cause and remedy are
@@ -19,7 +19,7 @@ class Fault:
     mistake: Mistake
     cause: tuple[str, ...]
     remedy: tuple[str, ...]
-    # Without it the place of a text, which the mistake has.
+    # Empty if the place is the one in the text of the mistake.
     place: tuple[str, ...] = ()
 
 

@@ -1,8 +1,8 @@
 """The first hour of somebody who has five CSV files of a school and writes no schema: ten questions, and the mistakes
 of that hour.
 
-What each mistake has to be told was written before any of them was run. The files lie in a folder `folder` below the
-one where the user is.
+What the explanation of each mistake has to say was written before any of them was run. The files lie in a folder
+`folder` below the one where the user is.
 """
 import io
 import zipfile
@@ -43,7 +43,7 @@ QUESTIONS = (
 def asked(
     line: Optional[str], files: Optional[Files] = None, words: Iterable[str] = ("run", "query.sql", "--data", "folder")
 ) -> Mistake:
-    """A mistake of that hour: the program's line (None: it doesn't come to that), files in the place of the school's,
+    """A mistake of that hour: the program's line (None: the program isn't run), files in the place of the school's,
     and the words.
     """
     return Mistake(line, (), files or {}, tuple(words))

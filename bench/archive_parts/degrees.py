@@ -333,7 +333,7 @@ def known(statistics: Statistics, query: reading.Query) -> Known:
 
 
 def known_by_keys(statistics: Statistics, query: reading.Query) -> Known:
-    """With the conditions of entries to which others refer: for the set of all entries of this query."""
+    """From statistics and the conditions of entries to which others refer; it holds for the set of all entries."""
     found = known(statistics, query)
     for one, other in reading.equalities(query):
         carry(statistics, found, one, other)

@@ -1,5 +1,5 @@
-"""The questions inside PostgreSQL, whose planner is given its own numbers of rows, bounds, or the mean of both:
-processor seconds."""
+"""Processor seconds of the questions inside PostgreSQL, whose planner uses its own numbers of rows, bounds, or the mean
+of both."""
 
 from __future__ import annotations
 
@@ -82,8 +82,8 @@ def measured(backend: Backend, text: str) -> tuple[float, bool]:
 
 
 def in_modes(backend: Backend, text: str, modes: Iterable[str]) -> Iterator[tuple[str, float, bool, float]]:
-    """One question in each mode. A plan that another mode had isn't run again: it counts as long, but for its
-    planning."""
+    """One question in each mode. A plan that another mode had too isn't run again: its run counts as long, and only its
+    planning is measured."""
     known: dict[str, tuple[float, bool, float]] = {}
     for mode in modes:
         backend.connection.execute(f"SET safebound.estimates = {mode}")

@@ -150,5 +150,5 @@ def make() -> None:
 
 
 def is_made() -> bool:
-    """The last file that `make` writes is there."""
+    """Whether the last file that `make` writes is there."""
     return os.path.exists(os.path.join(places.WHOLE, "directory.csv"))

@@ -36,7 +36,7 @@ def say(text: str) -> None:
 
 
 def write(path: str, columns: Iterable[str], rows: Iterable[Iterable[object]]) -> None:
-    """A file has its name once it is whole."""
+    """Writes a CSV file. It gets its name only once it is whole."""
     with open(path + ".new", "w", encoding="utf-8", newline="") as f:
         out = csv.writer(f)
         out.writerow(columns)

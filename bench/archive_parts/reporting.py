@@ -75,8 +75,8 @@ def is_below(one: dict[str, str], bound: str, rows: str) -> bool:
 
 
 def check(sets: Lines, runs: Lines) -> None:
-    """No bound is below its rows, no run has other rows than PostgreSQL, and the program prints the bounds that the
-    definitions give."""
+    """Checks that no bound is below its rows, that no run has other rows than PostgreSQL, and that the program prints
+    the bounds that the definitions give."""
     whole = [one for one in sets if one["whole"] == "1"]
     bound = {(one["question"], flags.name): int(one[flags.name]) for one in whole for flags in ALL}
     ran = [one for one in runs if one["status"] == "0"]

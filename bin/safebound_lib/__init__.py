@@ -10,6 +10,6 @@ sys.path.insert(0, _BESIDE if os.path.isdir(os.path.join(_BESIDE, "safebound")) 
 
 
 def version() -> str:
-    """That of the package, which takes a while to load and which most runs don't need."""
+    """The version of the package `safebound`. It is loaded only here, since that takes a while and few runs need it."""
     from safebound._version import VERSION
     return VERSION

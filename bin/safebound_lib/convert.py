@@ -21,14 +21,14 @@ from .words import Line, Misused, places
 
 SEPARATORS = {",": "commas", ";": "semicolons", "\t": "tabs", "|": "bars"}
 LOOKED_AT = 100
-MARKS = (
+BYTE_ORDER_MARKS = (
     (codecs.BOM_UTF8, "utf-8-sig"),
     (codecs.BOM_UTF32_LE, "utf-32"),
     (codecs.BOM_UTF32_BE, "utf-32"),
     (codecs.BOM_UTF16_LE, "utf-16"),
     (codecs.BOM_UTF16_BE, "utf-16"),
 )
-SPOKEN = {
+ENCODING_NAMES = {
     "utf-8": "UTF-8",
     "utf-8-sig": "UTF-8 with a byte order mark",
     "cp1252": "Windows-1252 (Latin-1)",
@@ -38,7 +38,7 @@ SPOKEN = {
     "utf-16-be": "UTF-16",
     "utf-32": "UTF-32",
 }
-PACKED = (
+NOT_TEXT = (
     (
         b"PK\x03\x04",
         "is a workbook or an archive, and no text. Save its sheet as CSV (in Excel: CSV UTF-8), and take that",
@@ -76,9 +76,9 @@ def convert(line: Line) -> int:
         program.write(1, f"{plain(file)}: is UTF-8{commas} already; nothing was written\n")
         return 0
     new = (written(sheet) if sheet else text).encode()
-    was = SPOKEN.get(encoding, encoding) + (f", separated by {SEPARATORS[sheet.separator]}" if sheet else "")
+    was = ENCODING_NAMES.get(encoding, encoding) + (f", separated by {SEPARATORS[sheet.separator]}" if sheet else "")
     says = f"{was}; now it is UTF-8{commas}{cents}"
-    return laid(file, data, new, output, says, ragged(sheet) if sheet else "", bool(cents))
+    return write_result(file, data, new, output, says, ragged(sheet) if sheet else "", bool(cents))
 
 
 def in_cents(line: Line, file: str, sheet: Sheet | None) -> str:
@@ -101,14 +101,14 @@ def read(file: str) -> bytes:
         raise Misused(of_folder(file)) from None
     except OSError as fault:
         raise Misused(f"{plain(file)}: {fault.strerror}") from None
-    if packed(data):
-        raise Misused(f"{plain(file)} {packed(data)}")
+    if not_text_message(data):
+        raise Misused(f"{plain(file)} {not_text_message(data)}")
     return data
 
 
-def packed(data: bytes) -> str:
+def not_text_message(data: bytes) -> str:
     """What a workbook or a packed file is, and what the user has to do with it; "" for any other file."""
-    return next((says for start, says in PACKED if data.startswith(start)), "")
+    return next((says for start, says in NOT_TEXT if data.startswith(start)), "")
 
 
 def of_folder(folder: str) -> str:
@@ -122,7 +122,7 @@ def of_folder(folder: str) -> str:
 
 def encoding_of(data: bytes) -> str:
     """The encoding that the byte order mark names. Without a mark it is guessed from the bytes."""
-    marked = next((name for mark, name in MARKS if data.startswith(mark)), None)
+    marked = next((name for mark, name in BYTE_ORDER_MARKS if data.startswith(mark)), None)
     if marked:
         return marked
     # In UTF-16 every second byte of most texts is 0.
@@ -168,7 +168,9 @@ def parsed(text: str, separator: str) -> Iterator[list[str]]:
 
 
 def evenness(text: str, separator: str) -> tuple[bool, int, int]:
-    """How well a separator fits: whether it splits the header, how many records are as wide, and the header's width."""
+    """How well a separator fits: whether it splits the header, how many records have as many fields as the header, and
+    how many these are.
+    """
     widths = [len(record) for _, record in zip(range(LOOKED_AT), parsed(text, separator))]
     wide = widths[0] if widths else 1
     return wide > 1, widths.count(wide), wide
@@ -188,20 +190,24 @@ def ragged(sheet: Sheet) -> str:
     return f"The header has {wide} fields, and {said} has another number.\n" if found else ""
 
 
-def free(name: str) -> str:
+def unused_name(name: str) -> str:
     """A name that no file has: `name`, or `name` with a number after it."""
     number = next(n for n in itertools.count(1) if not os.path.lexists(f"{name}{n if n > 1 else ''}"))
     return f"{name}{number if number > 1 else ''}"
 
 
-def laid(file: str, old: bytes, new: bytes, output: str | None, says: str, warning: str, numbers_kept: bool) -> int:
-    """Writes the new text, over no other file. If the input has the target's name, its old bytes are kept first."""
+def write_result(
+    file: str, old: bytes, new: bytes, output: str | None, says: str, warning: str, numbers_kept: bool
+) -> int:
+    """Writes the new text, and answers the exit status. No other file is written over. If the target is the input
+    itself, the old bytes are first kept in a file of another name.
+    """
     folder, base = os.path.split(file)
     target = output or os.path.join(
         folder, base.lower() if base.lower().endswith((".csv", ".sql")) else os.path.splitext(base)[0].lower() + ".csv"
     )
     is_same = os.path.exists(target) and os.path.samefile(file, target)
-    kept = (free(f"{file}.original") if numbers_kept else f"{file}.original") if is_same else None
+    kept = (unused_name(f"{file}.original") if numbers_kept else f"{file}.original") if is_same else None
     if target == "-":
         program.write(1, new.decode())
         return 0

@@ -47,7 +47,7 @@ def of_decimals(name: str, values: dict[str, int], word: str) -> str:
 
 
 def in_whole_numbers(file: str, records: list[list[str]], name: str, digits: int) -> str:
-    """Writes a column of the records in whole numbers, under a name of its own; what was done, in a sentence."""
+    """Writes a column of the records in whole numbers, under a new name. Returns a sentence on what was done."""
     header = records[0] if records else []
     if folded(name) not in map(folded, header):
         raise Misused(f"{plain(file)} has no column {plain(name)}. Its columns are {listed(map(plain, header))}")
@@ -61,7 +61,7 @@ def in_whole_numbers(file: str, records: list[list[str]], name: str, digits: int
 
 
 def refuse_value(file: str, number: int, value: str, name: str, digits: int) -> None:
-    """Values that aren't decimals, and those that would lose digits, are left to the user."""
+    """Refuses a value that isn't a decimal, or that would lose digits: the user has to decide what it becomes."""
     has, where = digits_of(value), f"{plain(file)}, record {number}: {plain(name)} is `{plain(value)}`"
     if has is None:
         raise Misused(f"{where}, and this is no number. Write one there; nothing was written")

@@ -35,7 +35,7 @@ NUMBERS = {"at", "record", "found", "earlier", "least"}
 
 @dataclass
 class Fault:
-    """The words of a fault's line. Where a kind of fault has no such word, it is empty here, or 0 if it is a number."""
+    """The words of a fault's line. A word that this kind of fault doesn't have is empty, or 0 if it is a number."""
     kind: str
     cause: str = ""
     file: str = ""

@@ -11,7 +11,7 @@ Read = TypeVar("Read")
 
 
 class Wrong(Exception):
-    """The tokens begin no text of the grammar."""
+    """No text of the grammar begins with these tokens."""
 
 
 class Reader:

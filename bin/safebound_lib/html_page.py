@@ -41,8 +41,8 @@ NO_LISTS = {
 
 
 def page(shown: Shown, lists: dict[str, list[Listed]], flags: list[str]) -> str:
-    """The page of what is shown. `lists` has for each entry `(column, what of, runs)`; of `flags` some say why lists
-    are missing.
+    """The page of what is shown. `lists` has for each entry its lists: the column, what rows the list is of, and its
+    runs. `flags` are options of the run. With some of them there are no lists, and the page says so.
     """
     parts = [entry_part(shown, alias, lists, flags) for alias in shown.plan.entries] + [
         step_part(shown, at) for at in range(steps(shown))
@@ -88,7 +88,7 @@ def counted(bound: int, rows: int | None) -> str:
 
 
 def tree(shown: Shown, at: int) -> str:
-    """The step at this place and all below it as items of a list; without inner nodes it is the one entry."""
+    """The step at this place and all below it as items of a list; a plan without joins is its one entry."""
     if at < 0:
         return entry_item(shown, shown.plan.entries[0])
     past = ' class="past"' if shown.is_past(bound_of(shown, at)) else ""

@@ -9,13 +9,13 @@ from safebound.plan_texts import read_audit, read_plan
 
 from . import program
 from .explain import Run, read
-from .query import found_of, references_of
+from .query import references_of, resolved
 from .table import ACCURACY, BUDGET, COUNT, KEYS, REDUCE, USUAL_BUDGET
 from .words import option_of
 
 if TYPE_CHECKING:
     from safebound.plan_texts import PlanText
-    from .query import Joined, Query, Test
+    from .query import Compound, Query, Test
     from .schema import Schema
     from .words import Line
 
@@ -114,9 +114,9 @@ def nodes_of(plan: PlanText, rows: list[int] | None, conditions: list[Condition]
 
 
 def one_condition(
-    text: bytes, query: Query, schema: Schema, conjunct: Joined | Test, steps: list[set[str]], plan: PlanText
+    text: bytes, query: Query, schema: Schema, conjunct: Compound | Test, steps: list[set[str]], plan: PlanText
 ) -> Condition:
-    named = {found_of(query, reference, schema)[0].name for reference in references_of(conjunct)}
+    named = {resolved(query, reference, schema)[0].name for reference in references_of(conjunct)}
     entries = [entry.name for entry in query.entries if entry.name in named]
     first = next(number for number, step in enumerate(steps) if named <= step)
     written = " ".join(text[conjunct.start:conjunct.end].decode().split())

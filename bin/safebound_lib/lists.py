@@ -8,7 +8,7 @@ from typing import Any, Dict, List, Tuple, TYPE_CHECKING
 
 from safebound.sql_texts import number_of, text_of, written_text
 
-from .query import Joined, Literal, Reference, equality, meant, references_of
+from .query import Compound, Literal, Reference, equality, meant, references_of
 
 if TYPE_CHECKING:
     from .query import Entry, Query, Test as Comparison
@@ -100,9 +100,9 @@ class Group:
     members: list[Test | Group]
 
 
-def normal(condition: Joined | Comparison, is_not: bool = False) -> Test | Group:
-    """A condition without NOT."""
-    if isinstance(condition, Joined):
+def normal(condition: Compound | Comparison, is_not: bool = False) -> Test | Group:
+    """The condition with each NOT moved into the comparisons below it."""
+    if isinstance(condition, Compound):
         if condition.by == "NOT":
             return normal(condition.members[0], not is_not)
         by = "OR" if is_not == (condition.by == "AND") else "AND"
@@ -148,7 +148,7 @@ def flat(condition: Test | Group) -> list[Test | Group]:
 
 
 def asked(condition: Test | Group) -> list[Asked]:
-    """What a condition asks of statistics. The ranges of one AND on a column are one."""
+    """What a condition asks of statistics. Ranges of one column within one AND are asked for as one range."""
     found: list[Asked] = []
     ranges: dict[str, tuple[list[Value], list[Value]]] = {}
     for member in flat(condition):
@@ -187,7 +187,7 @@ def joined_columns(query: Query, schema: Schema, entry: Entry) -> list[str]:
     return found
 
 
-def entries_of(query: Query, schema: Schema, condition: Joined | Comparison) -> set[str]:
+def entries_of(query: Query, schema: Schema, condition: Compound | Comparison) -> set[str]:
     """The names of the entries that a condition names."""
     return {found[0].name for r in references_of(condition) for found in [meant(query, r, schema)] if found}
 

@@ -35,7 +35,7 @@ def main(words: list[str]) -> int:
 
 
 def misused(text: str) -> int:
-    """Says what the friendly command can't take, on a terminal within its width."""
+    """Says what the friendly command can't take. On a terminal lines are wrapped at its width."""
     if program.is_terminal(2):
         from .explain import wrapped
         text = "\n".join(map(wrapped, text.split("\n")))
@@ -69,7 +69,7 @@ def enter(line: Line) -> None:
 
 
 def no_folder(folder: str) -> str:
-    """Why a folder isn't one, and which may be meant."""
+    """Why this isn't a folder that can be used, and which folder may be meant."""
     if os.path.isfile(folder):
         return f"this is a file, and the option takes its folder: {DATA.word} {os.path.dirname(folder) or '.'}"
     above = os.path.dirname(folder) or "."
@@ -90,8 +90,8 @@ def with_schema(line: Line, run: Callable[[Line], int]) -> int:
 
 
 def run_program(line: Line, is_last: bool) -> int:
-    """The program's own commands. It is run so that its notes are seen only where a fault may be explained; `is_last`
-    says that nothing has to be done behind it.
+    """Runs a command of the program itself. Where a fault may be explained, what it writes on standard error is read
+    here too. Otherwise, if `is_last` says that nothing has to be done afterwards, this process becomes the program.
     """
     path = program.found()
     if JSON.word in line.own:
@@ -107,8 +107,8 @@ def run_program(line: Line, is_last: bool) -> int:
 
 
 def is_explained(line: Line) -> bool:
-    """Whether a fault is explained: on a terminal, where a person left the schema out, and where that is asked for,
-    rightly spelled or not.
+    """Whether a fault is explained: on a terminal, for a run whose schema was proposed, and with `--explain`, also if
+    that word is misspelled.
     """
     from .near import nearest
     command = BY_WORD.get(line.command)

@@ -13,7 +13,9 @@ def nearest(name: str, names: Iterable[str], cutoff: float = 0.6) -> str | None:
 
 
 def hint(name: str, names: Iterable[str]) -> str:
-    """A sentence that asks for the nearest name, or nothing. An option that is cut short is the one that begins so."""
+    """A sentence that asks for the nearest name, or nothing. An option that is cut short stands for the one that begins
+    with it.
+    """
     those = list(names)
     begun = [other for other in those if name.startswith("--") and other.startswith(name) and other != name]
     found = begun[0] if len(begun) == 1 else nearest(name, those)

@@ -53,14 +53,16 @@ def new(words: list[str]) -> int:
 
 
 def called() -> str:
-    """The command as it was called, where a shell wouldn't find it by its name."""
+    """The command as a user can call it: by its name if the shell finds it so, else by its path."""
     found = shutil.which("safebound")
     is_it = found is not None and os.path.realpath(found) == os.path.realpath(sys.argv[0])
     return "safebound" if is_it or os.path.basename(sys.argv[0]) != "safebound" else shlex.quote(sys.argv[0])
 
 
 def check(path: str, line: Line) -> int:
-    """The texts alone, planned where no table lies: a table that can't be read shows that both are right."""
+    """Checks the texts alone: it plans them in a folder without tables. If the plan fails only since a table can't be
+    read, both texts are right.
+    """
     files = places_of(line.words[1:])
     if len(files) not in (1, 2) or len(files) != len([w for w in line.words[1:] if w != "--"]):
         raise Misused("check takes the schema and maybe the query: safebound check SCHEMA [QUERY]")
@@ -106,7 +108,7 @@ def found_right(files: list[str]) -> str:
 
 
 def picture(path: str, line: Line) -> int:
-    """The picture of an audit's plan and rows; where the budget refuses the query, of its plan beside the budget."""
+    """Draws the plan and the true rows of an audit; if the budget refuses the query, the plan and the budget."""
     words = ["audit", *line.words[1:]]
     run = Run(words, path, line.before)
     status, out, notes = program.answer(path, words)
@@ -126,7 +128,7 @@ def picture(path: str, line: Line) -> int:
 
 
 def refused(run: Run, fault: Fault | None) -> PlanText | None:
-    """The plan that a budget refuses, where the greatest budget lets it be seen, or nothing."""
+    """The plan that the budget refuses, made again under the greatest budget; nothing if that refuses it too."""
     if not fault or fault.kind != "budget" or fault.least > most_of(run):
         return None
     plan = with_words(run, given(run, fault.least))
@@ -134,7 +136,7 @@ def refused(run: Run, fault: Fault | None) -> PlanText | None:
 
 
 def drawn(run: Run, shown: Shown, to: str) -> str:
-    """The picture, or where its file is one of HTML the page."""
+    """The picture, or the HTML page if the file's name ends in .html or .htm."""
     if not to.lower().endswith((".html", ".htm")):
         return draw(shown)
     flags = [flag.word for flag in (REDUCE, COUNT, KEYS) if has(run, flag)]
@@ -142,7 +144,7 @@ def drawn(run: Run, shown: Shown, to: str) -> str:
 
 
 def lists_beside(run: Run) -> dict[str, list[Listed]]:
-    """The lists of the run's entries, from the program's statistics of its query; none where it makes no file."""
+    """The lists of the run's entries, from the statistics that the program makes for the query; empty if it fails."""
     accuracy = option_of(run.words, ACCURACY.word)
     status, text, _ = program.answer(
         run.program or "",

@@ -84,7 +84,7 @@ def wrapped(text: str, wide: int, indent: str = "", first: str = "") -> list[str
 
 
 def entry(word: str, text: str, wide: int) -> str:
-    """A word and what it says, the text in a column of its own; below a word that is too long for its column."""
+    """A word, and what it means in a column beside it; below the word if that is too long for its column."""
     first = f"  {word:<22} " if len(word) <= 22 else f"  {word}\n{'':25}"
     above, _, indent = first.rpartition("\n")
     return (above and above + "\n") + "\n".join(wrapped(text, wide, " " * 25, indent))
@@ -105,7 +105,7 @@ def errors() -> str:
 
 
 def plain(text: str) -> str:
-    """A page's text as a terminal shows it: without its marks, and with the paths where other pages lie here."""
+    """A page's text for a terminal: without backquotes, and with the paths of other pages in place of links to them."""
     text = re.sub(
         r"\[([^\]]*)\]\((\w+\.md)[^)]*\)",
         lambda found: f"docs/{found[2]}" if found[1] == found[2] else f"{found[1]} (docs/{found[2]})",

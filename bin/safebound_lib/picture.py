@@ -1,6 +1,6 @@
 """The picture of a plan as one SVG: its order from left to right, and each scan's and level's bound as a bar. Of a join
-tree each node has a bar between those of the two nodes that it joins, and the tree stands below. Behind all come the
-conditions, step by step.
+tree each node has a bar between those of the two nodes that it joins, and the tree stands below. At the
+bottom stand the conditions, step by step.
 
 Heights are logarithms: a step of the grid is a factor of ten. True rows stand within a bar, and the budget is a line
 that no number cuts.
@@ -53,7 +53,7 @@ class Picture:
         self.grid()
 
     def height(self, value: int) -> float:
-        """A foot of a few points, so that a bar of 1 is seen; none for 0."""
+        """How high a bar is. All but that of 0 have a few points more, so that a bar of 1 is seen."""
         return 0 if value == 0 else 8 + (HEIGHT - 8) * math.log10(value) / self.decades
 
     def text(

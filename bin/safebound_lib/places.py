@@ -7,7 +7,7 @@ import platform
 LIB = os.path.dirname(os.path.realpath(__file__))
 TOP = os.path.dirname(os.path.dirname(LIB))
 BUILT = os.path.join(TOP, "crates", "safebound_cli", "out", "safebound_cli")
-# PREFIX/lib/safebound/safebound_lib is where this file lies then.
+# Where `make install` has put this file, it lies in PREFIX/lib/safebound/safebound_lib.
 SHARED = os.path.join(os.path.dirname(TOP), "share", "safebound")
 INSTALLED = os.path.join(os.path.dirname(TOP), "bin", "safebound_cli")
 # The last release, which the repository has for one kind of machine.

@@ -17,7 +17,7 @@ SAFEBOUND_PROGRAM names a program that lies elsewhere."""
 
 
 def found() -> str:
-    """The program's path; without one the command ends. A terminal is told where it is the release's."""
+    """The path of the program. If there is none, the command ends. If it is the release's, a terminal is told so."""
     path = places.program()
     if path is None:
         sys.exit(NO_PROGRAM)
@@ -76,16 +76,17 @@ class Relay:
             while part:
                 part = part[os.write(self.to, part):]
         except OSError:
-            # A terminal that went away: the program is told so by its own stream. Its notes are still read, for their
-            # fault.
+            # Our stream is gone, as when a terminal closes. Of standard output the program's pipe is closed then too.
+            # Standard error is still read, since the fault stands there.
             return self.to == 2
         return True
 
 
 def run_and_read(path: str, words: list[str]) -> tuple[int, bytes]:
-    """Runs the program on our streams. The exit status, below 0 after a signal, and what it wrote on standard error.
+    """Runs the program on our streams. Returns its exit status, below 0 after a signal, and its standard error.
 
-    Where both streams are terminals, rows go by us too: else they could overtake the plan that was written before them.
+    If standard output is a terminal, rows go through this process too. Otherwise they could appear before the plan that
+    was written before them.
     """
     from .progress import Progress
     rows = subprocess.PIPE if is_terminal(1) else None
@@ -105,8 +106,8 @@ def run_and_read(path: str, words: list[str]) -> tuple[int, bytes]:
         ready, _, _ = select.select([r.stream for r in relays if r.is_open], [], [], TICK if progress else None)
         if progress:
             progress.clear() if ready else progress.show(sum(map(len, notes.kept)), rows is not None)
-        # Notes first: what was written on them before the rows that are ready is there by now. Where nothing was ready,
-        # what has come since waits until the line of progress is cleared.
+        # Standard error comes first: what the program wrote there before these rows has arrived by now. If nothing was
+        # ready, nothing is handed on before the line of progress is cleared.
         for relay in relays if ready else []:
             if relay is notes or relay.stream in ready:
                 relay.hand_on()
@@ -114,7 +115,7 @@ def run_and_read(path: str, words: list[str]) -> tuple[int, bytes]:
 
 
 def end_as(status: int) -> int:
-    """The status. Where a signal ended the program, this process ends by the same signal."""
+    """Returns the status. If a signal ended the program, this process ends by the same signal."""
     if status < 0:
         if -status not in (signal.SIGKILL, signal.SIGSTOP):
             signal.signal(-status, signal.SIG_DFL)

@@ -45,7 +45,7 @@ def tables_of(words: list[str]) -> list[tuple[str, int]]:
 
 
 class Progress:
-    """A line on the terminal, from a second on."""
+    """A line on the terminal, once a run takes more than a second."""
 
     def __init__(self, pid: int, words: list[str]) -> None:
         self.pid, self.words, self.began, self.is_shown = pid, words, time.monotonic(), False

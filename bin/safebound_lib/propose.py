@@ -11,7 +11,7 @@ from dataclasses import dataclass, field
 from typing import Optional
 
 from . import program
-from .convert import packed
+from .convert import not_text_message
 from .explain import laid_out
 from .explain.reads import OF_SHEETS, OF_TEXTS
 from .explain.usage import is_query
@@ -23,7 +23,7 @@ from .terminal import columns
 from .words import Line, Misused, places
 
 MOST_TABLES, NOT_ALL = 64, 6
-# Behind these a column's name is that of the table to which it refers.
+# Without such an ending a column that refers to a table often has the name of that table.
 ENDINGS = re.compile(r"_?(ID|NO|NR|NUM|NUMBER|CODE|KEY|NAME)$")
 
 
@@ -58,7 +58,7 @@ class Proposal:
 
 
 def kept(files: list[str], target: str, uses: str) -> str:
-    """How to keep a schema that is proposed, or where there is one the line that `uses` it."""
+    """How to keep a schema that is proposed. If there is a schema.sql already, the line that `uses` it instead."""
     if os.path.exists("schema.sql"):
         return f"{plain(target)} is there, and isn't used. This uses it:\n--     {plain(uses)}"
     return f"To keep it, and edit it:\n--     safebound schema {' '.join(map(plain, files))} --output {plain(target)}"
@@ -114,7 +114,9 @@ def rules(column: Column, primary: Optional[Column], sheet: Sheet, sheets: list[
 
 
 def primary_of(sheet: Sheet) -> Optional[Column]:
-    """Of the columns that repeat nothing, one that is named like a key, else the table's first one; or nothing."""
+    """Of the columns without repeated values the first that is named like a key, else the table's first column if it is
+    one of them, else None.
+    """
     keys = [column for column in sheet.columns if sheet.is_key(column)]
     named = [column for column in keys if bare(column.name) in ("", bare(sheet.name), singular(bare(sheet.name)))]
     first = [column for column in keys if column is sheet.columns[0]]
@@ -122,7 +124,7 @@ def primary_of(sheet: Sheet) -> Optional[Column]:
 
 
 def bare(name: str) -> str:
-    """A name without what columns that refer often end in."""
+    """A name without the ending that columns that refer often have."""
     return ENDINGS.sub("", name.strip('"').upper())
 
 
@@ -134,7 +136,9 @@ def singular(name: str) -> str:
 
 
 def referred(column: Column, sheet: Sheet, sheets: list[Sheet]) -> Optional[tuple[Sheet, Column]]:
-    """The table and key to which a column refers: it has all its values, and its name names the table or the key."""
+    """The table and key to which a column refers: all its values are in the key, and its name is made of the table's or
+    the key's.
+    """
     found = [
         (other, key) for other in sheets if other is not sheet for key in other.columns if other.is_key(key)
         and column.values and key.is_number == column.is_number and column.values.keys() <= key.values.keys()
@@ -144,7 +148,7 @@ def referred(column: Column, sheet: Sheet, sheets: list[Sheet]) -> Optional[tupl
 
 
 def names(column: Column, other: Sheet, key: Column) -> bool:
-    """Whether a column's name is the table's to which it would refer, or ends in it behind a _, or is its key's."""
+    """Whether a column's name is the table's, ends in _ and the table's, or is the key's, perhaps with an ending."""
     tables = {other.name.strip('"'), singular(other.name.strip('"'))}
     whole = column.name.strip('"').upper()
     called = {whole, bare(column.name), whole.rpartition("_")[2], bare(column.name).rpartition("_")[2]}
@@ -199,8 +203,8 @@ def tables_in(folder: str) -> list[str]:
 def proposed(line: Line) -> Iterator[Line]:
     """The line with a schema's file, which is proposed from the tables here.
 
-    Standard error shows it in short, and what a user has to know of the tables: the cause of a failure stands below.
-    Where the query or one of its tables isn't there, it would only hide that.
+    Standard error shows the schema in short, with what a user has to know of the tables, since that may be why the run
+    fails. If a table is missing or its file is no table, nothing of this is shown: it would only hide that fault.
     """
     query = places(line.words[1:])[0]
     wanted = tables_of(query)
@@ -245,7 +249,7 @@ def none_in(folder: str, before: Optional[str]) -> list[str]:
 
 def packed_file(file: str) -> bool:
     with open(file, "rb") as f:
-        return bool(packed(f.read(8)))
+        return bool(not_text_message(f.read(8)))
 
 
 def tables_of(query: str) -> list[str]:

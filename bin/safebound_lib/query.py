@@ -80,10 +80,10 @@ class Test:
 
 
 @dataclass
-class Joined:
+class Compound:
     """Conditions joined by AND or OR, or one under NOT."""
     by: str
-    members: list[Test | Joined]
+    members: list[Test | Compound]
     start: int
     end: int
 
@@ -95,14 +95,14 @@ class Query:
     """
     tokens: list[Token]
     entries: list[Entry] = field(default_factory=list)
-    conditions: list[Test | Joined] = field(default_factory=list)
+    conditions: list[Test | Compound] = field(default_factory=list)
     references: list[Reference] = field(default_factory=list)
     tests: list[Test] = field(default_factory=list)
     literals: list[Literal] = field(default_factory=list)
     wrong: int | None = None
     tested: tuple[str, ...] = ()
 
-    def conjuncts(self) -> list[Joined | Test]:
+    def conjuncts(self) -> list[Compound | Test]:
         return [member for condition in self.conditions for member in members(condition)]
 
 
@@ -162,26 +162,26 @@ class QueryReader(Reader):
         table = self.take_name("a table")
         self.query.entries.append(Entry(table, self.second_name("an alias"), first))
 
-    def condition(self) -> Joined | Test:
+    def condition(self) -> Compound | Test:
         return self.joined("OR", lambda: self.joined("AND", self.factor))
 
-    def joined(self, by: str, rule: Callable[[], Joined | Test]) -> Joined | Test:
+    def joined(self, by: str, rule: Callable[[], Compound | Test]) -> Compound | Test:
         found = self.many(rule, by)
-        return found[0] if len(found) == 1 else Joined(by, found, found[0].start, found[-1].end)
+        return found[0] if len(found) == 1 else Compound(by, found, found[0].start, found[-1].end)
 
-    def factor(self) -> Joined | Test:
+    def factor(self) -> Compound | Test:
         word = self.maybe("NOT")
         found = self.test_or_condition()
-        return Joined("NOT", [found], word.start, found.end) if word else found
+        return Compound("NOT", [found], word.start, found.end) if word else found
 
-    def test_or_condition(self) -> Joined | Test:
+    def test_or_condition(self) -> Compound | Test:
         if not self.has("("):
             return self.predicate()
         start = self.next().start
         found = self.condition()
         end = self.take(")").end
         # AND, OR and NOT keep their parentheses, so that their text alone is a condition.
-        return Joined(found.by, found.members, start, end) if isinstance(found, Joined) else found
+        return Compound(found.by, found.members, start, end) if isinstance(found, Compound) else found
 
     def predicate(self) -> Test:
         left = self.operand()
@@ -217,16 +217,16 @@ class QueryReader(Reader):
         return self.wrong()
 
 
-def members(condition: Joined | Test) -> list[Joined | Test]:
+def members(condition: Compound | Test) -> list[Compound | Test]:
     """The conditions that AND joins in this one, also within parentheses; the condition itself if it is no AND."""
-    if isinstance(condition, Joined) and condition.by == "AND":
+    if isinstance(condition, Compound) and condition.by == "AND":
         return [found for member in condition.members for found in members(member)]
     return [condition]
 
 
-def references_of(condition: Joined | Test) -> list[Reference]:
+def references_of(condition: Compound | Test) -> list[Reference]:
     """The references in a condition."""
-    if isinstance(condition, Joined):
+    if isinstance(condition, Compound):
         return [found for member in condition.members for found in references_of(member)]
     return [operand for operand in condition.operands if isinstance(operand, Reference)]
 
@@ -263,12 +263,12 @@ def meant(query: Query, reference: Reference, schema: Schema) -> tuple[Entry, Ta
     return found[0] if len(found) == 1 else None
 
 
-def found_of(query: Query, reference: Reference, schema: Schema) -> tuple[Entry, Table, Column]:
+def resolved(query: Query, reference: Reference, schema: Schema) -> tuple[Entry, Table, Column]:
     """The same of a reference that the program has resolved, so that there is one meaning."""
     return visible(query, reference, schema)[0]
 
 
-def equality(query: Query, condition: Joined | Test, schema: Schema) -> tuple[int, int] | None:
+def equality(query: Query, condition: Compound | Test, schema: Schema) -> tuple[int, int] | None:
     """The numbers of the two entries whose columns the condition says are equal, or nothing if it is no equality."""
     if not isinstance(condition, Test) or condition.operator != "=":
         return None
@@ -282,7 +282,7 @@ def number_of_entry(query: Query, entry: Entry) -> int:
     return next(i for i, one in enumerate(query.entries) if one is entry)
 
 
-def groups(query: Query, schema: Schema) -> list[list[int]]:
+def components(query: Query, schema: Schema) -> list[list[int]]:
     """The connected components of the join graph, each as the numbers of its entries."""
     found = [[i] for i in range(len(query.entries))]
     for condition in query.conjuncts():

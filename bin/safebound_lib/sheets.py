@@ -9,7 +9,7 @@ from typing import Optional
 
 from safebound.sql_texts import LEAST_NUMBER, MOST_NUMBER, MOST_TABLE_BYTES, folded, written_name
 
-from .convert import SEPARATORS, encoding_of, packed
+from .convert import SEPARATORS, encoding_of, not_text_message
 from .decimals import of_decimals
 from .explain.tables import header_differs, closed_late, number_expected, quoted as marked
 from .near import listed
@@ -56,13 +56,15 @@ class Column:
 
     @property
     def odd(self) -> Optional[str]:
-        """The first value that makes a text of a column of numbers. One with a leading zero is none: it is meant."""
+        """In a column of numbers with a few other values: the first of these. A number with a leading zero isn't one of
+    them: a column of such numbers is meant as texts.
+    """
         found = [value for value in self.values if value and not value.isdigit() and not NUMBER.fullmatch(value)]
         return found[0] if found and few(len(found), len(self.values)) else None
 
     @property
     def over_lines(self) -> Optional[str]:
-        """The first value that holds line ends and commas, as one does whose quote takes in rows."""
+        """The first value with line ends and commas: its closing quote may be missing, so that it takes in rows."""
         return next((value for value in self.values if "\n" in value and "," in value), None)
 
 
@@ -117,7 +119,7 @@ def sheet_of(file: str, word: str) -> Sheet:
 
 
 def of_values(column: Column) -> list[str]:
-    """Sentences on values that make a column another one than was meant."""
+    """Sentences on values for which a column gets another type than was probably meant."""
     says, odd, long = [], column.odd, column.over_lines
     if odd is not None:
         says.append(
@@ -199,8 +201,8 @@ def bytes_of(file: str, word: str) -> bytes:
         raise NoTable(
             "It is longer than 64 MiB, which is the most for a table. Leave out columns and rows that no query needs."
         )
-    if packed(data):
-        raise NoTable(f"It {packed(data)}.")
+    if not_text_message(data):
+        raise NoTable(f"It {not_text_message(data)}.")
     if encoding_of(data) not in ("utf-8", "utf-8-sig"):
         first = first_strange(data)
         raise NoTable(f"It isn't in UTF-8{first}. This writes it so:\n    safebound convert {plain(word)}")
@@ -243,7 +245,7 @@ def refuse_header(word: str, header: list[str]) -> None:
 
 
 def refuse_title(data: bytes, header: list[str]) -> None:
-    """A title above the names: one field of the first line is filled, and all of the second, none by a value."""
+    """Refuses a title above the header: one field of the first line is filled, and the second line looks like names."""
     line, second = next(records(data, 1), NO_RECORD)
     named = sum(name != "" for name in header)
     if len(header) == 1 < len(second) and (line > 2 or " " in header[0]) and is_header(second):

@@ -54,13 +54,14 @@ class Shown:
         return f"entry-{self.plan.entries.index(alias)}"
 
     def joined_by(self, at: int) -> list[str]:
-        """The conditions that hold from this level or inner node on; where they are known, also that there is none."""
+        """The conditions that hold from this level or inner node on; a sentence if it is known that there are none."""
         found = (self.at or {}).get(self.number(at), [])
         is_join = self.plan.is_tree or at > 0
         return found or [NO_CONDITION] * (is_join and self.at is not None)
 
     def said(self) -> list[tuple[str, str, str]]:
-        """The lines below the picture: of which step or entry, what it is of it, and the condition."""
+        """The lines below the picture: a step or entry, whether a condition is its own or joins it, and the condition.
+        """
         if self.plan.is_tree:
             lines = [
                 (f"{number}  {alias}", "its own", words) for number, alias in enumerate(self.plan.entries)

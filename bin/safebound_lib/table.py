@@ -8,7 +8,7 @@ MOST_BUDGET, MOST_BUDGET_OF_A_TREE, USUAL_BUDGET = 20_000_000, 4_000_000, 1_000_
 
 @dataclass(frozen=True)
 class Option:
-    """A word with a value (`value` is its name in the help), or a flag. The program gets no own options."""
+    """A word with a value (`value` is its name in the help), or a flag. Own options aren't handed on to the program."""
     word: str
     value: str | None
     help: str
@@ -235,7 +235,7 @@ def valued() -> set[str]:
 
 
 def numbered() -> set[str]:
-    """Those of the options whose value is a number."""
+    """The words of those options whose value is a number."""
     return {o.word for command in COMMANDS for o in program_options(command) if o.least is not None}
 
 

@@ -16,7 +16,7 @@ CONTROL = re.compile(rb"[\x00-\x1f]")
 
 @dataclass(frozen=True)
 class Token:
-    """A token, or the place where the text goes on with none (`kind` is then "bad")."""
+    """A token, or a place where no token begins (`kind` is then "bad")."""
     kind: str
     start: int
     end: int
@@ -24,7 +24,7 @@ class Token:
 
     @property
     def word(self) -> str:
-        """The word in upper case, and nothing of another token."""
+        """The word in upper case; "" for a token that isn't a word."""
         return self.source.upper() if self.kind == "word" else ""
 
     @property

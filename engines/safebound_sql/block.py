@@ -1,8 +1,8 @@
 """A block: what one SELECT of several means.
 
 `reorderable` are the entries that may be joined in any order; the others follow as they were written. `left_over` are
-conditions as text, each with the entries behind which it is tested, or None where it is tested at the end. `not_used`
-are those that no bound keeps to. `order` is that of all entries, once the block is planned.
+conditions as text, each with the entries after which it is tested, or None if it is tested at the end. `not_used` are
+those that no bound takes into account. `order` is the order of all entries, once the block is planned.
 """
 
 from __future__ import annotations
@@ -71,8 +71,8 @@ class Block:
         return self.plans.text_of(piece)
 
     def _condition(self, piece: Tokens, of_on: bool = False) -> None:
-        """A condition of WHERE or of an inner join's ON. Where rows may come without the entries joined first, that
-        of WHERE is tested at the end, and that of ON before."""
+        """A condition of WHERE or of an inner join's ON. With RIGHT or FULL JOIN rows may lack the entries that are
+        joined first: then a condition of WHERE is tested at the end, and one of ON after those entries."""
         self._check(piece)
         entries = self._entries(piece)
         outer = self.names_outside(piece)
@@ -105,7 +105,7 @@ class Block:
             self.names.check_outputs_names(piece, self.outputs)
 
     def _edge(self, piece: Tokens, of: int | None = None) -> bool:
-        """Takes an equality for the bounds, where they can use it, and where one of its columns is of that entry."""
+        """Takes an equality for the bounds, if they can use it and if one of its columns is of the entry `of`."""
         sides = self.names.equated(piece)
         return sides is not None and (of is None or of in (sides[0].entry, sides[1].entry)) and (
             self.query.take_equality(*sides) is None

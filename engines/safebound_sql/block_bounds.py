@@ -1,7 +1,7 @@
 """The plan of a block: its entries are counted, its joins put in order, and each level bounded.
 
-Rows behind outer joins are of several kinds, by the entries that found a partner: each kind is a join of these
-entries, so that their bounds are added up.
+After outer joins rows are of several kinds. A kind is a set of entries: those that have a row there, while all others
+are NULL. Its rows are at most those of the join of these entries, and the bounds of all kinds are added up.
 """
 
 from __future__ import annotations
@@ -80,7 +80,7 @@ class Bounding:
         return levels
 
     def _counted(self) -> Counts:
-        """The rows of each entry and the degrees of its joined columns; of a query in FROM what its own plan says."""
+        """The rows of each entry and the degrees of its joined columns; for a query in FROM, what its own plan says."""
         query, given = self.query, self.block.names.given
         own = [entry for entry in query.entries if entry.number not in given]
         asked = {entry.name: query.joined(entry.number) for entry in own}
@@ -112,7 +112,7 @@ class Bounding:
         return order + [step.source for step in self.block.steps if step.source not in reorderable]
 
     def _joined(self, kinds: list[frozenset[int]], number: int, first: bool) -> tuple[list[frozenset[int]], str]:
-        """Of which entries the rows are behind this one, and how it is joined."""
+        """The kinds of rows after this entry is joined, and the words that join it."""
         kind = self.block.steps[number].kind
         if first:
             return [frozenset([number])], ""

@@ -1,8 +1,8 @@
 """Plans of queries with several blocks, and of outer joins: each block is counted, planned and bounded by itself.
 
-A block's rows are a bound for the block above it, which counts nothing of them: a query in FROM has at most as many
-rows as its joins, and of one column that it groups by each value once. Entries are counted under own conditions
-alone.
+The block above takes the bound of a query in FROM, and counts nothing of it: it has at most as many rows as its joins,
+and if it groups by one column, each value of this column stands there once. Entries are counted under their own
+conditions alone.
 """
 
 from __future__ import annotations
@@ -36,7 +36,7 @@ class Planner:
         self.at = {token.at: number for number, token in enumerate(self.pieces)}
         self.query = Finder(text, self.pieces).found()
         refuse_volatile(Statement(text), self.pieces, engine)
-        engine.catalog.takes(text.rstrip().rstrip(";"))
+        engine.catalog.check(text.rstrip().rstrip(";"))
         self.blocks: dict[int, Block] = {}
         self.plans: dict[int, BlockPlan] = {}
         self.visible: dict[int, list[Part]] = {}
@@ -135,7 +135,7 @@ class Planner:
                 pieces = list(self.pieces[core.start : core.end])
                 statement = read(self.text, pieces, self.dialect, in_blocks=True)
             except Refused:
-                # It can't be told what it has: whatever is written with a table may be of it.
+                # Its entries and columns aren't known, so any name in it may be one of them.
                 names = [token for token in self.pieces[core.start : core.end] if token.names]
                 keys = {self.dialect.key_of(token) for token in names}
                 return aliases | keys, columns | keys

@@ -21,12 +21,12 @@ def most_rows(statement: Statement, joined: int) -> int | None:
         return limited(joined, above)
     if _aggregates(outputs) or (above and above[0].says("HAVING")):
         return 1
-    # A function that isn't known to be an aggregate may be one, which makes a row of none.
+    # Any function may be an aggregate that isn't known here, and an aggregate makes one row even of no rows.
     return limited(max(joined, int(any(token.says("(") for token in outputs))), above)
 
 
 def _aggregates(outputs: Tokens) -> bool:
-    """Whether one of the outputs is made of all rows."""
+    """Whether one of the outputs is an aggregate of all rows."""
     inside = {at for start, end in subqueries(outputs) for at in range(start, end)}
     for at, token in enumerate(outputs[:-1]):
         if at in inside or not (token.says(*AGGREGATES) and outputs[at + 1].says("(")):
@@ -53,7 +53,7 @@ def limited(rows: int, above: Tokens) -> int:
 
 
 def grouped(above: Tokens) -> Tokens | None:
-    """What GROUP BY groups by, where it is one thing alone."""
+    """The one expression that GROUP BY has; None if it has several."""
     piece: Tokens = []
     for token in above[2:]:
         if token.says("HAVING", "WINDOW", "ORDER", "LIMIT", "OFFSET", "FETCH"):

@@ -15,7 +15,7 @@ BEGIN = ("SELECT", "WITH", "VALUES")
 
 @dataclass
 class Core:
-    """A SELECT: its tokens from which to which, what it is called, and the queries within it."""
+    """A SELECT: where its tokens begin and end, what messages call it, and the queries within it."""
 
     start: int
     end: int
@@ -35,7 +35,7 @@ class Part:
 
 @dataclass
 class Query:
-    """A query with its WITH, of one SELECT or of several together; `operators` stand between them."""
+    """A query with its WITH: one SELECT, or several with `operators` such as UNION between them."""
 
     start: int
     end: int

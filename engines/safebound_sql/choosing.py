@@ -1,7 +1,7 @@
-"""What may choose other rows, or put them in another order, at each call: it is counted in one statement and joined
-in another.
+"""Finds what may choose other rows, or another order of rows, each time it runs. It can't be bounded, since rows are
+counted in one statement and joined in another.
 
-Only what stands below the join matters, in subqueries and views: there the rows have to be those that were counted.
+This matters below the join alone, in subqueries and views: their rows have to be those that were counted.
 """
 
 from __future__ import annotations
@@ -13,7 +13,7 @@ from .reading import Tokens
 from .tokens import Token, closing, part_of_name, written
 
 WORDS = ("LIMIT", "OFFSET", "FETCH", "TABLESAMPLE")
-# Alike for rows that tie, as long as no frame counts rows.
+# Window functions that have one value for all rows that tie, unless a frame counts rows.
 WINDOWS_WITH_TIES = (
     "RANK", "DENSE_RANK", "PERCENT_RANK", "CUME_DIST", "COUNT", "MIN", "MAX", "SUM", "AVG", "TOTAL", "BOOL_AND",
     "BOOL_OR", "EVERY",
@@ -27,7 +27,7 @@ BEHIND_GROUPS = ("HAVING", "WINDOW", "ORDER", "LIMIT", "UNION", "INTERSECT", "EX
 
 
 def choosing(pieces: Tokens, dialect: Dialect) -> Iterator[tuple[Token, str]]:
-    """Where and by what words a query chooses some of its rows. In SQLite it may by a column beside GROUP BY too."""
+    """Where and by what words a query chooses some of its rows. In SQLite a column beside GROUP BY chooses too."""
     for at, token in enumerate(pieces):
         if token.kind != "word" or part_of_name(pieces, at):
             continue
@@ -57,7 +57,7 @@ def _chosen_by(pieces: Tokens, at: int, plain_words: tuple[str, ...]) -> str | N
 
 
 def _in_whole_order(pieces: Tokens, start: int) -> bool:
-    """Whether an aggregate's values are put in the order of themselves."""
+    """Whether an aggregate puts its values in order by the values themselves."""
     inner = pieces[start + 1 : closing(pieces, start)]
     at = next((at for at, token in enumerate(inner) if token.says("ORDER")), None)
     if at is None:

@@ -144,7 +144,7 @@ def opened(db: str, timeout: int | None) -> Engine:
 
 
 def text_of(file: str) -> str:
-    """A file's characters as they are: a line's end may stand within a text."""
+    """A file's characters. Line ends stay as they are, since one may stand within a text."""
     try:
         if file == "-":
             return sys.stdin.buffer.read().decode("utf-8-sig")
@@ -280,7 +280,7 @@ def main(arguments: Sequence[str] | None = None) -> int:
     except Fault as fault:
         print(f"safebound-sql: {fault.line()}", file=sys.stderr)
         return fault.status
-    except OSError as error:  # files of other names are faults
+    except OSError as error:  # of standard output: those of named files are faults
         with contextlib.suppress(OSError):
             print(f"safebound-sql: file: standard output: {error.strerror}", file=sys.stderr)
         os.dup2(os.open(os.devnull, os.O_WRONLY), 1)

@@ -72,8 +72,8 @@ class Choices:
         self.made: dict[Factor, Made] = {}
 
     def statement(self, levels: Iterable[tuple[int, Sequence[int]]]) -> str:
-        """For each level with its entries one row: its number and how many choices there are. There is none where
-        too many pairs would meet."""
+        """The statement has one row for each level: its number, and how many choices there are of its entries. A level
+        for which too many pairs would meet has no row."""
         selects = [f"SELECT {number} AS level, {self._total(entries)}" for number, entries in levels]
         return self.dialect.with_parts(self.texts, "\nUNION ALL ".join(selects))
 
@@ -83,8 +83,8 @@ class Choices:
         return f"{self.number} FROM {made.name}{where(self._few(made.pairs))}"
 
     def _few(self, pairs: Iterable[str]) -> list[str]:
-        """That each of these numbers of pairs is within the limit. PostgreSQL tests it once and first, and doesn't
-        compute a part that nobody reads."""
+        """The conditions that each of these numbers of pairs is within the limit. PostgreSQL tests it once and first,
+        and doesn't compute a part that nobody reads."""
         return [f"(SELECT {self.number} FROM {name}) <= {self.most_pairs}" for name in pairs]
 
     def _factor(self, factor: Factor, by: dict[Factor, Join]) -> Made:
@@ -173,7 +173,7 @@ class Lowering:
         every = conjuncts_of(plan.query, engine.catalog)
         self.equalities = [conjunct for conjunct in every if isinstance(conjunct.what, Equality)]
         self.others = [conjunct for conjunct in every if not isinstance(conjunct.what, Equality)]
-        # Otherwise nested loops take no time.
+        # Whether nested loops could take long.
         self.large = prod(sorted(plan.counts.rows.values())[-2:]) > most_pairs
 
     def lower(self) -> None:

@@ -36,11 +36,11 @@ def prefix_for(texts: Iterable[str]) -> str:
 
 
 def counting(query: Query, dialect: Dialect, prefix: str, reduce: bool, known: Collection[int] = ()) -> str:
-    """The statement. Its rows are (entry, column, degree, keys): so many values of the column stand in `degree` rows
+    """The statement. Its rows are (entry, column, degree, keys): `keys` values of the column stand in `degree` rows
     each.
 
-    Degree 0 is that of rows without a value. A row with the column '' tells how many rows the entry has. Of entries
-    whose degrees are known only that is asked.
+    Degree 0 is that of rows without a value. A row with the column '' tells how many rows the entry has. Entries in
+    `known`, whose degrees are known already, are asked for this number alone.
     """
     columns = {entry.number: [] if entry.number in known else query.joined(entry.number) for entry in query.entries}
     texts: list[tuple[str, str]] = []

@@ -15,9 +15,9 @@ class Dialect:
     """What a query is read and written by.
 
     `comma_binds_less` says that a comma of FROM binds less than JOIN. `plain_words` are keywords elsewhere, and names
-    to this engine. `reserved` words are columns in quotes alone. `settings` keep the joins of a statement in their
-    order. Some engines compute a part of WITH anew wherever it is named: `most_parts_of_a_part` and `most_scans` say
-    how much of that is taken. `counts_exactly` says that numbers may be of any size.
+    to this engine. A `reserved` word is a column only in quotes. `settings` keep the joins of a statement in their
+    order. Some engines compute a part of WITH anew wherever it is named: `most_parts_of_a_part` and `most_scans`
+    limit this. `counts_exactly` says that numbers may be of any size.
     """
 
     name: str

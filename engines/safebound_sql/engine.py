@@ -33,11 +33,11 @@ class Catalog(ABC):
         two it is, and its definition as SQL."""
 
     @abstractmethod
-    def takes(self, sql: str) -> None:
+    def check(self, sql: str) -> None:
         """Raises EngineFault where the engine refuses the query."""
 
     @abstractmethod
-    def exports(self, column: Column) -> bool:
+    def can_export(self, column: Column) -> bool:
         """Whether the column can be written to a table file: its values are whole numbers, or texts that are equal only
         if their characters are."""
 
@@ -50,14 +50,14 @@ class Catalog(ABC):
         """Whether the engine orders the column's texts by code points."""
 
     def same_when_equal(self, column: Column) -> bool:
-        """Whether every function treats two values alike that GROUP BY puts into one group. 1.0 and 1.00 are one group
-        of a numeric column, and their texts differ."""
+        """Whether every function gives one result for all values that GROUP BY puts into one group. In a numeric column
+        it doesn't: 1.0 and 1.00 are one group, and their texts differ."""
         return False
 
     def complaint(self, sql: str) -> str | None:
         """What the engine says is wrong with the query, or None where it says nothing."""
         try:
-            self.takes(sql)
+            self.check(sql)
         except EngineFault as fault:
             return str(fault)
         return None

@@ -170,7 +170,7 @@ class Export:
         if len({folded(column.name) for column in columns}) < len(columns):
             raise Refused(f"columns of {name} differ in upper and lower case alone, which safebound_cli takes for one")
         for column in columns:
-            if not self.catalog.exports(column):
+            if not self.catalog.can_export(column):
                 raise Refused(f"{name}.{column.name}: safebound_cli has no {column.type}")
         met = set.intersection(*(set(self.query.joined(entry.number)) for entry in entries))
         values = ", ".join(self.dialect.quote(column.name) for column in columns)

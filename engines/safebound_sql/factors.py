@@ -39,8 +39,8 @@ class Join(NamedTuple):
 
     @property
     def few(self) -> bool:
-        """Whether each group of one side meets at most one of the other, all of whose open columns are compared by
-        equalities. Then no more pairs meet than that side has groups."""
+        """Whether equalities compare all open columns of one side. Then each group of the other side meets at most one
+        group, so no more pairs meet than the other side has groups."""
         joined = [{pair[side] for pair in self.equalities} for side in (0, 1)]
         return joined[0].issuperset(self.left.open) or joined[1].issuperset(self.right.open)
 
@@ -74,8 +74,9 @@ def _factor(entries: frozenset[int], left: list[Conjunct]) -> Factor:
 
 
 def _next(factors: list[Factor], left: list[Conjunct]) -> Join:
-    """Joins the first two factors of which one has conditions with the other alone: best where each group meets one.
-    Where there are none, it joins the first two that an equality connects, or else any condition."""
+    """Joins two factors: if there are any, the first two of which one has conditions with the other alone, and among
+    these first of all two whose join is `few`. Otherwise it joins the first two that an equality connects, or else any
+    condition."""
 
     def ends_in(pair: Pair) -> bool:
         return all(c.entries <= pair[0].entries | pair[1].entries for c in left if c.entries & pair[0].entries)

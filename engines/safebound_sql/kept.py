@@ -175,7 +175,7 @@ def _appended(old: Runs, new: Runs) -> Runs:
 
 
 def _table(about: Dict[str, Any]) -> KeptTable:
-    """A table of a file, looked through."""
+    """A table of a file, once it is checked."""
     runs = {column: [(int(degree), int(keys)) for degree, keys in found] for column, found in about["runs"].items()}
     table = KeptTable(str(about["name"]), str(about["time"]), int(about["rows"]), dict(about["types"]), runs)
     if set(table.types) != set(runs) or any(_wrong(found, table.rows) for found in runs.values()):

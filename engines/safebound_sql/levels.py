@@ -26,7 +26,7 @@ Lists = Dict[Side, safebound.Runs]
 class Level:
     """A part of the plan: the entries that are joined in it, its bound, and what the engine expects, where it says.
 
-    `counted` says by what the bound was counted, where it was.
+    `counted` says by which conditions the bound was counted, if it was.
     """
 
     shape: Shape

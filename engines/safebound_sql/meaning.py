@@ -12,7 +12,7 @@ from .reading import Statement, Tokens, at_commas, read
 from .tokens import Token, closing, part_of_name, tokens, written
 
 
-# Types that PostgreSQL groups by nothing.
+# Types by which PostgreSQL can't group.
 UNGROUPED = ("json", "xml", "point", "line", "lseg", "box", "path", "polygon", "circle")
 
 
@@ -30,8 +30,8 @@ def refuse_volatile(statement: Statement, pieces: Tokens, engine: Engine) -> Non
 
 
 def _calls(pieces: Tokens, engine: Engine) -> dict[str, Token]:
-    """The functions and operators, as the engine looks them up. One of a named schema has a dot before it; two dots are
-    before what may be a function of a row, since it is written as a column."""
+    """The functions and operators, as the engine looks them up. A dot stands before one that is written with a schema,
+    and two dots before a column that may be a function of a row instead."""
     found: dict[str, Token] = {}
     for at, token in enumerate(pieces):
         dot = "." if at and pieces[at - 1].says(".") else ""
@@ -57,7 +57,7 @@ def _tables(pieces: Tokens) -> dict[str, Token]:
 
 
 def _volatile_views(names: set[str], engine: Engine) -> Iterator[tuple[str, str]]:
-    """Tables and views that have, themselves or by what is below them, what may answer anew; and what it is."""
+    """The names of tables and views that use something volatile, in their own text or below; and what it is."""
     above = {name: name for name in names}
     todo = set(names)
     while todo:
@@ -97,7 +97,7 @@ class Meaning:
         refuse_volatile(self.statement, pieces, engine)
         self.names = Names(self.statement, engine)
         alone = text.rstrip().rstrip(";")
-        engine.catalog.takes(alone)
+        engine.catalog.check(alone)
         self.outputs_names = self._names_of_outputs(alone)
         self.query = Query(self.names.entries)
         self._understand(pieces)
@@ -138,8 +138,8 @@ class Meaning:
         return {self.dialect.key_of(alias) for output in self.statement.outputs if (alias := alias_of(output))}
 
     def _with_columns_of_keys(self, above: Tokens) -> Tokens:
-        """Where a primary key is grouped by, its table's other columns that are named are too: a part has no keys to
-        tell so."""
+        """If GROUP BY has a primary key, adds the other columns of its table that are named. PostgreSQL allows them
+        beside the key of a table, but a part of WITH has no key."""
         groups = _groups(above)
         if groups is None or not any(entry.about.key for entry in self.query.entries):
             return above
@@ -183,7 +183,8 @@ class Meaning:
         return self.names.side(output[:end])
 
     def _keep_using(self) -> None:
-        """A name that USING merged is one column's, wherever it stands above the join."""
+        """Sees to it that a name that USING merged still means the merged column above the join: by FROM as it was
+        written, or by other names for the columns that were merged into it."""
         names, query = self.names, self.query
         if not names.usings:
             return

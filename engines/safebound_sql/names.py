@@ -14,7 +14,7 @@ from .query import MOST_ENTRIES, Entry, Named, Reference, Table, Text
 from .reading import Source, Statement, Tokens
 from .tokens import Token, closing, gap_between, part_of_name, unquoted, written
 
-# Behind these words, and before those, no word is an alias of an output.
+# After one of these words the last word of an output isn't its alias; nor is it where it is one of ENDS_OF_OUTPUTS.
 NO_OPERAND = (
     "IS", "NOT", "AND", "OR", "LIKE", "ILIKE", "IN", "BETWEEN", "THEN", "ELSE", "WHEN", "CASE", "DISTINCT", "FROM",
     "ESCAPE", "COLLATE", "GLOB", "REGEXP", "MATCH", "SIMILAR", "TO", "ZONE", "OVER", "SYMMETRIC",
@@ -296,7 +296,7 @@ class Names:
         return f"{self.entries[named.entry].alias}.{self.dialect.quote(named.column.name)}"
 
     def named_bare(self, pieces: list[Tokens]) -> set[str]:
-        """The keys of the merged columns that the tokens name without a table, and those that they name with one."""
+        """The keys of the merged columns that the tokens name without a table."""
         bare = [piece[place.at] for piece in pieces for place in self.places(piece) if place.size == 1]
         return set(map(self.dialect.key_of, bare)) & set(self.merged)
 

@@ -23,8 +23,9 @@ try:
 except ImportError:
     psycopg = None  # type: ignore[assignment]
 
-# Columns of one base type and collation meet as they are grouped: a type of PostgreSQL's own that can be sorted, or
-# an enum, with no = of a user's own for it. A column that may not be read is named by no query that may be run.
+# A column's kind is its base type and its collation: = compares columns of one kind as GROUP BY does. It has a kind if
+# the type is an enum, or PostgreSQL's own and can be sorted, and if no user has made an = for it. Columns that the user
+# may not read are left out, since no query with them could run.
 COLUMNS = """
 SELECT a.attname, format_type(a.atttypid, a.atttypmod),
        CASE WHEN ((t.typnamespace = 'pg_catalog'::regnamespace AND EXISTS (
@@ -44,8 +45,9 @@ WHERE a.attrelid = %s AND a.attnum > 0 AND NOT a.attisdropped AND has_column_pri
 ORDER BY a.attnum
 """
 
-# Functions and operators by their names: bare ones that are visible, those of a schema, and those of a row, which are
-# written as columns. Some call themselves STABLE and tell of the session or of what goes on now.
+# Volatile functions and operators among some names: visible ones by bare names, any by names with a schema, and
+# functions of a row, which may be written as columns. Some call themselves STABLE, but depend on the session or on what
+# goes on at the moment; these are found too.
 VOLATILE = """
 WITH named AS (
     SELECT proname AS name, p.* FROM pg_proc p
@@ -96,9 +98,9 @@ SELECT schema FROM path WHERE at < (SELECT at FROM path WHERE schema = 'pg_catal
 ORDER BY at
 """
 
-# The leaves of a partitioned table of which at least one is a foreign table, or a foreign table alone. A leaf is
-# asked as the table would be: whoever may read the table may read it, and no policy hides rows of it. The column is
-# that of which PostgreSQL sends a whole GROUP BY to each leaf.
+# The leaves of a partitioned table, at least one of which is a foreign table; or one foreign table. There are none if
+# asking them could answer other rows than the table: if the user may not read one, or a row policy hides rows. The
+# column is the partition key by which PostgreSQL sends each leaf a whole GROUP BY, if it does.
 SPREAD = """
 WITH leaves AS (
     SELECT relid, level FROM pg_partition_tree(%(table)s) WHERE isleaf
@@ -142,8 +144,9 @@ FROM pg_class c JOIN pg_namespace n ON n.oid = relnamespace WHERE c.oid = to_reg
 """
 
 
-# PostgreSQL expects ten values of an array that goes along, and would join by nested loops what it expects few rows of.
-# Where there is no other way it still does, at a cost for which it would compile the statement.
+# PostgreSQL expects ten values of an array that is sent along. So it expects few rows, and would join them by nested
+# loops. Without nested loops it still uses them where there is no other way, and gives them so high a cost that it
+# would compile the statement.
 NO_NESTED_LOOPS, NO_COMPILING = "enable_nestloop = off", "jit = off"
 FOR_SEVERAL_SERVERS = (NO_NESTED_LOOPS, NO_COMPILING)
 IN_ORDER = ("join_collapse_limit = 1",)
@@ -161,12 +164,13 @@ class PostgresDialect(Dialect):
         return self.settings + tuple(f"SET {setting}" for setting in more)
 
     def reads_clock(self, pieces: list[Token], at: int, below: bool = False) -> bool:
-        """now() is one time for the whole transaction, and this function calls itself STABLE too."""
+        """now() is one time for the whole transaction. statement_timestamp() isn't, though it calls itself STABLE
+        too."""
         return pieces[at].names and self.key_of(pieces[at]) == "statement_timestamp"
 
     def remote_in(self, value: str, column: Column, rows: str) -> str:
-        """postgres_fdw sends no conversion of an array, and texts of any length are compared as texts without a
-        length."""
+        """Values of VARCHAR are cast to TEXT one by one: they are compared as TEXT, and postgres_fdw doesn't send a
+        cast of the whole array."""
         name = self.quote(column.name)
         values = f"CAST({name} AS TEXT)" if column.type.startswith("character varying") else name
         return f"{value} = ANY(ARRAY(SELECT {values} FROM {rows}))"
@@ -204,7 +208,7 @@ class PostgresConnection(Connection):
             return self.connection.execute(sql, given).fetchall()
 
     def counted(self, sql: str, large: bool) -> list[Row]:
-        """Of large parts each is hashed, for however few rows PostgreSQL takes it. Nothing is compiled."""
+        """Large parts are joined by hashing, even if PostgreSQL expects few rows of them. Nothing is compiled."""
         with told(), self.connection.transaction(force_rollback=True):
             self._set((NO_NESTED_LOOPS, NO_COMPILING) if large else (NO_COMPILING,))
             return self.connection.execute(sql).fetchall()
@@ -229,7 +233,7 @@ class PostgresConnection(Connection):
         self._set(IN_ORDER)
 
     def _set(self, settings: tuple[str, ...]) -> None:
-        """Until the transaction ends."""
+        """Makes settings that last until the transaction ends."""
         with told():
             self.connection.execute("; ".join(f"SET LOCAL {setting}" for setting in settings))
 
@@ -314,7 +318,7 @@ class PostgresCatalog(Catalog):
         why = "whose rows may be others in each statement; make a table of it, and name that"
         return {name: f"it has rows of {wrapper}, {why}" for name, wrapper in found}
 
-    def takes(self, sql: str) -> None:
+    def check(self, sql: str) -> None:
         self._explain(sql)
 
     def expected(self, sql: str) -> int | None:
@@ -332,7 +336,7 @@ class PostgresCatalog(Catalog):
         number = int(str(column.kind).split()[0])
         return number in SAME_WHEN_EQUAL or column.type.startswith(("numeric(", "character("))
 
-    def exports(self, column: Column) -> bool:
+    def can_export(self, column: Column) -> bool:
         return self.whole_numbers(column) or (self._is_text(column) and not self._folds(column))
 
     def whole_numbers(self, column: Column) -> bool:
@@ -365,7 +369,7 @@ def _collation(column: Column) -> int:
 
 
 def opened(url: str, timeout: int | None) -> Engine:
-    """A server whose texts and names are read as they are here."""
+    """Connects to a server. Refuses one that reads texts or names in another way than this package."""
     connection = PostgresConnection(url, timeout)
     try:
         _refuse_other_readings(connection)

@@ -23,25 +23,25 @@ class Progress:
         if not self.shown:
             yield lambda: None
             return
-        over = threading.Event()
-        teller = threading.Thread(target=self._tell, args=(what, over), daemon=True)
-        teller.start()
+        finished = threading.Event()
+        drawer = threading.Thread(target=self._draw, args=(what, finished), daemon=True)
+        drawer.start()
 
         def end() -> None:
-            over.set()
-            teller.join()
+            finished.set()
+            drawer.join()
 
         try:
             yield end
         finally:
             end()
 
-    def _tell(self, what: str, over: threading.Event) -> None:
+    def _draw(self, what: str, finished: threading.Event) -> None:
         start = time.monotonic()
         while True:
             self.stream.write(f"\r\x1b[K{what}: {time.monotonic() - start:.0f} s")
             self.stream.flush()
-            if over.wait(0.5):
+            if finished.wait(0.5):
                 break
         self.stream.write("\r\x1b[K")
         self.stream.flush()

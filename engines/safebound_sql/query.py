@@ -21,8 +21,8 @@ class Column(NamedTuple):
 
 
 class Spread(NamedTuple):
-    """Where the rows of a table are that lie on other servers: its parts, as SQL names them, and the column of which
-    each value is in one part alone, if the engine groups by it part by part."""
+    """Where the rows of a table lie, if they are on other servers: its parts, as SQL names them. `by` is a column of
+    which each value is in one part alone, if the engine groups by it part by part."""
 
     parts: tuple[str, ...]
     by: str | None
@@ -31,8 +31,8 @@ class Spread(NamedTuple):
 class Table(NamedTuple):
     """A table or view: its columns in declared order, and by the key that the engine finds them by.
 
-    `columns` are those that a star stands for, `key` are those of the primary key. `identity` tells it from all other
-    tables, where that is known: what it is called where, # and what is another number when it was made anew. `spread`
+    `columns` are those that a star stands for, `key` are those of the primary key. `identity`, if it is known, tells it
+    from all other tables: its database and name, then # and a number that changes when the table is made anew. `spread`
     says where its rows are, if they lie on other servers.
     """
 
@@ -101,10 +101,10 @@ class Condition(NamedTuple):
 class Query:
     """A query. `conditions` are those of several entries or none, equalities among them, in the order of the text.
 
-    What stands above the join is as it was written; only a star is the columns that it stands for. `named_above` are
-    the columns that may be named there. Where USING merged columns, `frame` is FROM as it was written with the
-    entries' numbers in their places, or `renamed` has the columns that have to go by other names, since one of them
-    alone is called so.
+    What stands above the join is as it was written, but for a star, which is replaced by its columns. `named_above` are
+    the columns that may be named there. If USING merged columns, a name there has to mean the merged column alone. For
+    some engines `frame` then has FROM as it was written, with the entries' numbers in their places; for others
+    `renamed` has the columns that get other names.
     """
 
     entries: list[Entry]
@@ -120,7 +120,7 @@ class Query:
     needed: set[Named] = field(default_factory=set)
 
     def take_equality(self, one: Named, other: Named) -> str | None:
-        """Takes an equality for the bounds, once. Answers why not, where it is none that they can use."""
+        """Takes an equality for the bounds, once. Answers why not, if they can't use it."""
         if one.column.kind is None or one.column.kind != other.column.kind:
             return f"{one.column.type} and {other.column.type} aren't compared as they are grouped"
         if Equality(one, other) in self.equalities or Equality(other, one) in self.equalities:

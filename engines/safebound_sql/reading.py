@@ -27,7 +27,7 @@ NO_ALIAS = (*IN_FROM, *BEHIND_FROM, "TABLESAMPLE", "INDEXED", "NOT", "INTO")
 
 @dataclass
 class Source:
-    """An entry as FROM has it: the table's name as tokens, and the alias, which is the table's where none is written.
+    """An entry as FROM has it: the table's name as tokens, and the alias, or the table's name if it has none.
 
     Of a query in FROM `table` has its tokens with their parentheses, and `columns` may have its columns' names.
     """
@@ -43,9 +43,9 @@ class Source:
 
 @dataclass
 class Step:
-    """How a source comes to those before it: INNER, LEFT, RIGHT or FULL, and the conditions of its ON.
+    """How a source is joined to those before it: INNER, LEFT, RIGHT or FULL, and the conditions of its ON.
 
-    Those of inner joins are with the statement's, where it can have no other joins.
+    In a statement that may have inner joins alone, these are among the statement's conditions.
     """
 
     kind: str

@@ -22,7 +22,7 @@ DECIMALS = re.compile(r"(?:DECIMAL|NUMERIC|NUMBER|DEC)\((\d+)(?:,(\d+))?\)")
 EQUAL_AS_GROUPED = re.compile(r"DATE|BOOLEAN|BOOL|UUID|CHAR\(\d+\)|(BIG)?NUMERIC|DECIMAL|NUMBER|DATETIME")
 
 
-class Keys(Protocol):
+class NameRules(Protocol):
     """The part of a dialect that reading a schema file needs: how the engine compares names."""
 
     @property
@@ -49,7 +49,7 @@ def kind_of(declared: str) -> Hashable | None:
     return name if EQUAL_AS_GROUPED.fullmatch(name) else None
 
 
-def declared(text: str, dialect: Keys) -> dict[tuple[str, ...], Table]:
+def declared(text: str, dialect: NameRules) -> dict[tuple[str, ...], Table]:
     """The tables that the text declares, by their keys. A table that is declared twice is refused."""
     found: dict[tuple[str, ...], Table] = {}
     for pieces in _statements(tokens(text, dialect.rules)):
@@ -77,7 +77,7 @@ def _statements(pieces: Tokens) -> Iterator[Tokens]:
         yield statement
 
 
-def _table(text: str, pieces: Tokens, dialect: Keys) -> tuple[Tokens, Table]:
+def _table(text: str, pieces: Tokens, dialect: NameRules) -> tuple[Tokens, Table]:
     """The name and the columns of one CREATE TABLE statement. Any other statement is refused."""
     at = 1
     while at < len(pieces) and pieces[at].says(*BEFORE_TABLE):
@@ -106,7 +106,7 @@ def _of_unknown_kinds(table: Table) -> Table:
     return Table(tuple(columns.values()), columns)
 
 
-def _columns(text: str, pieces: Tokens, dialect: Keys) -> Table:
+def _columns(text: str, pieces: Tokens, dialect: NameRules) -> Table:
     columns: dict[str, Column] = {}
     for item in _items(pieces):
         if not item or item[0].says("LIKE"):
@@ -138,7 +138,7 @@ def _items(pieces: Tokens) -> Iterator[Tokens]:
     yield item
 
 
-def _column(text: str, item: Tokens, dialect: Keys) -> Column:
+def _column(text: str, item: Tokens, dialect: NameRules) -> Column:
     """A column. One with a collation of its own has no kind, since it isn't known how its values are grouped."""
     end = next(
         (at for at, token in enumerate(item) if at and token.kind == "word" and token.says(*AFTER_TYPE)), len(item)

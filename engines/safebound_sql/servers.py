@@ -81,7 +81,7 @@ class Limits:
         joined = partners(query)
         for entry, others in steps_elsewhere(query, joined):
             for other in others:
-                # What is left of the other is less than before, so the new condition says all of the old one.
+                # Fewer rows of the other are left than before, so the new condition takes the place of the old one.
                 self.among[entry][other] = self._among(entry, other, joined[entry][other])
 
     @property

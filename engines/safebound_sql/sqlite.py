@@ -39,15 +39,15 @@ class SqliteDialect(Dialect):
         return super().key(name, False)
 
     def reads_clock(self, pieces: list[Token], at: int, below: bool = False) -> bool:
-        """date() and its like, of anything but a literal date. What a column says is looked at where it is known
-        whose it is."""
+        """date() and its like, of anything but a literal date. A column's values are looked at later, when it is known
+        whose column it is."""
         dates = self._dates(pieces, at)
         if dates is None:
             return False
         return not dates or not all(_is_date(date) or (not below and _may_be_column(date)) for date in dates)
 
     def _dates(self, pieces: list[Token], at: int) -> list[list[Token]] | None:
-        """What a date function that is called there gets as dates; None where none is."""
+        """The dates among the arguments of the date function that is called there; None if none is called."""
         called = pieces[at].names and at + 1 < len(pieces) and pieces[at + 1].says("(")
         function = self.key_of(pieces[at]) if called else ""
         if function not in TIMES:
@@ -98,7 +98,8 @@ class SqliteConnection(Connection):
             except sqlite3.OperationalError:
                 if os.access(path.parent, os.W_OK) or self._state() is None:
                     raise
-                # A log can't be made beside the file, so nobody has one. Should that change, the statement fails.
+                # No log can be made in this folder, and there is none: then the file alone has all rows. If that
+                # changes while it is read, the statement fails.
                 self.unwritten = self._state()
                 self._open("mode=ro&immutable=1")
         self.timeout = timeout
@@ -111,7 +112,7 @@ class SqliteConnection(Connection):
         self.connection.execute("SELECT count(*) FROM sqlite_master").fetchone()
 
     def _state(self) -> Row | None:
-        """By what the file is known to be as it was; None where it has a log beside it."""
+        """What changes when the file is written to; None if there is a log beside it."""
         if os.path.exists(f"{self.path}-wal"):
             return None
         about = os.stat(self.path)
@@ -192,7 +193,7 @@ class SqliteCatalog(Catalog):
         return int(self.connection.rows(f"PRAGMA {DIALECT.quote(schema)}.schema_version")[0][0])
 
     def _column(self, table: str, name: str, declared: str, of_table: bool, strict: bool) -> Column:
-        """A column. What those of views and virtual tables are compared by isn't known."""
+        """A column. It has no kind in a view or a virtual table, where its collation isn't known."""
         collation = self._collation(table, name) if of_table else None
         kind = (affinity(declared, strict), collation) if collation else None
         return Column(name, declared or "no type", kind)
@@ -220,11 +221,11 @@ class SqliteCatalog(Catalog):
             (name, "the view", text) for name in names for view, text in views if _last(name) == DIALECT.key(view, True)
         ]
 
-    def takes(self, sql: str) -> None:
+    def check(self, sql: str) -> None:
         self.connection.rows(f"EXPLAIN {sql}")
 
     def stands_alone(self, inner: list[Token]) -> str | None:
-        """A name in double quotes that isn't found would be a text, so the quotes are others here."""
+        """SQLite takes a name in double quotes that it doesn't find for a text, so names get other quotes here."""
         in_quotes = {token: "`" + unquoted(token).replace("`", "``") + "`" for token in inner if token.text[0] == '"'}
         return super().stands_alone([token._replace(text=in_quotes.get(token, token.text)) for token in inner])
 
@@ -234,7 +235,7 @@ class SqliteCatalog(Catalog):
     def output_names(self, sql: str) -> list[str]:
         return self.connection.names(f"SELECT * FROM ({sql}\n) LIMIT 0")
 
-    def exports(self, column: Column) -> bool:
+    def can_export(self, column: Column) -> bool:
         return column.kind in (("INTEGER", "BINARY"), ("TEXT", "BINARY"))
 
     def whole_numbers(self, column: Column) -> bool:

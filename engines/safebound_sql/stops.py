@@ -9,7 +9,7 @@ _came: list[int] = []
 
 
 def heed() -> None:
-    """From now on both signals are an interruption, which `came` tells from others."""
+    """From now on both signals raise KeyboardInterrupt, and `came` says which signal came."""
     for number in (signal.SIGINT, signal.SIGTERM):
         signal.signal(number, _come)
 

@@ -1,7 +1,8 @@
 """The tokens of a text of SQL, by the engine's own rules, so that what is handed on is what was written.
 
-sqlglot's tokens don't tell where they stand, and its texts don't come back as they were: x'00ff' becomes x'FF'. A
-condition is passed to the engine in the user's own characters, so the text is cut here.
+sqlglot's tokens don't tell where they stand, and its texts don't come back as they were: in Debian 12's version x'00ff'
+becomes x'FF', OR binds as AND does, TABLESAMPLE is dropped, and 'sad'::mood can't be read. A condition is passed to the
+engine in the user's own characters, so the text is cut here.
 """
 
 from __future__ import annotations

@@ -22,7 +22,7 @@ from .tokens import BACKTICKS, DOUBLE_QUOTES, Token, dialect_rules, part_of_name
 
 DAYS = ("now", "today", "tomorrow", "yesterday")
 
-# Words that no name is unless in quotes: by them rows are taken or left in another way than an inner join does.
+# Words that are names only in quotes. With them rows are kept or left out in another way than by an inner join.
 NO_INNER_JOIN = (
     "QUALIFY", "PIVOT", "UNPIVOT", "LATERAL", "TABLESAMPLE", "SEMI", "ANTI", "ASOF", "POSITIONAL", "DIRECTED",
     "MATCH_RECOGNIZE", "UNNEST", "EXPLODE", "MINUS",
@@ -67,7 +67,7 @@ class UnreachedDialect(Dialect):
         return name.lower()
 
     def table_key(self, name: list[Token]) -> tuple[str, ...]:
-        """By what a table is found."""
+        """The key by which a table is found."""
         names = [token for token in name if token.names]
         if self.folds_tables:
             return tuple(map(self.key_of, names))
@@ -151,7 +151,7 @@ class SchemaFile(Catalog):
     def view_texts(self, names: set[str]) -> list[tuple[str, str, str]]:
         return []
 
-    def takes(self, sql: str) -> None:
+    def check(self, sql: str) -> None:
         """Refuses what would be read here in another way than by the engine."""
         statement, pieces = Statement(sql), tokens(sql, self.dialect.rules)
         for token in _no_inner_joins(pieces):
@@ -181,7 +181,7 @@ class SchemaFile(Catalog):
             raise Refused(f"the query has a part that isn't bounded: {', '.join(sorted(odd)) or 'it is no SELECT'}")
 
     def stands_alone(self, inner: list[Token]) -> str | None:
-        """None where each name in it is one of a table of its own, or no column's at all."""
+        """None if each name in it is of one of its own tables, or isn't a column's name at all; else why not."""
         if any(token.says("SELECT", "WITH", "VALUES") for token in inner[1:]):
             return "there is a subquery within it"
         try:
@@ -215,7 +215,7 @@ class SchemaFile(Catalog):
     def complaint(self, sql: str) -> str | None:
         return None
 
-    def exports(self, column: Column) -> bool:
+    def can_export(self, column: Column) -> bool:
         raise not_reached(self.dialect)
 
     def whole_numbers(self, column: Column) -> bool:

@@ -112,7 +112,8 @@ class Writing:
         return [named for column in self.columns[number] if (named := Named(number, column)) in self.query.named_above]
 
     def _entries_of_parts(self) -> str:
-        """The entries whose columns are those of a part, each again by itself: a part's row by its number."""
+        """Joins each entry whose columns are those of a part once more, under its own alias: by the number of the
+        part's row."""
         again, numbered = "", f"{self.prefix}row"
         for number, part in sorted(self.within.items()):
             columns, alias = self._named_above(number), self.query.entries[number].alias

@@ -48,8 +48,8 @@ class Cluster:
         server.start()
 
     def add_database(self, name: str) -> None:
-        """A database of this name on each server, those of the coordinator's reached from there. Whoever started the
-        cluster adds it."""
+        """Makes a database of this name on each server, and links the coordinator's to the others. Only the process
+        that started the cluster may call it."""
         at_once(partial(server.add_database, name) for server in self.all)
         self._link(name)
 
@@ -86,7 +86,7 @@ class Cluster:
                     coordinator.execute(statement)
 
     def _partitioned(self, coordinator: Any, name: str, columns: str) -> None:
-        """Keys are of single parts, and the whole table has none."""
+        """Keys are left out: a partitioned table can't have a key over parts on other servers."""
         keyless = re.sub(r"\s+(PRIMARY KEY|UNIQUE)\b", " NOT NULL", columns)
         coordinator.execute(f"CREATE TABLE {name} ({keyless}) PARTITION BY HASH ({columns.split()[0]})")
         for number in range(1, SERVERS + 1):

@@ -1,4 +1,4 @@
-"""Tables that the servers of a cluster make for themselves, or one server alone, at so many times a size."""
+"""Tables that the servers of a cluster fill themselves, or one server alone, at so many times a size."""
 
 from __future__ import annotations
 
@@ -14,8 +14,8 @@ KEPT = " WHERE satisfies_hash_partition('place'::regclass, {servers}, {number}, 
 
 
 class Made(NamedTuple):
-    """Tables by their schema, and for each a query for its rows at size {s}. Its first column is called k, and says
-    where a row lies."""
+    """The schema of some tables, and for each of them a query that makes its rows at size {s}. The first column, k,
+    says on which server a row lies."""
 
     schema: str
     rows: dict[str, str]
@@ -26,7 +26,7 @@ class Made(NamedTuple):
         for table in self.rows:
             cluster.on_servers(self.filling(table, times, KEPT))
         cluster.on_servers("ANALYZE")
-        # By name, since ANALYZE alone passes over what lies on servers.
+        # Tables are named, since ANALYZE alone passes over foreign tables.
         cluster.script(f"ANALYZE {', '.join(self.rows)}")
 
     def fill_one(self, server: Server, times: int | Fraction) -> None:

@@ -22,8 +22,7 @@ if TYPE_CHECKING:
 ROOT = Path(__file__).resolve().parents[2]
 POSTGRES = os.environ.get("SAFEBOUND_SQL_POSTGRES")
 CLUSTER = os.environ.get("SAFEBOUND_SQL_CLUSTER")
-# The database of this process. What all databases of a server share, as roles and names of databases, is called after
-# it.
+# The database of this process. Roles and other databases, which all databases of a server share, have names made of it.
 DATABASE = os.environ.get("SAFEBOUND_SQL_DATABASE", "postgres")
 GATE = bool(os.environ.get("SAFEBOUND_SQL_GATE"))
 # What tests count, for the end of a run.
@@ -31,8 +30,8 @@ COUNTED: Counter[str] = Counter()
 
 
 class SqliteBase:
-    """A file in a temporary folder. It keeps a log for writers beside readers, so that a snapshot can be told from
-    none."""
+    """A file in a temporary folder. It has a write-ahead log, so that others may write while it is read: then a test
+    can see whether there is a snapshot."""
 
     engine = "sqlite"
 
@@ -91,7 +90,7 @@ class PostgresBase:
 
 
 class ClusterBase:
-    """The cluster's database, emptied. The same tables and rows are on one server, which is asked for what is true."""
+    """The cluster's database, emptied. One server has the same tables and rows, and gives the right answers."""
 
     engine = "postgres"
 

@@ -8,7 +8,7 @@ from typing import Any
 
 from bases import ROOT
 
-# Wrong bodies are tried in a copy.
+# Mutants are tried in a copy.
 PROGRAM = os.environ.get("SAFEBOUND_SQL_PROGRAM", str(ROOT / "engines" / "safebound-sql"))
 
 

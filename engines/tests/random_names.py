@@ -1,5 +1,5 @@
-"""Random queries whose outputs are called like columns, over USING, with ORDER BY: what stands above the join has to
-mean what it meant."""
+"""Random queries over USING, with ORDER BY and outputs that have names of columns: what stands above the join has to
+mean the same in the planned SQL."""
 
 from __future__ import annotations
 
@@ -15,7 +15,8 @@ TYPES_OF_ID = {
     "sqlite": ("INTEGER", "INTEGER", "REAL", "NUMERIC"),
     "postgres": ("INTEGER", "INTEGER", "BIGINT", "NUMERIC", "NUMERIC(7, 1)"),
 }
-# Of two of these types PostgreSQL converts the one before to the one behind, and both to NUMERIC.
+# PostgreSQL converts a value of one of these types to a later one. If a digit is then behind the point, it converts
+# both to NUMERIC.
 WIDER = ("INTEGER", "BIGINT", "NUMERIC(7, 1)", "NUMERIC")
 
 

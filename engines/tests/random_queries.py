@@ -58,7 +58,7 @@ class RandomQuery:
     text: str = ""
 
     def count_of(self, names: set[str]) -> str:
-        """The query that counts the choices of these entries that satisfy what names no other."""
+        """The query that counts the choices of rows of these entries which satisfy the conditions on them alone."""
         sources = ", ".join(f"t{table} AS {name}" for name, table in self.entries if name in names)
         complete = [f"({text})" for text, named in self.conditions if named <= names]
         return f"SELECT count(*) FROM {sources}" + (f" WHERE {' AND '.join(complete)}" if complete else "")

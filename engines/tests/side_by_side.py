@@ -19,8 +19,8 @@ PASSED_OVER = "passed over"
 
 @dataclass(frozen=True)
 class Result:
-    """What became of a test: nothing to say, that it was passed over, or how it failed. Processor time is without the
-    servers'."""
+    """How a test ended, and for one that failed or was passed over why. `worked` is processor time, without that of
+    servers."""
 
     name: str
     seconds: float
@@ -49,9 +49,9 @@ Place = Dict[str, str]
 
 
 def all_done(pieces: list[Piece[T]], places: list[Place]) -> Iterator[tuple[Piece[T], T | None]]:
-    """What came of each piece, as soon as it is there; None where its process ended without an answer.
+    """The answer of each piece, as soon as it is there; None if its process ended without one.
 
-    A place is the environment of one process at a time.
+    A place is the environment of a process. At each time one process has it.
     """
     waiting, free = pieces[::-1], list(places)
     running: dict[Connection, tuple[Piece[T], Place]] = {}
@@ -67,7 +67,7 @@ def all_done(pieces: list[Piece[T]], places: list[Place]) -> Iterator[tuple[Piec
 
 
 def _started(piece: Piece[T], place: Place) -> Connection:
-    """A process as this one is now."""
+    """A process that is a copy of this one as it is now (a fork)."""
     fork = multiprocessing.get_context("fork")
     receives, sends = fork.Pipe(duplex=False)
     fork.Process(target=_worked, args=(piece, place, sends), daemon=True).start()
@@ -117,7 +117,7 @@ class Told(unittest.TestResult):
 
 
 def _processor_time() -> float:
-    """Of this process and those that it started."""
+    """The processor time of this process and of those that it started."""
     return sum(os.times()[:4])
 
 

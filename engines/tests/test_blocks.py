@@ -19,7 +19,7 @@ QUERIES_OF_THE_ARCHIVE = ROOT / "bench" / "archive_queries"
 
 class InBlocks(OnEachEngine, Process):
     def tried_in_blocks(self, text: str, budget: int = MOST_BUDGET) -> block_plans.Planner:
-        """The plan of a query, after its rows and the rows of its levels were looked at."""
+        """The plan of a query. Before that its rows and those of its levels are checked."""
         engine = opened(self.base.url, None)
         try:
             self.assertTrue(block_plans.several(text, engine))
@@ -41,7 +41,7 @@ class InBlocks(OnEachEngine, Process):
             engine.connection.close()
 
     def bounded(self, text: str) -> bool:
-        """Whether each join of the query is."""
+        """Whether each join of the query is bounded."""
         engine = opened(self.base.url, None)
         several = block_plans.several(text, engine)
         engine.connection.close()
@@ -82,7 +82,7 @@ class Blocks(InBlocks):
                 )
 
     def test_outer_joins(self) -> None:
-        # k joins at most 12 rows of b, since three values stand in four rows each; beside them are the 3 of k.
+        # The rows of k meet at most 12 rows of b: three values stand in four rows each. Up to 3 rows of k are added.
         self.bounds("SELECT k.x, b.z FROM k LEFT JOIN b ON k.x = b.x", [3, 15])
         self.bounds("SELECT k.x, b.z FROM k LEFT JOIN b ON k.x = b.x AND b.z < 5", [3, 6])
         self.bounds("SELECT k.x, b.z FROM b RIGHT JOIN k ON k.x = b.x", [20, 15])
@@ -130,7 +130,7 @@ class Blocks(InBlocks):
             "SELECT count(*) FROM (SELECT DISTINCT x FROM b) AS s, k WHERE s.x = k.x",
         ):
             self.bounds(text)
-        # An aggregate makes one row of none.
+        # An aggregate over no rows makes one row.
         for count in ("count(*)", "count(*) FILTER (WHERE b.z > 0)", "coalesce(max(b.z), 1)"):
             self.bounds(f"SELECT s.n, k.x FROM (SELECT {count} AS n FROM b WHERE b.z > 99) AS s, k", [0], [1, 3])
         self.bounds("SELECT s.x FROM (SELECT x FROM k UNION ALL SELECT y FROM c) AS s, k", [3], [12], [3, 45])
@@ -210,7 +210,7 @@ class Blocks(InBlocks):
         self.assertIn("refused: not all blocks are bounded: WITH RECURSIVE at line 1, column 6", done.stderr)
 
     def test_bounds_past_all_numbers(self) -> None:
-        """Twelve entries without an equality are too many for any number; a block over such a one isn't bounded
+        """The bound of twelve entries without an equality is past 64 bits; then the block above isn't bounded
         either."""
         many = ", ".join(f"b AS b{n}" for n in range(12))
         done = self.tried("plan", text=f"SELECT s.n FROM (SELECT b0.x AS n FROM {many}) AS s, k")

@@ -39,7 +39,7 @@ class OnCluster(OnEachEngine):
             engine.connection.close()
 
     def same_counts(self, text: str) -> None:
-        """What is counted, and so the plan, is that of one server."""
+        """Counts, and so the plan, are the same as on one server."""
         for reduce in (True, False):
             with self.subTest(reduce=reduce):
                 self.assertEqual(self.counts(text, reduce), self.counts(text, reduce, self.base.alone.url), text)
@@ -105,7 +105,7 @@ class TheShop(OnCluster, Process):
                     self.assertLess(sum(fetch.rows for fetch in asked), 10_000)
 
     def test_no_nested_loops(self) -> None:
-        """PostgreSQL takes what is left of a part for one row, whatever it is."""
+        """PostgreSQL expects one row of what is left of a part, however many there are."""
         planner, plan = self.planned(
             """SELECT 1 FROM item_1 i JOIN orders_1 o ON o.id = i.order_id JOIN customer_1 c ON c.id = o.customer
             JOIN product_1 p ON p.id = i.product WHERE c.region < 5 AND o.dayno < 50 AND p.id > 2"""
@@ -115,8 +115,8 @@ class TheShop(OnCluster, Process):
         self.assertIn("SET enable_nestloop = off;\nSET jit = off;\n", planner.script(plan))
 
     def test_servers_group_what_isnt_spread_by_the_column(self) -> None:
-        """Of 40,000 items some 2,000 products come from each server, and what is spread by the column is grouped
-        there too."""
+        """Of 40,000 items each server sends some 2,000 products. A table that is spread by the column is grouped on the
+        servers too."""
         asked = self.asked("SELECT 1 FROM item i JOIN product p ON p.id = i.product", reduce=False)
         grouped = [fetch for fetch in asked if "GROUP BY" in fetch.asked]
         self.assertEqual(len(grouped), 4)
@@ -132,7 +132,7 @@ class TheShop(OnCluster, Process):
         self.assertLess(sum(fetch.rows for fetch in self.asked(text)), 1_000)
 
     def test_the_command(self) -> None:
-        """It starts, fills, plans, audits, runs, looks what comes, and stops."""
+        """It starts servers, fills them, plans, audits and runs, shows what comes from servers, and stops them."""
         done = subprocess.run(
             [ROOT / "engines" / "cluster", "--times", "1/10"], text=True, capture_output=True, timeout=600
         )
@@ -197,7 +197,7 @@ CREATE TABLE b (z INTEGER, x INTEGER, y INTEGER, v VARCHAR(9), t TEXT)"""
         self.checked("SELECT * FROM a JOIN b ON b.x = a.x WHERE odd(b.z) AND a.y IN (SELECT y FROM b WHERE z < 3)")
 
     def test_two_equalities_of_the_same_entries(self) -> None:
-        """The values of each column go along, and which of them are together is tested where they are joined."""
+        """The values of each column are sent by themselves. Which of them are of one row is tested in the join."""
         self.checked("SELECT * FROM a JOIN b ON b.x = a.x AND b.y = a.y WHERE a.t = 't2'")
 
     def test_entries_under_no_condition_tell_in_the_end(self) -> None:
@@ -276,12 +276,12 @@ CREATE TABLE b (z INTEGER, x INTEGER, y INTEGER, v VARCHAR(9), t TEXT)"""
         return url.replace("//postgres@", f"//{reader}@")
 
     def test_parts_that_may_not_be_read(self) -> None:
-        """Whoever may read the table and not its parts gets the same counts, by the rows."""
+        """A user who may read the table, but not its parts, gets the same counts: rows are fetched to be counted."""
         text = "SELECT 1 FROM a JOIN b ON b.x = a.x WHERE a.y < 3"
         self.assertEqual(self.counts(text, True, self.reader("a", "b")), self.counts(text, True))
 
     def test_policies_of_parts(self) -> None:
-        """They hide rows from those who ask a part, and not from those who ask the whole table."""
+        """A policy of a part hides rows from users who read the part, but not from those who read the whole table."""
         coordinator = self.base.cluster.coordinator
         self.base.on(
             coordinator,

@@ -16,7 +16,7 @@ WAYS = [(reduce, tree) for reduce in (True, False) for tree in (False, True)]
 
 
 class Corners(OnEachEngine, Process):
-    """What all classes here ask of a planner."""
+    """Checks that all classes here make."""
 
     def refused(self, text: str, *words: str) -> None:
         with self.subTest(text):
@@ -44,7 +44,7 @@ class Corners(OnEachEngine, Process):
 
 
 class Names(Corners):
-    """What stands above the join means what it meant."""
+    """What stands above the join means the same in the planned SQL."""
 
     schema = """
     CREATE TABLE a (id INTEGER, qty INTEGER, name TEXT);
@@ -236,7 +236,7 @@ class CornersOfPostgres(Corners):
         )
 
     def test_the_order_is_kept_over_using(self) -> None:
-        """USING stands above the join again, and costs nothing there: no join is left of it."""
+        """The planned SQL has USING above the join too, but the engine makes no join for it."""
         planner, plan = self.planned("SELECT x FROM a JOIN b USING (x) JOIN e USING (x)", reduce=False)
         planner.engine.connection.keep_order()
         [[told]] = planner.engine.connection.rows(f"EXPLAIN (FORMAT JSON) {planner.sql(plan)}")

@@ -28,7 +28,7 @@ class CountedBounds(OnEachEngine):
         return planner, planner.plan_by_counting(1, MOST_BUDGET, tree)
 
     def bounds(self, text: str, reduce: bool = True) -> list[int]:
-        """The counted bounds, which are the rows, and no more than the others."""
+        """The counted bounds. They are the numbers of rows, and are no more than the other bounds."""
         planner, plan = self.counted(text, reduce)
         self.assertEqual(planner.true_rows(plan), [level.bound for level in plan.levels], text)
         without = planner.plan(1, MOST_BUDGET, False)
@@ -83,7 +83,7 @@ class Examples(CountedBounds):
         self.assertEqual(self.bounds("SELECT * FROM r, s, w w1, w w2 WHERE r.x = s.x AND w1.a = w2.a")[-1], 48)
 
     def test_a_condition_without_entries(self) -> None:
-        """It is tested as rows are joined, and lowers no bound."""
+        """Such a condition is tested when rows are joined, and lowers no bound."""
         planner, plan = self.counted("SELECT * FROM r, s WHERE r.x = s.x AND 1 = 2")
         self.assertEqual([level.bound for level in plan.levels], [2, 6])
         self.assertEqual(planner.true_rows(plan), [0, 0])
@@ -138,7 +138,7 @@ class NotCounted(CountedBounds):
         cls.base.script("INSERT INTO hub SELECT 0, i FROM generate_series(1, 2001) AS i")
 
     def test_equal_values_that_differ(self) -> None:
-        """Grouped as one, they would be taken for one of them."""
+        """If a group had several values, the condition would be tested with one of them alone."""
         for condition in (
             "p.n::text <> q.n::text", "p.u COLLATE \"C\" <> q.u", "p.f::text <> q.f::text", "p.i::text <> q.i::text",
             "p.o < q.o",
@@ -160,7 +160,7 @@ class NotCounted(CountedBounds):
         self.assertEqual(self.bounds("SELECT * FROM a p, a q WHERE p.u = q.u AND p.t <= q.t"), [2, 3])
 
     def test_the_limit_of_pairs(self) -> None:
-        """So many pairs are counted, and no more."""
+        """At the limit pairs are counted; past it they aren't."""
         self.assertEqual(MOST_PAIRS, 2000 * 2000)
         text = "SELECT 1 FROM g p, g q WHERE p.x < q.x AND p.x <= 2000 AND q.x"
         self.assertEqual(self.counted(f"{text} <= 2000")[1].levels[-1].bound, 1999000)
@@ -170,7 +170,7 @@ class NotCounted(CountedBounds):
         self.assertEqual(plan.notes, [told])
 
     def test_equalities_alone(self) -> None:
-        """By one of the two equalities there are more."""
+        """By one of the two equalities alone there are more choices."""
         text = "SELECT 1 FROM three p, three q WHERE p.a = q.a AND p.b = q.b AND p.c < q.c"
         self.assertEqual(self.planned(text)[1].cost, 2002**2 + 1)
         plan = self.counted(text)[1]
@@ -230,7 +230,7 @@ class Commands(OnEachEngine, Process):
         self.assertIn("a part of at most 4 rows, so 4 would do", told)
 
     def test_several_blocks(self) -> None:
-        """They keep their bounds, and that is said."""
+        """Blocks keep their bounds, and a note says so."""
         told = "nothing is counted: --count is for queries of one block, whose joins are inner ones\n"
         for command, text in (
             ("audit", "SELECT w1.a FROM w w1 LEFT JOIN w w2 ON w1.b = w2.b AND w1.a = w2.a"),
@@ -306,7 +306,8 @@ class RandomCounts(CountedBounds):
         self.assertGreater(exact, levels // 2)
 
     def check(self, randomly: Randomly, found: RandomQuery) -> tuple[int, int]:
-        """Checks one query. Answers of how many levels the bound has to be the rows, and how many there are."""
+        """Checks one query. Answers for how many levels the bound has to be the number of rows, and how many joins
+        there are."""
         choose = randomly.random.choice
         reduce, accuracy, tree = choose((True, True, False)), choose((1, 8)), choose((False, False, True))
         planner = self.opened(found.text, reduce)
@@ -328,7 +329,7 @@ class RandomCounts(CountedBounds):
         return exact, levels
 
     def apart_within(self, plan: Plan, entries: frozenset[int]) -> bool:
-        """Whether a condition that bounds don't keep to names these entries alone."""
+        """Whether a condition on these entries alone isn't taken into account by any bound."""
         unused = {text for text, _ in plan.unused}
         return any(one.text in unused and one.entries <= entries for one in plan.query.conditions)
 

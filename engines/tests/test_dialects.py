@@ -1,7 +1,6 @@
-"""Engines that can't be reached: each text is parsed back by sqlglot in its dialect, and its meaning is tried
-elsewhere.
+"""Engines that can't be reached: sqlglot parses each text in its dialect, and another engine runs it.
 
-SQLite takes the forms of all five dialects but for the settings and for CREATE OR REPLACE TEMPORARY TABLE, and
+SQLite understands the forms of all five dialects but for the settings and for CREATE OR REPLACE TEMPORARY TABLE, and
 PostgreSQL those of Trino and DuckDB. So the counting statement and the planned SQL run there, over random tables.
 """
 
@@ -44,7 +43,7 @@ JOINED = "SELECT a.y, b.z FROM a JOIN b ON a.x = b.x WHERE a.y > 1"
 
 
 def statements(script: str) -> list[str]:
-    """The statements of a script in whose texts no line ends with a semicolon."""
+    """The statements of a script. It must have no text in which a line ends with a semicolon."""
     return [statement for statement in re.split(r";(?:\n|\Z)", script) if statement.strip()]
 
 
@@ -79,7 +78,7 @@ class RandomDialects(Dialects):
         for number in numbers:
             randomly = Randomly(number, self.base.engine)
             if number == numbers[0]:
-                # A table that SQLite makes of a query loses collations, as those of other engines don't.
+                # In SQLite a table that is made of a query loses collations; in other engines it keeps them.
                 schema = randomly.schema().replace(" COLLATE NOCASE", "")
                 self.base.script(schema)
                 for table in range(TABLES):
@@ -165,7 +164,7 @@ class Written(Dialects):
                 self.assertEqual(joins, order)
 
     def some_counts(self, planner: Planner) -> Counts:
-        """Counts by which the entries are joined from the last one to the first."""
+        """Counts for which the best order joins the entries from the last one to the first."""
         rows = []
         for entry in planner.query.entries:
             many = 10 - entry.number

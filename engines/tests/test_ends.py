@@ -36,7 +36,7 @@ class Ends(OnEachEngine, Process):
             self.assertEqual(ended.stdout, f'x,t\n1,{null}\n2,{empty}\n3,{word}\n4,"a ""b"", c"\n', ended.stderr)
 
     def test_signals(self) -> None:
-        """Both end the command while it joins, and the statement on the server."""
+        """Both signals end the command while it joins, and the statement on the server."""
         for number, status in ((signal.SIGINT, 130), (signal.SIGTERM, 143)):
             ours, theirs = pty.openpty()
             line = [PROGRAM, "audit", "--db", self.base.url, "-"]
@@ -101,7 +101,7 @@ class EndsOfPostgres(OnEachEngine, Process):
     """
 
     def test_conditions_of_all_kinds_are_counted(self) -> None:
-        """Each is of one entry, so that its rows alone are counted."""
+        """Each condition is on one entry, so only the rows that satisfy it are counted."""
         for condition in (
             "a.m = 'sad'::mood", "(b.s, b.e) OVERLAPS (date '2020-01-05', date '2020-03-01')",
             "a.y OPERATOR(pg_catalog.>) 0",
@@ -112,7 +112,8 @@ class EndsOfPostgres(OnEachEngine, Process):
             planner.engine.connection.close()
 
     def test_rights_on_columns(self) -> None:
-        """A column that may not be read isn't carried for a condition in which its name is another word."""
+        """A condition has a word that is also the name of a column which may not be read. The planned SQL doesn't read
+        it."""
         reader = f"reader_{DATABASE}"
         self.base.script(
             f"""
@@ -131,7 +132,7 @@ class EndsOfPostgres(OnEachEngine, Process):
             self.base.script(f"DROP OWNED BY {reader}; DROP ROLE {reader}")
 
     def test_what_the_engine_refuses_is_told_first(self) -> None:
-        """A group by a key whose other column can't be grouped by: the plan says so, and nothing is admitted."""
+        """GROUP BY has a key, and another column of the table can't be grouped by. Then nothing is admitted."""
         self.base.script(
             "DROP TABLE IF EXISTS keyed; CREATE TABLE keyed (x INTEGER PRIMARY KEY, j JSON); INSERT INTO keyed VALUES"
             " (3, '1')"

@@ -1,4 +1,4 @@
-"""Kept counts: when they are taken, what becomes of rows that came later, and that no bound of then is too low."""
+"""Kept counts: when they are taken, and how rows that came later are added. No bound by them is too low."""
 
 from __future__ import annotations
 
@@ -42,7 +42,7 @@ class WithKept(OnEachEngine):
         return new
 
     def by_kept(self, text: str, tree: bool = False) -> tuple[Plan, list[int]]:
-        """A plan by kept counts, none of whose bounds is too low."""
+        """A plan by kept counts. No bound of it is too low."""
         planner = self.opened(text, reduce=False)
         plan = planner.plan_by_kept(1, MOST_BUDGET, tree, Kept(self.file))
         true = self.never_under(planner, plan, text)
@@ -100,7 +100,7 @@ class Taken(WithKept):
         self.assertEqual(true[-1], 24 + 80)
 
     def test_rows_that_are_appended(self) -> None:
-        """Most of them have the value that was most frequent before."""
+        """Most new rows have the value that was most frequent before."""
         self.keep(JOINED)
         self.base.fill("a", [(0, 100)] * 40 + [(5, 101)] * 2 + [(None, 102)])
         self.assertEqual(self.append("a", "y >= 100"), 43)
@@ -120,7 +120,7 @@ class Taken(WithKept):
         self.assertEqual(Path(self.file).read_text(), before)
 
     def test_a_table_that_was_made_anew(self) -> None:
-        """It has the same name, columns and number of rows, and one value alone."""
+        """The new table has the same name, columns and number of rows, but one value alone."""
         self.keep(JOINED)
         self.base.script("DROP TABLE a; CREATE TABLE a (x INTEGER, y INTEGER)")
         self.base.fill("a", [(0, n) for n in range(13)])
@@ -158,7 +158,7 @@ class OtherTypes(WithKept):
     """
 
     def test_a_column_of_another_type(self) -> None:
-        """As they are compared now, all values are one."""
+        """By the new type all values are equal."""
         for table in "ab":
             self.base.fill(table, [(word, 0) for word in ("a", "A")])
         self.keep(JOINED)

@@ -329,7 +329,7 @@ class Trees(OnEachEngine):
             read = [(step[1], step[3].split()[1]) for step in steps if step[3].split()[0] in ("SCAN", "SEARCH")]
             self.assertIn("MATERIALIZE safebound_1", [step[3] for step in steps])
             self.assertEqual([name for parent, name in read if parent and name[0] != "("], ["s", "q"])
-            # The part's entries have their names again by its row numbers.
+            # Each entry of the part is joined to it by its row numbers, to have its name again.
             self.assertEqual(
                 [name for parent, name in read if not parent], ["p", "r", "safebound_1", "safebound_1", "safebound_1"]
             )
@@ -368,7 +368,7 @@ class Reduced(OnEachEngine):
 
 
 class Snapshots(OnEachEngine):
-    """What was bounded is what is joined, whatever others write meanwhile."""
+    """The rows that are joined are those that were counted, whatever others write meanwhile."""
 
     schema = "CREATE TABLE a (x INTEGER); CREATE TABLE b (x INTEGER)"
 

@@ -77,7 +77,7 @@ class RandomOutputs(OnEachEngine):
         self.assertEqual(done, len(numbers))
 
     def taken(self, randomly: RandomNames, schema: str) -> str:
-        """The first query that isn't one of those that are refused. Those before it are, and by their names."""
+        """The first query that has to be planned. Those before it have to be refused, by their names."""
         while True:
             text = randomly.query()
             if not randomly.converts_both(schema):

@@ -3,9 +3,9 @@
    library as it tests the program.
 
    Each word, name, file and room ends where its page ends, and the next page can't be touched; what is only read can't be
-   written. Rooms begin at 16 bytes, and grow where one is too small; what stood in the smaller one is the beginning of what
-   stands in the larger one, but for notes where out was cut too: they may have the line of that. No memory is kept. With REFUSE in its environment, so many requests for memory are answered before
-   one isn't. */
+   written. Rooms begin at 16 bytes, and grow if one is too small. What stood in the smaller one is then the beginning of
+   what stands in the larger one. Only notes may differ, if the output was cut too: they may have the line of that fault. No
+   memory is kept. With REFUSE=N in the environment the first N requests for memory are answered, and the next one isn't. */
 #define _GNU_SOURCE
 #include "safebound_command.h"
 #include "counted_memory.h"

@@ -153,8 +153,8 @@ class GivenLists(reading.ListBounds):
 
 
 def with_values(rows: list[int], lists: DegreeLists, equalities: list[Equality]) -> tuple[list[int], DegreeLists]:
-    """Row bounds and lists where these equalities hold: a row without a value in one of their columns is equal to
-    none."""
+    """Row bounds and lists for a set in which these equalities hold: a row without a value in one of their columns
+    joins with nothing, and isn't counted."""
     rows = list(rows)
     for entry, column in itertools.chain(*equalities):
         rows[entry] = min(rows[entry], sum(lists[entry, column]))
@@ -230,7 +230,7 @@ class RandomQuery:
         return [e for e in self.equalities if e[0][0] in entries and e[1][0] in entries]
 
     def work(self) -> int:
-        """What is to be done at most: in each turn of each set one, and the runs of its equalities."""
+        """The work of all sets: each turn of a set costs 1, and the runs of both lists of its equalities."""
         length = {side: len(runs_of(degrees)) for side, degrees in self.lists.items()}
         sets = [[e for e in range(self.entries) if number >> e & 1] for number in range(2**self.entries)]
         return sum(
@@ -290,8 +290,8 @@ class Bounds(unittest.TestCase):
             )
 
     def test_limits_of_work(self) -> None:
-        """With a limit that does the bounds are the same; with one less they are refused, and the limit that does is
-        told."""
+        """With a limit that is just enough the bounds are the same; with one less they are refused, and the detail is
+        that limit."""
         queries = [RandomQuery(seed) for seed in range(RUNS)]
         calls = [query.call() for query in queries]
         for query, call, answer in zip(queries, calls, answers(calls)):
@@ -493,7 +493,7 @@ class Plans(unittest.TestCase):
         self.assertEqual(bounds, [1000**count for count in ends])
         order, tree = answers([Call("order", [bounds], 12, 1000), Call("tree", [bounds], 11, 1000)])
         self.assertEqual(order, (Status.OK, 12, [(e, 1000) for e in range(12)]))
-        # Of trees with one cost and one sum the one counts whose left sets are the least: each entry beside all later
+        # Of trees with the same cost and sum the best has the least left sets: each entry is joined with all later
         # ones.
         self.assertEqual(tree, (Status.OK, 11, [(10, 11, 1000)] + [(9 - k, 12 + k, 1000) for k in range(10)]))
 

@@ -1,6 +1,6 @@
 """Each value wrong in turn, each room too small, and each request for memory refused.
 
-calls.c looks that nothing is written but the detail, that nothing is read past a length, and that no memory is kept.
+calls.c checks that nothing is written but the detail, that nothing is read past a length, and that no memory is kept.
 """
 
 from __future__ import annotations
@@ -295,8 +295,8 @@ class Rooms(unittest.TestCase):
 
 class Memory(unittest.TestCase):
     def test_each_request_refused(self) -> None:
-        """Whichever request is refused, want of memory is told, or less memory does and the answer is whole. The same
-        call then has its answer."""
+        """Whichever request is refused, the call says that memory is lacking, or it does with less and gives the whole
+        answer. The same call made again then has its answer."""
         wanting = Answer(Status.NO_MEMORY, None, [])
         told = 0
         for call in CALLS + [bounds_of()._replace(name="set_bound", room=0, number=7)]:

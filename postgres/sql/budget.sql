@@ -5,7 +5,7 @@ CREATE TABLE s (x bigint);
 INSERT INTO s VALUES (8), (8), (8), (2), (2), (5), (5), (1);
 CREATE TABLE unknown (x integer);
 SELECT safebound.keep('r', accuracy => 64) > 0 AS r, safebound.keep('s', accuracy => 64) > 0 AS s;
--- A budget counts on nothing that isn't watched.
+-- A budget takes no bounds from tables that aren't watched.
 SET safebound.budget = 1000;
 SELECT count(*) FROM r JOIN s USING (x);
 RESET safebound.budget;
@@ -19,14 +19,14 @@ SELECT count(*) FROM r AS one JOIN s USING (x);
 \set VERBOSITY terse
 -- A scan is no join.
 SELECT count(*) FROM r;
--- Nothing runs, nothing is refused; and what runs to be explained is.
+-- EXPLAIN runs nothing, so it isn't refused. EXPLAIN ANALYZE is.
 EXPLAIN (COSTS OFF) SELECT FROM r JOIN s USING (x);
 EXPLAIN (ANALYZE, COSTS OFF) SELECT FROM r JOIN s USING (x);
 -- With a condition: of the rows with a, x stands 3 and 2 times, of those with b 2, 1 and 0 times.
 SET safebound.budget = 12;
 SELECT count(*) FROM r JOIN s USING (x) WHERE c = 'b';
 SELECT count(*) FROM r JOIN s USING (x) WHERE c = 'a';
--- A prepared query is bounded with its parameters, in a plan of their own and in one for all.
+-- A prepared query is bounded with its parameters, in a custom plan and in a generic one.
 PREPARE with_value(text) AS SELECT count(*) FROM r JOIN s USING (x) WHERE c = $1;
 SET plan_cache_mode = force_custom_plan;
 EXECUTE with_value('b');

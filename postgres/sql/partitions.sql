@@ -106,7 +106,7 @@ DROP TRIGGER safebound_applied ON part_3a;
 SELECT known('parts'), safebound.watch('parts') > 0 AS watched, known('parts');
 ALTER TABLE parts ALTER x TYPE bigint USING x % 2;
 SELECT known('parts'), safebound.watch('parts') > 0 AS watched, known('parts');
--- The whole and a part are watched side by side, and one no more.
+-- The whole and a part are watched at the same time, and then one of them no longer.
 SELECT safebound.watch('part_3') > 0 AS part_3, safebound.watch('part_3a') > 0 AS part_3a, known('parts');
 INSERT INTO part_3a VALUES (1, 'n', 3);
 SELECT deltas('parts') AS parts, deltas('part_3') AS part_3, deltas('part_3a') AS part_3a;

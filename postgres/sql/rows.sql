@@ -43,7 +43,7 @@ INSERT INTO child VALUES (2), (2);
 SELECT safebound.watch('child') > 0 AS child;
 UPDATE s SET x = 200 WHERE x = 2;
 SELECT most('SELECT FROM child') = 2 + 2 AS cascaded;
--- A statement that cascades to several rows writes one delta, and is over then.
+-- A statement that cascades to several rows writes one delta. After it the table is known.
 INSERT INTO child VALUES (1);
 SELECT safebound.fold('child') > 0 AS folded;
 UPDATE s SET x = x + 5000 WHERE x IN (1, 200);
@@ -55,7 +55,7 @@ DELETE FROM r WHERE x = 7;
 SELECT most('SELECT FROM r') = 11 AS r;
 TRUNCATE child;
 SELECT most('SELECT FROM child') = 7 AS child;
--- What is rolled back takes its deltas along.
+-- A rollback takes the deltas back too.
 BEGIN;
 INSERT INTO r VALUES (6, 'z');
 SAVEPOINT one;
@@ -138,12 +138,12 @@ CREATE TABLE above (LIKE r);
 ALTER TABLE r INHERIT above;
 SELECT known('r'), safebound.watch('r') > 0 AS watched, known('r');
 SELECT safebound.fold('r') > 0 AS folded, deltas('r');
--- The table above may be watched itself, and no more: what is below it stays known.
+-- The table above may be watched itself, and then no longer: the table below it stays known.
 SELECT safebound.watch('above') > 0 AS watched, known('above'), known('r');
 SELECT safebound.unwatch('above'), known('above'), known('r'), safebound.forget('above');
 UPDATE above SET c = 'from above';
 SELECT deltas('r'), most('SELECT FROM r') = 2 * (SELECT count(*) FROM r) AS twice;
--- Which values they have isn't told there: all may have one.
+-- The delta of such rows has no values, so all of them may have one value.
 CREATE TABLE one (x integer);
 INSERT INTO one VALUES (1), (2), (3), (4);
 SELECT safebound.watch('one') > 0 AS watched, most('SELECT FROM r JOIN one USING (x)') = (SELECT count(x) + count(*) FROM r) AS all_of_one;
@@ -175,11 +175,11 @@ SELECT 'gone'::regclass::oid AS gone \gset
 DROP TABLE gone;
 SELECT count(*) FROM safebound.kept_table WHERE relation = :gone;
 SELECT count(*) FROM safebound.kept_lists WHERE relation = :gone;
--- A temporary table goes without a word, so it isn't watched.
+-- A temporary table is dropped without an event, so it can't be watched.
 CREATE TEMPORARY TABLE passing (x integer);
 SELECT safebound.watch('passing');
 DROP TABLE passing;
--- Who analyzes folds what has a hundred deltas.
+-- ANALYZE folds the deltas of a table that has a hundred of them.
 SELECT safebound.fold('s') > 0 AS folded;
 DO $$ BEGIN FOR i IN 1..99 LOOP INSERT INTO s VALUES (1000 + i); END LOOP; END $$;
 ANALYZE s;
@@ -221,7 +221,7 @@ INSERT INTO r VALUES (6, 'z');
 SELECT * FROM safebound.kept_delta;
 RESET ROLE;
 SELECT deltas('r');
--- No new snapshot, no count of a table that is watched.
+-- Where no new snapshot can be taken, a watched table isn't counted.
 BEGIN ISOLATION LEVEL REPEATABLE READ;
 SELECT safebound.fold('r');
 ROLLBACK;

@@ -113,7 +113,7 @@ class Asking:
                 print(f"{node['Node Type']} has {node['Actual Rows']} rows, at most {most}: {text}")
 
     def all_known(self) -> None:
-        """Nothing that writers do makes a watched table unknown: it would have PostgreSQL's own numbers."""
+        """Counts watched tables that have become unknown. What writers do here makes none unknown."""
         unknown = self.connection.execute('SELECT "table" FROM safebound.kept WHERE NOT known').fetchall()
         self.seen["unknown tables"] += len(unknown)
 

@@ -5,8 +5,8 @@
 The server at URL has the extension installed. For each of TABLES sets of tables QUERIES queries are planned with
 safebound.estimates = bound and run by EXPLAIN ANALYZE, which counts the rows of each node. Tables are plain,
 partitioned or have children; queries read them alone, by a view, a subquery or WITH. Where a join reads what isn't
-known, PostgreSQL's own number stands, and isn't looked at. What a set needs goes out in few texts, so that thousands
-of sets take no longer than their queries do.
+known, PostgreSQL's own number stands, and isn't looked at. The statements of a set are sent in few texts, so that
+thousands of sets take no longer than their queries do.
 """
 
 from __future__ import annotations
@@ -39,11 +39,11 @@ JOINS = ("Nested Loop", "Hash Join", "Merge Join")
 SCANS = ("Seq Scan", "Index Scan", "Index Only Scan", "Bitmap Heap Scan")
 # A partitioned table is read by its parts.
 APPENDS = ("Append", "Merge Append")
-# What stands between a join and the tables below it without other rows of its own.
+# Nodes between a join and the tables below it, which have the rows of what is below them.
 PASSES = ("Hash", "Sort", "Incremental Sort", "Materialize", "Memoize", "Bitmap Index Scan", "BitmapOr", "BitmapAnd")
-# Of more outer and semi-joins no join is bounded.
+# A join with more outer and semi-joins in it isn't bounded.
 MOST_SPECIAL_JOINS = 6
-# How many queries go out in one text, and after how many sets it is told how far it is.
+# How many queries are sent in one text, and after how many sets progress is printed.
 TOGETHER, TOLD_AFTER = 20, 250
 ASKING = "SET safebound.estimates = bound"
 KINDS = ("plain", "plain", "plain", "hash", "list", "children")
@@ -58,8 +58,9 @@ DO $$ BEGIN CREATE DOMAIN small AS integer CHECK (VALUE < 100000); EXCEPTION WHE
 
 
 def limited(queries: str) -> str:
-    """Some queries would take minutes; what makes their tables isn't cut short. Where a query ends just as the limit is
-    reached, PostgreSQL cancels the statement after it, so the last one stands in the same text."""
+    """Queries with a limit of time, since some would take minutes; the statements that make tables have none. Where a
+    query ends just as the limit is reached, PostgreSQL cancels the statement after it, so the last one stands in the
+    same text."""
     return f"SET LOCAL statement_timeout = '1s'; {queries}; SET LOCAL statement_timeout = 0"
 
 
@@ -79,7 +80,7 @@ class Table:
         self.distinct = [r.choice([1, 3, 8, 40]) for _ in self.columns]
 
     def parts(self) -> list[str]:
-        """The tables with rows of their own, beside the first one's."""
+        """The partitions, or the children, of a table that has some."""
         if self.kind == "plain":
             return []
         return [f"{self.name}_{i}" for i in range(2)]
@@ -113,14 +114,14 @@ class Table:
                 yield f"INSERT INTO {self.name}_0 SELECT * FROM ONLY {self.name} LIMIT 30"
 
     def keyed(self) -> Iterator[str]:
-        """The first column becomes the key: rows without a value there, and all but one of each value, go."""
+        """The first column becomes the key: rows without a value there are deleted, and all but one of each value."""
         again = f"EXISTS (SELECT FROM {self.name} b WHERE a.c0 = b.c0 AND a.ctid < b.ctid)"
         yield f"DELETE FROM {self.name} a WHERE c0 IS NULL OR {again}"
         yield f"ALTER TABLE {self.name} ADD PRIMARY KEY (c0)"
         self.has_key = True
 
     def referring(self, other: Table) -> Iterator[str]:
-        """Each column of the other one's type refers to its key: other values go."""
+        """Each column of the key's type refers to the other table's key: rows with other values are deleted."""
         for i, of in enumerate(self.columns):
             if other.has_key and of == other.columns[0] and (i > 0 or not self.has_key):
                 there = f"EXISTS (SELECT FROM {other.name} o WHERE o.c0 = {self.name}.c{i})"
@@ -144,12 +145,12 @@ class Table:
             yield f"CREATE INDEX ON {self.name} (c{self.r.randrange(len(self.columns))})"
 
     def make(self, connection: Connection, others: list[Table]) -> None:
-        """Its statistics are of rows that another transaction wrote."""
+        """Makes the table, and in a transaction after it its statistics."""
         for statements in (self.made(others), self.kept()):
             connection.execute("; ".join(statements))
 
     def read(self, alias: str, alone: set[str]) -> str:
-        """What stands in FROM for the table, without its alias, which is noted where a part is read alone."""
+        """What FROM has for the table before its alias. If a part is read alone, `alone` gets the alias."""
         parts = self.parts() + ([f"ONLY {self.name}"] if self.kind == "children" else [])
         if parts and self.r.random() < 0.6:
             alone.add(alias)
@@ -330,7 +331,7 @@ def nodes(plan: Plan, known: set[str], repeated: bool = False) -> Iterator[Plan]
 # A query that isn't run: it takes too long, or compares what has no equality.
 NOT_RUN = (psycopg.errors.QueryCanceled, psycopg.errors.FeatureNotSupported, psycopg.errors.UndefinedFunction,
            psycopg.errors.DatatypeMismatch)
-# A query, and what it reads that is known.
+# A query, and the known tables and parts that it reads.
 Asked = Tuple[str, Set[str]]
 
 

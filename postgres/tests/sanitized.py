@@ -22,14 +22,14 @@ sys.path[:0] = [str(HERE.parent)]
 from installed import SETTINGS, Alone, lay_server
 
 FLAGS = "-fno-sanitize=alignment -fno-sanitize-recover=undefined"
-# AddressSanitizer begins at the first malloc, looks for this name then, and asks why it isn't there, in the language of
-# the user. Where that malloc is one of the C library's own translations, their lock is given back twice, and whoever
-# takes it next waits for good.
+# AddressSanitizer starts at the first malloc and looks for this function. If it is missing, it asks for the error's
+# text, which is translated. If the first malloc is itself of the C library's translations, their lock is then released
+# twice, and whoever takes it next waits forever.
 DEMANGLES_NOTHING = "char *swift_demangle(void) { return 0; }"
 
 
 def libraries(root: str) -> str:
-    """What PostgreSQL is started below."""
+    """The libraries that are loaded before PostgreSQL."""
     words = ["gcc", "-print-file-name=libasan.so"]
     sanitizer = subprocess.run(words, check=True, text=True, stdout=subprocess.PIPE).stdout.strip()
     own = os.path.join(root, "demangles_nothing.so")

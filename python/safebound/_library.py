@@ -174,7 +174,9 @@ def array_of(element: Any, parts: Sequence[Any]) -> Any:
 
 
 def call(name: str, given: list[Any], element: Any, room: int) -> tuple[int, int, Any]:
-    """Calls with so much room for elements, and with more where more is needed. Its status, detail and room."""
+    """Calls a function with room for so many elements, and again with more if it needs more. Returns its status, its
+    detail and the array.
+    """
     function = _function(name)
     while True:
         into, detail = (element * room)(), _Number()
@@ -185,14 +187,14 @@ def call(name: str, given: list[Any], element: Any, room: int) -> tuple[int, int
 
 
 def ask(name: str, given: list[Any]) -> tuple[int, int]:
-    """Calls what answers a number. Its status and the number."""
+    """Calls a function that answers a number. Returns its status and the number."""
     detail = _Number()
     status = _function(name)(*given, ctypes.byref(detail))
     return status, detail.value
 
 
 def raise_for(status: int, detail: int) -> None:
-    """Raises what a status says, but for OK."""
+    """Raises the exception that a status stands for; nothing for OK."""
     if status == Status.OK:
         return
     if status == Status.NO_MEMORY:

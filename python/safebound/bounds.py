@@ -23,7 +23,7 @@ def rows_text(bound: Optional[int]) -> object:
 class Bounds(Mapping[FrozenSet[str], Optional[int]]):
     """The bounds of all sets of a query's entries, in rows: `bounds[{"film", "person"}]`. None where no bound is known.
 
-    A set is given as any collection of names. A text isn't one: it would be read by its characters.
+    A set is given as any collection of names. A text is refused: it would be read by its characters.
 
     >>> bounds = Bounds(["r", "s"], [1, 6, 5, 12])
     >>> bounds[["s", "r"]]

@@ -18,7 +18,7 @@ LEAST_OUT, LEAST_NOTES, GROWS = 65536, 4096, 8
 
 Text = Union[str, bytes, bytearray, memoryview]
 
-# A mapping is of one type of keys alone: this takes each that is a text.
+# Mapping is invariant in the type of its keys. With this type variable it may have texts or bytes as keys.
 _Name = TypeVar("_Name", str, bytes)
 
 
@@ -55,9 +55,9 @@ def _library() -> ctypes.CDLL:
 
 
 def _text(value: Any, what: str) -> _Text:
-    """The bytes of a text where they lie.
+    """The bytes of a text, as the library takes them.
 
-    The structure keeps them. `bytes` would make a text of a list of numbers too.
+    The structure keeps the bytes alive. Other types are refused, since `bytes` would take a list of numbers too.
     """
     if not isinstance(value, (str, bytes, bytearray, memoryview)):
         raise errors.WrongType(f"{what} is {value!r:.60}, and not a text or bytes")
@@ -81,7 +81,8 @@ def run(words: Iterable[Text], files: Mapping[_Name, Text]) -> Output:
     """Runs the program over files in memory.
 
     The words are those of its command line, without its own name; files go by the names by which words and tables ask
-    for them. Both texts, the statuses and the limits are the program's: docs/USING.md and docs/ERRORS.md say them.
+    for them. What is printed, the statuses and the limits are those of the program: see docs/USING.md and
+    docs/ERRORS.md.
 
     >>> files = {
     ...     "schema.sql": "CREATE TABLE R (X INTEGER NOT NULL); CREATE TABLE S (X INTEGER NOT NULL)",
@@ -115,7 +116,7 @@ def run(words: Iterable[Text], files: Mapping[_Name, Text]) -> Output:
             word_array, len(given), file_array, len(named), out, room, notes, notes_room,
             ctypes.byref(length), ctypes.byref(notes_length)
         )
-        # A line that finds too little room is cut at any status.
+        # At any status a line may have been cut, if there was too little room for it.
         is_cut = notes_length.value == notes_room
         if not is_cut and not (status == WRITE_FAULT and length.value == room):
             return Output(status, ctypes.string_at(out, length.value), ctypes.string_at(notes, notes_length.value))
@@ -165,7 +166,7 @@ def append_stats(schema: Text, stats: Text, table: str, rows: Text) -> bytes:
     """The text of a statistics file with new rows of one of its tables, without the rows that were there before.
 
     Where the file stood for its tables, the new one stands for them with the new rows: no bound of a plan from it is
-    too low for the grown table. Keys are looked at among the new rows alone.
+    too low for the grown table. PRIMARY KEY and UNIQUE are checked among the new rows alone.
 
     >>> schema = "CREATE TABLE R (X INTEGER NOT NULL)"
     >>> files = {"schema": schema, "query": "SELECT X FROM R", "r.csv": "X\\n1\\n2\\n"}

@@ -100,8 +100,8 @@ def append(runs: Runs, others: Runs) -> list[Run]:
 def lesser(runs: Runs, others: Runs) -> list[Run]:
     """A list for the rows that satisfy two conditions (AND), from a list of those that satisfy each.
 
-    At each rank its degrees sum, from the first on, to the lesser of what those of the two lists sum to. The lesser
-    degree at each rank would be too low.
+    At each rank its running sum of degrees is the lesser of the running sums of the two lists. The lesser degree at
+    each rank would be too low.
 
     Args:
         runs: pairs of a degree and a number of keys, as for `compress`.
@@ -151,7 +151,7 @@ def cut(runs: Runs, rows: SupportsIndex) -> list[Run]:
         rows: how many rows there are at most.
 
     Returns:
-        The degrees of the list as far as they sum to that number, and then what is left of it.
+        The first degrees of the list, as long as they sum to at most that number, and one for what is left of it.
 
     Raises:
         BadRows: the number isn't from 0 to 2**64 - 1.
@@ -212,7 +212,7 @@ def _pair(run: Any, place: int, head: str) -> tuple[Any, Any]:
 
 
 def _of_both(name: str, runs: Runs, others: Runs, times: int) -> list[Run]:
-    """What a call makes of two lists: at most so many times as many runs as both have."""
+    """What a call makes of two lists: at most `times` as many runs as both lists have."""
     first, second = encoded(runs), encoded(others, BadOtherRun)
     return _runs_of(name, [first, len(first), second, len(second)], times * (len(first) + len(second)), first, second)
 

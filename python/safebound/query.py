@@ -25,7 +25,7 @@ __all__ = ["NO_VALUES", "Column", "Query"]
 
 Column = Tuple[str, Hashable]
 
-# Mappings are of one type of keys alone: these take each that is a name or a column.
+# Mapping is invariant in the type of its keys. With these type variables keys of a subtype are taken too.
 _Name = TypeVar("_Name", bound=str)
 _Column = TypeVar("_Column", bound=Column)
 
@@ -53,7 +53,7 @@ NO_VALUES = _NoValues()
 
 
 def _column(value: Any, where: str) -> Column:
-    """A column as it was given. A text is none: it would be read by its characters."""
+    """A column as it was given. A text is refused: its characters would be read as the pair."""
     if isinstance(value, (str, bytes)) or not isinstance(value, SomeSequence) or len(value) != 2:
         raise WrongType(f"{where} is {value!r}, and not a pair of an entry and a name of its column")
     return (value[0], value[1])
@@ -81,7 +81,7 @@ class Query:
             column in which no row has a value the list is `NO_VALUES`; an empty one is taken for forgotten, unless the
             row bound is 0.
 
-    A query isn't changed once it is made. Two are equal where all of this is.
+    A query doesn't change once it is made. Two queries are equal if all of these are.
 
     Raises:
         WrongType: a text where names or columns belong, a number that isn't whole, and the like.
@@ -319,9 +319,9 @@ class Query:
         """The bounds of all sets of entries.
 
         Args:
-            limit: the most work that is done. It is counted before it begins: for each set, and for each of at most 16
-                ways in which it is looked at where equalities close a cycle, 1 and the runs of both lists of each of
-                its equalities.
+            limit: the most work that may be done. The work is computed before any of it is done. A set is looked at in
+                as many turns as it has equalities, but at least in one and at most in 16. Each turn costs 1, and 1 for
+                each run of both lists of each equality of the set.
 
         Returns:
             A mapping from each of the 2**n sets of names to a number of rows: at most so many choices of one row of
@@ -341,10 +341,13 @@ class Query:
         return Bounds(self.entries, list(self._asked("bounds_within", [*self._given(), number])))
 
     def bound_of(self, entries: Collection[str]) -> Optional[int]:
-        """The bound of one set of entries alone, which `bounds()` has there too, in the time of this set.
+        """The bound of one set of entries, the same as in `bounds()`. It takes the time of this set alone.
 
         Args:
-            entries: a collection of names, such as `query.entries` for all. None where no bound is known.
+            entries: a collection of names, such as `query.entries` for all.
+
+        Returns:
+            A number of rows, or None where no bound is known.
 
         Raises:
             KeyError: a name is of no entry.
@@ -368,7 +371,8 @@ class Query:
     def best_order(self, budget: SupportsIndex) -> Order:
         """The best left-deep order.
 
-        It has the least greatest level; of such orders the least sum of levels; of these it is the first by `entries`.
+        Its greatest level is the least that an order can have. Of such orders it has the least sum of levels, and of
+        those it is the first by the places of its entries in `entries`.
 
         Args:
             budget: the most rows that the bound of a level may say, 0 to 2**59.
@@ -384,7 +388,9 @@ class Query:
         return order
 
     def best_tree(self, budget: SupportsIndex) -> Tree:
-        """The best join tree of any shape: the least greatest bound of its joins, then their least sum.
+        """The best join tree of any shape.
+
+        The greatest bound of its joins is the least that a tree can have. Of such trees it has the least sum of bounds.
 
         Args:
             budget: the most rows that the bound of a join may say, 0 to 2**59.

@@ -34,10 +34,10 @@ PARTS = {
     "memory-limit": "buffers",
 }
 
-# What comes up where a file has changed since the program read it, or is too deep or too long to be read here.
+# Exceptions that come up if a file has changed since the program read it, or is nested too deeply or is too long here.
 UNEXPLAINED = (OSError, LookupError, ValueError, StopIteration, RecursionError, MemoryError, csv.Error)
 PROPOSING = ("run", "plan", "audit", "stats", "picture")
-# How a line begins that is there to be pasted: it stays whole.
+# Lines that begin so are there to be pasted, and aren't wrapped.
 TO_PASTE = ("    safebound ", "    mv ", "    echo ")
 
 
@@ -71,7 +71,7 @@ class Run:
         return shlex.quote(os.path.relpath(file, self.before) if self.before else file)
 
     def line_without_schema(self, query: str | None = None) -> str:
-        """A line of its own, to paste: the command with a query alone, and the folder where the user is."""
+        """A line to paste: the command with a query and no schema, and with the folder of the tables as `--data`."""
         command = self.command if self.command in PROPOSING else "run"
         return (
             f"\n    safebound {command} {plain(shlex.quote(query or self.query_file))} --data"

@@ -10,7 +10,7 @@ from . import read
 from ..faults import fault_of
 from ..near import listed
 from ..program import answer
-from ..query import equality, groups
+from ..query import components, equality
 from ..table import ACCURACY, BUDGET, BUSHY, COUNT, KEYS, MOST_BUDGET, MOST_BUDGET_OF_A_TREE, REDUCE, USUAL_BUDGET
 from ..terminal import saying
 from ..words import option_of
@@ -55,7 +55,7 @@ def most_of(run: Run) -> int:
 def not_connected(run: Run) -> str:
     """A sentence where no equality connects all entries: that is mostly a condition that was forgotten."""
     query = run.query
-    found = groups(query, run.schema)
+    found = components(query, run.schema)
     if len(found) < 2:
         return ""
     named = [listed(query.entries[i].name for i in group) for group in found]
@@ -156,7 +156,7 @@ def refers(run: Run) -> bool:
 
 
 def other_sources(run: Run) -> list[tuple[str, tuple[str | None, Option | None]]]:
-    """What bounds may be made from in place of what the words ask for. Beside counting nothing lowers them."""
+    """Options that may lower the bounds, each with its name. With `--count` no other one does."""
     if has(run, COUNT):
         return []
     is_close = int(option_of(run.words, ACCURACY.word) or 1) >= int(CLOSER)
@@ -173,7 +173,7 @@ def other_sources(run: Run) -> list[tuple[str, tuple[str | None, Option | None]]
 
 
 def tried(run: Run, budget: int, apart: str) -> list[str]:
-    """What the other options come to, and what else there is to do."""
+    """The least budget or the bounds with other options, and what else the user can do."""
     ways = other_sources(run)
     if not has(run, BUSHY) and len(run.query.entries) > 3 and budget <= MOST_BUDGET_OF_A_TREE:
         ways.append((f"With {BUSHY.word}", (None, BUSHY)))

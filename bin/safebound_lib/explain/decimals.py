@@ -8,7 +8,7 @@ from safebound.decimals import digits_of, first_decimal, scale_of, scaled
 from safebound.sql_texts import name_of, typed_name, written_name
 
 from .. import decimals
-from ..query import Literal, Reference, found_of, visible
+from ..query import Literal, Reference, resolved, visible
 from ..spot import plain
 
 if TYPE_CHECKING:
@@ -64,7 +64,7 @@ def said(query: Query, schema: Schema, beside: Reference, number: str, sign: str
     column as a number, or its table's file can't be read or has no decimals there.
     """
     from ..sheets import NoTable, sheet_of
-    _, table, column = found_of(query, beside, schema)
+    _, table, column = resolved(query, beside, schema)
     if column.is_number or not os.path.isfile(table.file):
         return []
     word = run.path_of(table.file)

@@ -12,9 +12,9 @@ from .decimals import of_decimals
 from .query_advice import CERTAIN, GUESSES
 from .reads import missing_table
 from .texts import accented, advised, bad_character, marked, no_text, place_of, quotes_for
-from ..convert import packed
+from ..convert import not_text_message
 from ..near import hint, listed, nearest
-from ..query import Literal, Reference, found_of, visible
+from ..query import Literal, Reference, resolved, visible
 from ..records import records
 from ..spot import plain
 
@@ -47,8 +47,8 @@ def no_query(run: Run, data: bytes) -> list[str]:
     """Where a table's file stands in the place of the query's."""
     if not run.query_file.lower().endswith(".csv"):
         return []
-    if packed(data):
-        return [f"{plain(run.query_file)} {packed(data)}."]
+    if not_text_message(data):
+        return [f"{plain(run.query_file)} {not_text_message(data)}."]
     table = os.path.basename(run.query_file)[:-4].upper()
     return [
         (
@@ -74,14 +74,14 @@ def of_a_proposal(fault: Fault, query: Query, schema: Schema, run: Run) -> list[
 
 
 def odd_value(query: Query, schema: Schema, at: int) -> list[str]:
-    """Where a number is compared with a column that nearly all values would make a number: the value that doesn't."""
+    """If a number is compared with a column in which nearly all values are numbers: sentences on a value that isn't."""
     from ..sheets import of_values, sheet_of
     test = next(t for t in query.tests if any(o.token.start == at for o in t.operands[1:]))
     other = next(o for o in test.operands[1:] if o.token.start == at)
     literal, beside = (other, test.operands[0]) if isinstance(other, Literal) else (test.operands[0], other)
     if not isinstance(literal, Literal) or not literal.is_number or not isinstance(beside, Reference):
         return []
-    entry, table, column = found_of(query, beside, schema)
+    entry, table, column = resolved(query, beside, schema)
     found = next((c for c in sheet_of(table.file, table.file).columns if c.name == written_name(column.name)), None)
     if found is None or found.odd is None and not found.has_gaps:
         return []
@@ -335,12 +335,12 @@ def side(query: Query, operand: Literal | Reference, schema: Schema) -> str:
     if isinstance(operand, Literal):
         shown = "".join(plain(token.source) for token in operand.tokens)
         return f"{shown} is a number" if operand.is_number else f"{shown} is a text"
-    entry, _, column = found_of(query, operand, schema)
+    entry, _, column = resolved(query, operand, schema)
     return f"{plain(entry.name)}.{plain(column.name)} is {column.type}"
 
 
 def mended(query: Query, left: Literal | Reference, other: Literal | Reference, schema: Schema) -> list[str]:
-    """How the literal of the two is written as the other one's kind."""
+    """How to write the literal so that it is of the other operand's kind."""
     if isinstance(left, Reference) and isinstance(other, Reference):
         return [of_the_kind(query, left, other, schema)]
     literal, beside = (other, left) if isinstance(other, Literal) else (left, other)
@@ -356,7 +356,7 @@ def mended(query: Query, left: Literal | Reference, other: Literal | Reference, 
 
 def of_the_kind(query: Query, left: Reference, other: Reference, schema: Schema) -> str:
     """The columns of the right entry that can be compared with the left one."""
-    (_, _, column), (entry, table, _) = found_of(query, left, schema), found_of(query, other, schema)
+    (_, _, column), (entry, table, _) = resolved(query, left, schema), resolved(query, other, schema)
     fitting = [f"{plain(entry.name)}.{plain(c.name)}" for c in table.columns if c.is_number == column.is_number]
     kind_there = "numbers" if column.is_number else "texts"
     return (

@@ -205,7 +205,7 @@ def wrong_quotes(place: Place) -> str | None:
 
 
 def order(place: Place) -> str | None:
-    """ORDER BY, with the columns that it names as the words of sort."""
+    """For ORDER BY: the options with which `sort` sorts by its columns."""
     if place.word() != "ORDER" or place.word(1) != "BY":
         return None
     keys, item = [], []
@@ -226,7 +226,7 @@ def order(place: Place) -> str | None:
 
 
 def sort_key(item: list[Token], outs: tuple[tuple[set[str], bool], ...]) -> tuple[str, str]:
-    """The name that stands in ORDER BY, and the words of sort for it: nothing where no output column has it."""
+    """The name in ORDER BY, and the option of `sort` for it; "" if no output column has this name."""
     down = any(token.word == "DESC" for token in item)
     named = [token for token in item if token.is_name or token.kind == "number"]
     if not named:

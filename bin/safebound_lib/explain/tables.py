@@ -8,7 +8,7 @@ from safebound.sql_texts import LEAST_NUMBER, MOST_NUMBER, folded, number_of
 
 from . import read
 from .texts import convert_line, how_to_convert
-from ..convert import packed
+from ..convert import not_text_message
 from ..near import listed, nearest
 from ..records import chosen, column_place, left_open, records
 from ..spot import cut, plain, spot
@@ -32,8 +32,8 @@ def explain(fault: Fault, run: Run) -> list[str]:
     table = next(filter(is_it, schema.tables))
     says = {"utf8": utf8, "header": header, "width": width, "field": field, "key": key}[fault.cause]
     data = read(fault.file)
-    if packed(data):
-        return [f"{fault.file} {packed(data)}."]
+    if not_text_message(data):
+        return [f"{fault.file} {not_text_message(data)}."]
     return says(table, fault, data, run)
 
 

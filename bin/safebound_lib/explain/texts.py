@@ -9,7 +9,7 @@ from dataclasses import dataclass
 from collections.abc import Callable
 from typing import Optional, Tuple, TYPE_CHECKING
 
-from ..convert import packed
+from ..convert import not_text_message
 from ..near import hint, listed
 from ..spot import plain, spot
 from ..tokens import Token
@@ -64,9 +64,9 @@ class Place:
     tokens: list[Token]
     at: int
     tested: tuple[str, ...]
-    # Where the text goes wrong, and at which token the grammar alone does.
+    # Whether the grammar goes wrong at this very token.
     is_grammar: bool = True
-    # The output columns of a query, for ORDER BY: the names of each, and whether it is a number.
+    # For ORDER BY: the names of each output column of the query, and whether it is a number.
     outs: tuple[tuple[set[str], bool], ...] = ()
 
     def token(self, ahead: int = 0) -> Token:
@@ -91,7 +91,9 @@ def place_of(read: Query | Schema, at: int) -> Place:
 
 
 def marked(file: str, data: bytes, read: Query | Schema, at: int, length: int) -> str:
-    """The place of a text: a name with its accents whole, and the end of a text behind its last token."""
+    """The place in a text, with a mark below it. A name with accents is marked whole. The end of the text is marked
+    right behind its last token.
+    """
     name = accented(data, read.tokens, at)
     if name:
         return spot(file, data, at - name.offset, name.length)
@@ -117,7 +119,7 @@ def is_letter(c: str) -> bool:
 
 
 def accented(data: bytes, tokens: list[Token], at: int) -> Accented | None:
-    """The whole name that another letter than A to Z at this byte belongs to, or nothing."""
+    """If a letter other than A to Z is at this byte: the whole name around it, else nothing."""
     number = next((i for i, token in enumerate(tokens) if token.kind == "bad" and token.start == at), None)
     if number is None or not (tokens[number].source[:1].isalpha() or unicodedata.combining(tokens[number].source[:1])):
         return None
@@ -152,8 +154,8 @@ def no_text(file: str, data: bytes, at: int, run: Run) -> list[str] | None:
 
 def how_to_convert(data: bytes, file: str, run: Run) -> str:
     """The command that writes a file in UTF-8."""
-    if packed(data):
-        return f"The file {packed(data)}."
+    if not_text_message(data):
+        return f"The file {not_text_message(data)}."
     is_wide = data[:2] in (b"\xff\xfe", b"\xfe\xff")
     looks = (
         "The file looks like UTF-16, as Excel writes its Unicode texts" if is_wide
@@ -168,7 +170,7 @@ def convert_line(file: str, run: Run) -> str:
 
 
 def bad_character(place: Place) -> str:
-    """What to do about a place that begins no token."""
+    """What to do about a place where no token begins."""
     token = place.token()
     first = token.source[:1]
     if token.source[:2] in JOINERS:

@@ -1,4 +1,4 @@
-"""Wrong bodies: each is an edit that a test has to fail for, on the engine where it can be seen."""
+"""Mutants of the program: each is made by one wrong edit, and a test has to fail, on the engine where that shows."""
 
 from __future__ import annotations
 
@@ -19,7 +19,7 @@ PACKAGE = Path(__file__).resolve().parents[1] / "safebound_sql"
 class Edit:
     """What goes wrong, in which file, by which edit, and the test that fails.
 
-    The gate tries those with which a bound could be too low or a row wrong, where no other one of them is like it.
+    With `gate` the gate tries it too: a bound could be too low or a row wrong, and no other one of these is like it.
     """
 
     name: str
@@ -141,12 +141,13 @@ EDITS = [
          "test_corners.CornersOfPostgres.test_operators_of_the_users_own"),
     Edit("files are tables like others", "postgres.py", "h.proname IS DISTINCT FROM 'postgres_fdw_handler'", "false",
          "test_corners.CornersOfPostgres.test_tables_without_snapshots"),
-    Edit("a date is what is in parentheses", "sqlite.py", "return not dates or not all(", "return False and not all(",
+    Edit("date functions that may read the clock are taken", "sqlite.py",
+         "return not dates or not all(", "return False and not all(",
          "test_corners.CornersOfSqlite.test_dates"),
     Edit("a stored 'now' isn't looked for", "meaning.py", "if named is None or self.catalog.holds_now(",
          "if named is None or False and self.catalog.holds_now(",
          "test_corners.CornersOfSqlite.test_dates"),
-    Edit("a text is no alias", "sqlite.py",
+    Edit("a text in quotes is no alias", "sqlite.py",
          'return self.connection.names(f"SELECT * FROM ({sql}\\n) LIMIT 0")',
          "return []", "test_corners.CornersOfSqlite.test_aliases_as_texts"),
     Edit("a name with a bracket is a text", "sqlite.py", """if token.text[0] == '"'}""",
@@ -160,7 +161,7 @@ EDITS = [
     Edit("columns that may not be read are carried", "postgres.py",
          " AND has_column_privilege(a.attrelid, a.attnum, 'SELECT')", "",
          "test_ends.EndsOfPostgres.test_rights_on_columns"),
-    Edit("rows above a bound are nothing to speak of", "command.py",
+    Edit("rows above a bound aren't reported", "command.py",
          "        if rows > level.bound:\n            raise AboveBound(number, rows, level.bound)\n", "        pass\n",
          "test_ends.EndsOfPostgres.test_rows_above_a_bound"),
     Edit("rows without a partner aren't counted", "block_bounds.py", '"LEFT": matched + kinds', '"LEFT": matched',
@@ -168,7 +169,8 @@ EDITS = [
     Edit("the right side's rows are those with a partner", "block_bounds.py", '"RIGHT": matched + alone',
          '"RIGHT": matched',
          "test_blocks.Blocks.test_outer_joins"),
-    Edit("a condition on a missing entry is its own", "block.py", "settled = entries <= set(self.reorderable) and",
+    Edit("a condition of WHERE on an outer join's entry is counted as its own", "block.py",
+         "settled = entries <= set(self.reorderable) and",
          "settled =",
          "test_blocks.Blocks.test_outer_joins"),
     Edit("a value of a query in FROM stands there once", "block_bounds.py", "[(1, rows) if once else (rows, 1)]",
@@ -177,7 +179,7 @@ EDITS = [
     Edit("UNION has the rows of one side", "block_plans.py", 'total = sum(rows) if first == "UNION"',
          'total = rows[0] if first == "UNION"',
          "test_blocks.BlocksOnPostgres.test_queries_in_from_and_with"),
-    Edit("an entry of a block outside is no other's", "block.py",
+    Edit("a condition that names a block outside is one of this block alone", "block.py",
          "        outer = self.names_outside(piece)\n        settled", "        outer = False\n        settled",
          "test_blocks.Blocks.test_subqueries"),
     Edit("an anti-join is an inner join", "unreached.py", "for token in _no_inner_joins(pieces):", "for token in ():",
@@ -270,16 +272,17 @@ EDITS = [
     Edit("entries under no condition send all of their values", "servers.py",
          "for other in others if other in limited]", "for other in others]",
          "test_cluster.TheShop.test_entries_under_no_condition_tell_nothing_at_first"),
-    Edit("entries under no condition never tell anything", "servers.py", "        if silent:\n", "        if False:\n",
+    Edit("entries under no condition never send their values", "servers.py",
+         "        if silent:\n", "        if False:\n",
          "test_cluster.OtherTables.test_entries_under_no_condition_tell_in_the_end"),
-    Edit("what was left at first is all that goes along", "servers.py",
+    Edit("the values that were left at first are sent, and not the fewer later ones", "servers.py",
          "self.among[entry][other] = self._among(entry, other, joined[entry][other])",
          "self.among[entry].setdefault(other, self._among(entry, other, joined[entry][other]))",
          "test_cluster.OtherTables.test_entries_under_no_condition_tell_in_the_end"),
     Edit("values of two columns needn't be of one row", "servers.py",
          "return tested if len(tested) == 1 else tested + [exact]", "return tested",
          "test_cluster.OtherTables.test_two_equalities_of_the_same_entries"),
-    Edit("an entry's own condition isn't of what it tells", "servers.py",
+    Edit("an entry sends its values without its own condition", "servers.py",
          "return own_conditions(self.query.entries[entry]) + [", "return [", "test_cluster.OtherTables.test_cycles"),
     Edit("rows that are taken for few are joined by nested loops", "postgres.py",
          "enable_nestloop = off", "enable_nestloop = on",
@@ -322,12 +325,12 @@ EDITS = [
          "test_counted.NotCounted.test_equal_values_that_differ"),
     Edit("an entry's rows are counted without its condition", "counted.py", "where([] if rows else conditions)",
          "where([])", "test_counted.NotCounted.test_without_semi_joins"),
-    Edit("bounds are what is counted, though others are less", "counted.py", "min(level.bound, choices)",
+    Edit("a counted bound takes the place of a lower one", "counted.py", "min(level.bound, choices)",
          "max(level.bound, choices)", "test_counted.Examples.test_cycles"),
     Edit("the budget is looked at before anything is counted", "planner.py",
          "plan = self.plan(accuracy, MOST_BUDGET, tree)", "plan = self.plan(accuracy, budget, tree)",
          "test_counted.Commands.test_budgets"),
-    Edit("SQLite counts", "command.py", "if count and not engine.dialect.counts_exactly:", "if False:",
+    Edit("SQLite counts choices", "command.py", "if count and not engine.dialect.counts_exactly:", "if False:",
          "test_counted.CommandsOfSqlite.test_it_isnt_for_sqlite"),
 ]
 
@@ -366,4 +369,4 @@ def _edited(edit: Edit, folder: Path) -> int:
 
 def _answer(edit: Edit, begin: float, wrong: str) -> Done:
     took = time.monotonic() - begin, sum(os.times()[:4])
-    return Done([Result(f"wrong body: {edit.name}", *took, "failed" if wrong else "ok", wrong)])
+    return Done([Result(f"mutant: {edit.name}", *took, "failed" if wrong else "ok", wrong)])
