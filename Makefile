@@ -87,7 +87,7 @@ test:
 	.ci/run
 
 # What the gate does behind its proofs, side by side, the longest first: each reads what was built, and writes into folders of its own.
-CHECKS := engines postgres library command install friendly browser differential process pages cases examples memory-there uncalled python release
+CHECKS := engines postgres library command install heads friendly browser differential process pages cases examples memory-there uncalled python release
 FEATURES := run,plan,audit,stats,append,many-entries,filters,words,accuracy,reduce,count,bushy,keys
 
 .PHONY: $(CHECKS:%=check-%)
@@ -100,6 +100,9 @@ checks:
 
 check-pages:
 	tools/check-docs
+	tools/check-places
+check-heads:
+	tools/check-heads --must
 check-memory-there:
 	tests/memory-there
 check-uncalled:
