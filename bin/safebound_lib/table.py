@@ -56,7 +56,7 @@ BUSHY = Option(
 )
 KEYS = Option(
     "--keys", None,
-    "carries conditions on a table to those that refer to its key; stands beside neither --reduce nor --bushy",
+    "carries conditions on a table to those that refer to its key; stands beside neither --reduce nor --count",
 )
 MEMORY = Option(
     "--memory", "N",

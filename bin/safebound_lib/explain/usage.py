@@ -166,9 +166,8 @@ def wrong_beside(seen: set[str]) -> str | None:
             f"{other} can't stand beside {COUNT.word}. {COUNT.word} reduces scans as {REDUCE.word} does, and counts"
             " over them: no list is compressed, and none is carried."
         )
-    if KEYS.word in seen and len(set(others) - {ACCURACY.word}) > 1:
-        other = next(word for word in others if word in (REDUCE.word, BUSHY.word))
-        return f"{other} can't stand beside {KEYS.word}. {KEYS.word} is for an order over whole tables."
+    if KEYS.word in seen and REDUCE.word in seen:
+        return f"{REDUCE.word} can't stand beside {KEYS.word}. {KEYS.word} is for plans over whole tables."
     return None
 
 

@@ -1,5 +1,5 @@
 -- The values of a command are in their ranges, and `demo` alone has a shop.
-use Rattle.std.proofs.Common.{◌≡◌, ◌≤◌, ◌&&◌, ◌||◌, ℕ, Bool, true, false, inl, inr, List, [], ◌∷◌, Option, None, Some, ap, sym, refl, ◌∙◌, subst, arith}
+use Rattle.std.proofs.Common.{◌≡◌, ◌≤◌, ◌&&◌, ℕ, Bool, true, false, inl, inr, List, [], ◌∷◌, Option, None, Some, ap, sym, refl, ◌∙◌, subst, arith}
 use Rattle.std.specs.Prelude.{nat_le, not, if◌then◌else◌, option_map}
 use Rattle.std.proofs.lemmas.Bool.{cases_Bool}
 use Rattle.std.proofs.lemmas.Bool.Decides.{nat_tests}
@@ -83,7 +83,7 @@ by_value (Some n) next r h is = h n is
 -- what the flags ask for, where these may stand together
 abbrev asked_together : OutText → Option ℕ → ℕ → ℕ → Bool → Bool → Bool → Bool → (Bool → Bool → Bool) → Word → Word → Option Command
 asked_together out memory b a s t k c alone schema query =
-    if k && (s || t) then None
+    if k && s then None
     else if c && not (alone s k) then None
     else if nat_le b (most_budget_of (shape_by t)) then Some (over_query None schema query (plan_work out b a (source_by s k c) t memory)) else None
 
@@ -99,7 +99,7 @@ values_in out memory (Some b) (Some a) (Some s) (Some t) (Some k) None by_itself
 values_in out memory (Some b) (Some a) (Some s) (Some t) (Some k) (Some c) by_itself schema query r close is =
     let work : Command = over_query None schema query (plan_work out b a (source_by s k c) t memory) in
     let asks : Option Command = if nat_le b (most_budget_of (shape_by t)) then Some work else None in
-    let alone = alone_asks (c && not (by_itself s k)) asks r (alone_asks (k && (s || t)) (if c && not (by_itself s k) then None else asks) r is) in
+    let alone = alone_asks (c && not (by_itself s k)) asks r (alone_asks (k && s) (if c && not (by_itself s k) then None else asks) r is) in
     let made = request_if (nat_le b (most_budget_of (shape_by t))) work r alone in
     subst IsAsked made.1 (of_store work refl (record {
       accuracy_least = omega (arith, (close a refl).0);

@@ -1,5 +1,5 @@
 -- One word more: what is asked for by what was collected and what is left stays the same, or nothing can be.
-use Rattle.std.proofs.Common.{◌≡◌, ℕ, ◌+◌, ◌<◌, ◌≤◌, ◌==◌, ◌&&◌, ◌||◌, not, nat_le, Bool, true, false, if◌then◌else◌, option_map, List, [], ◌∷◌, ◌++◌, length, map, drop, Option, Some, None, Result, Ok, Err, Bor, sym, refl, ap, ◌∙◌, append_assoc, append-nil, length-append, suc, zero, arith}
+use Rattle.std.proofs.Common.{◌≡◌, ℕ, ◌+◌, ◌<◌, ◌≤◌, ◌==◌, ◌&&◌, not, nat_le, Bool, true, false, if◌then◌else◌, option_map, List, [], ◌∷◌, ◌++◌, length, map, drop, Option, Some, None, Result, Ok, Err, Bor, sym, refl, ap, ◌∙◌, append_assoc, append-nil, length-append, suc, zero, arith}
 use Rattle.std.proofs.Math.Path.{fun_ext}
 use Rattle.std.proofs.lemmas.Bool.{false≢true, ne_eqb}
 use Rattle.std.proofs.lemmas.List.{drop_all}
@@ -227,7 +227,7 @@ set_once (suc (suc more)) many = refl
 -- the stages behind the budget
 module _ (out : OutText) (limit : Option ℕ) (a b : Word) (given : Given) where
   abbrev by_count : ℕ → ℕ → Bool → Bool → Bool → Bool → Option Command
-  by_count budget accuracy reduce bushy keys count = if keys && (reduce || bushy) then None
+  by_count budget accuracy reduce bushy keys count = if keys && reduce then None
       else if count && not (count_alone given reduce keys) then None
       else if nat_le budget (most_budget_of (shape_by bushy)) then Some (over_query None a b (plan_work out budget accuracy (source_by reduce keys count) bushy limit)) else None
 

@@ -103,7 +103,8 @@ None >>= rest = None
 abbrev pub count_alone : Given → Bool → Bool → Bool
 count_alone given reduce keys = not (reduce || (keys || not (length (given.values option.Accuracy) == 0)))
 
--- exactly two place words, SCHEMA and QUERY. With `--keys` no other flag is given. The budget is at most the greatest one for the plan's shape
+-- exactly two place words, SCHEMA and QUERY. At most one of `--reduce`, `--keys` and `--count` is given. The budget is at most the greatest one
+-- for the plan's shape
 abbrev pub over_schema_and_query : OutText → Option ℕ → List Word → Given → Option Command
 over_schema_and_query out limit (schema ∷ query ∷ []) given = do
   budget ← value_of option.Budget (given.values option.Budget)
@@ -112,7 +113,7 @@ over_schema_and_query out limit (schema ∷ query ∷ []) given = do
   bushy ← is_set (given.times flag.Bushy)
   keys ← is_set (given.times flag.Keys)
   count ← is_set (given.times flag.Count)
-  if keys && (reduce || bushy) then None
+  if keys && reduce then None
       else if count && not (count_alone given reduce keys) then None
       else if nat_le budget (most_budget_of (shape_by bushy))
       then Some (over_query None schema query (plan_work out budget accuracy (source_by reduce keys count) bushy limit))

@@ -106,14 +106,16 @@ pub fn small_keys()
         ≡ Some (over_query None (codes "s") (codes "q") (plan_by out_text.Nothing 20000000 1 false false true None)) }
     ensures between { command_of (codes "audit" ∷ codes "s" ∷ codes "--accuracy=8" ∷ codes "--keys" ∷ codes "q" ∷ codes "--memory=9" ∷ [])
         ≡ Some (over_query None (codes "s") (codes "q") (plan_by out_text.Audit 1000000 8 false false true (Some 9))) }
+    ensures tree { command_of (codes "plan" ∷ codes "--bushy" ∷ codes "s" ∷ codes "q" ∷ codes "--keys" ∷ [])
+        ≡ Some (over_query None (codes "s") (codes "q") (plan_by out_text.Nothing 1000000 1 false true true None)) }
+    ensures past_most { command_of (codes "run" ∷ codes "--keys" ∷ codes "--budget=4000001" ∷ codes "s" ∷ codes "q" ∷ codes "--bushy" ∷ []) ≡ None }
     ensures twice { command_of (codes "run" ∷ codes "--keys" ∷ codes "s" ∷ codes "q" ∷ codes "--keys" ∷ []) ≡ None }
     ensures value { command_of (codes "run" ∷ codes "s" ∷ codes "q" ∷ codes "--keys=1" ∷ []) ≡ None }
     ensures of_demo { command_of (codes "demo" ∷ codes "7" ∷ codes "--keys" ∷ []) ≡ None }
     ensures of_stats { command_of (codes "stats" ∷ codes "s" ∷ codes "q" ∷ codes "--keys" ∷ []) ≡ None }
 
-    // It stands beside no other way to a plan.
+    // It stands beside no other source.
     ensures reduced { command_of (codes "run" ∷ codes "--keys" ∷ codes "s" ∷ codes "q" ∷ codes "--reduce" ∷ []) ≡ None }
-    ensures tree { command_of (codes "plan" ∷ codes "--bushy" ∷ codes "s" ∷ codes "q" ∷ codes "--keys" ∷ []) ≡ None }
     ensures of_a_file { command_of (codes "plan" ∷ codes "s" ∷ codes "q" ∷ codes "--stats=f" ∷ codes "--keys" ∷ []) ≡ None }
 {}
 

@@ -91,7 +91,7 @@ fn over_files<'a>(out: OutText, line: &Line<'a>) -> Option<Command<'a>>
     };
     let budget = value_of(OptionName::Budget, line.budget)?;
     let accuracy = value_of(OptionName::Accuracy, line.accuracy)?;
-    if line.keys && (line.reduce || line.bushy) {
+    if line.keys && line.reduce {
         return None;
     }
     if line.count && (line.reduce || line.keys || line.accuracy.is_some()) {
