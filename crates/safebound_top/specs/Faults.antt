@@ -15,7 +15,7 @@ use Rattle.prepared_runs.specs.Verdict.{command_stage, schema_read}
 abbrev pub stats_file_of : Work → List ℕ
 stats_file_of (works.Plan task) = []
 stats_file_of (works.WriteStats accuracy) = []
-stats_file_of (works.PlanFromStats file budget memory) = file
+stats_file_of (works.PlanFromStats file terms) = file
 
 -- what a line names, where there is a command and a schema: the files of the command, and the schema's tables. Where rows are appended the
 -- command names the file of a table's rows

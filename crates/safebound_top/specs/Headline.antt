@@ -67,9 +67,10 @@ DoneIsExact call = call.status ≡ status.Done
 --    text of 1 prints for it; for `plan` too, though they are never listed. With `--bushy` the plan is a join tree, and each of its inner
 --    nodes stands for a level. Scans, levels and nodes are those of the query over whole tables. With `--reduce` a scan is the reduced one,
 --    which has exactly as many rows, and the rows of levels and nodes are from these. `--keys` makes bounds of levels lower, and not their
---    rows. The audit text of 1 prints the number of rows of each level or inner node beside its bound. With `--stats` scans and levels are
---    those over all tables for which the statistics file stands, whatever wrote it. The file that `stats` writes stands for the tables that
---    were read; and for whatever tables a file stands, the one that `append` makes of it stands for these with the new rows after them.
+--    rows. The audit text of 1 prints the number of rows of each level or inner node beside its bound. With `--stats` scans, levels and
+--    nodes are those over all tables for which the statistics file stands, whatever wrote it. The file that `stats` writes stands for the
+--    tables that were read; and for whatever tables a file stands, the one that `append` makes of it stands for these with the new rows after
+--    them.
 abbrev pub EveryBoundHolds : Call → Type 0
 EveryBoundHolds call = OverFiles call (λ files v. IfOk v NoBoundIsTooLow)
 
