@@ -409,6 +409,8 @@ STATISTICS = [
     stats("error stats missing 0", b"safebound-stats 1 1\nend\n", "needs statistics that old.stats doesn't have", "Make it anew"),
     stats("error read old.stats", None, "There is no file old.stats"),
     usage("plan schema.sql query.sql --stats old.stats --accuracy 3", "--accuracy can't stand beside --stats"),
+    usage("plan schema.sql query.sql --stats old.stats --reduce --bushy", "--reduce can't stand beside --stats"),
+    usage("plan schema.sql query.sql --stats old.stats --bushy --budget 4000001", "from 1 to 4,000,000"),
     usage("plan schema.sql query.sql --stats=-", "has the value -", "the name of a file"),
     usage("run schema.sql query.sql --stats old.stats", "run has no option --stats"),
 ]

@@ -154,14 +154,14 @@ def unknown(command: Command, word: str, behind: str) -> str:
 
 def wrong_beside(seen: set[str]) -> str | None:
     """Which options can't stand beside each other, if some do."""
-    others = [option.word for option in (ACCURACY, REDUCE, COUNT, BUSHY, KEYS) if option.word in seen]
+    others = [option.word for option in (ACCURACY, REDUCE, COUNT, KEYS) if option.word in seen]
     if STATS.word in seen and others:
         return (
             f"{others[0]} can't stand beside {STATS.word}: a statistics file has its own accuracy, and tells of whole"
             " tables."
         )
-    if COUNT.word in seen and set(others) - {COUNT.word, BUSHY.word}:
-        other = next(word for word in others if word not in (COUNT.word, BUSHY.word))
+    if COUNT.word in seen and len(others) > 1:
+        other = next(word for word in others if word != COUNT.word)
         return (
             f"{other} can't stand beside {COUNT.word}. {COUNT.word} reduces scans as {REDUCE.word} does, and counts"
             " over them: no list is compressed, and none is carried."
