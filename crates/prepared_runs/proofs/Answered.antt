@@ -88,7 +88,7 @@ module _ (next : AnyPlan → Result RunOutcome Refusal) where
   plan_tells answer plan.PastBits (inl e) = cc
   plan_tells answer plan.PastBits (inr e) = (ap (λ (r : Result AnyPlan PlanError). told plan_refusal r >>= next) e, (λ file h. cc), (λ h. cc))
 
--- a plan that is made is refused for its bytes alone
+-- a plan within the budget is refused only if its bytes are past the limit of memory
 module _ (limit : Option ℕ) (outcome : AnyPlan → RunOutcome) (answer : Result AnyPlan PlanError) where
   abbrev limited : AnyPlan → Result RunOutcome Refusal
   limited p = within_limit limit (shape_bytes p) (outcome p)

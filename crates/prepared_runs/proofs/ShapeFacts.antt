@@ -76,7 +76,7 @@ unfolding planned_by
 planned_known shape given accuracy budget known gives =
     ap (λ (s : List ℕ). answer_of shape s known.scans budget) gives.sets ∙ ap (λ (s : List ℕ). answer_of shape (given.sets accuracy) s budget) gives.scans
 
--- it is one for as many entries as there are bounds of scans
+-- a plan that is answered joins as many entries as there are bounds of scans
 pub answer_is_plan : (shape : Shape) (sets scans : List ℕ) (n budget : ℕ) → length scans ≡ n → 1 ≤ n → n ≤ 12 → (plan : AnyPlan)
     → answer_of shape sets scans budget ≡ Ok plan → IsShapedPlan n plan
 answer_is_plan shapes.Order sets scans n budget long some few plan made =
@@ -96,7 +96,7 @@ pub record Fits (query : Query) (tables : Tables) (lists : List (List ℕ)) (mad
   pub scans : (entry : ℕ) → entry < length query.from → rows_listed lists entry ≤ get_or (scan_bounds made) entry 0
   pub parts : (k : ℕ) → k < part_count made → length (part_rows query tables lists made k) ≤ part_bound made k
 
--- so is a plan over these lists
+-- that holds of each plan over the lists
 pub over_so : (query : Query) (tables : Tables) (lists : List (List ℕ)) (plan : AnyPlan) → IsPlanOver query tables lists plan → Fits query tables lists plan
 over_so query tables lists (shaped.OrderPlan plan) of = record {
   plan = of.for_each_entry;

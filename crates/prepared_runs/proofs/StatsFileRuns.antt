@@ -94,7 +94,7 @@ module _ (schema : Schema) (query : Query) (of : IsOf schema query) (stats : Sta
   its : IsFile stats
   its = record { schema = schema; keeps = keeps }
 
-  -- for all tables for which the file stands
+  -- no bound of the plan is too low for tables for which the file stands
   holds : first_missing query stats ≡ None → (plan : AnyPlan) → plan_from_file_asked terms query stats ≡ Ok plan → HoldsWhereItStands (made_of plan)
   holds none plan made tables stands =
       answer_over query tables (sourced_of_file query stats tables) (file_is_source query stats own its none tables stands) 1 terms.budget

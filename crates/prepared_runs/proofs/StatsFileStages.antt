@@ -85,19 +85,19 @@ module _ (terms : PlanTerms) (query : Query) (stats : StatsFile) where
   abbrev plan_of : Result RunOutcome Refusal
   plan_of = planned_within terms.memory (made_from_file terms query stats) (plan_from_file_asked terms query stats)
 
-  -- where all that is needed is there
+  -- if nothing is missing, the stage is the plan within the limit of memory
   pub all_there : first_missing query stats ≡ None
       → stats_file_plan_stage terms query stats ≡ planned_within terms.memory (made_from_file terms query stats) (plan_from_file_asked terms query stats)
   unfolding stats_file_plan_stage
   all_there none = ap (λ (o : Option ℕ). unless_missing o >>= λ there. plan_of) none
 
-  -- and where it isn't, or memory is wanting
+  -- if something is missing or memory runs out, the stage ends as the reading does
   pub need_told : (e : NeedError) → IsNeedCause query stats e → StopsBy (stats_file_plan_stage terms query stats) (need_ending e)
   unfolding stats_file_plan_stage
   need_told (need.Missing from) is = (ap (λ (o : Option ℕ). unless_missing o >>= λ there. plan_of) is, (λ file h. cc), (λ h. cc))
   need_told need.NoMemory is = tt
 
-  -- by bounds that are known the answer is the plan
+  -- the plan by known bounds is the one that is asked for, if these are the file's bounds
   pub asked_known : (known : Known) → HasBounds (set_bounds_of_file query stats) (scan_bounds_of_file query stats) known
       → answer_of terms.shape known.sets known.scans terms.budget ≡ plan_from_file_asked terms query stats
   asked_known known gives =

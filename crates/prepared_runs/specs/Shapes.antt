@@ -79,7 +79,7 @@ abbrev pub parts_bytes : AnyPlan → ℕ
 parts_bytes (shaped.OrderPlan plan) = rooms_bytes (rooms plan.order plan.scans plan.levels)
 parts_bytes (shaped.TreePlan plan) = tree_rooms_bytes plan
 
--- what is made of the plan that a choice answers, or why it answers none, or MemoryLimit with the bytes of the plan
+-- what is made of a plan. Or a refusal: why there is no plan, or MemoryLimit with the bytes of the plan
 abbrev pub planned_within : {A : Type 0} → Option ℕ → (AnyPlan → A) → Result AnyPlan PlanError → Result A Refusal
 planned_within limit made answer = do
   plan ← told plan_refusal answer

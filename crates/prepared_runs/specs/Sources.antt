@@ -52,8 +52,7 @@ sourced source schema query tables = record {
   lists = lists_by source query tables;
 }
 
--- what a statistics file gives for a query, whatever tables it stands for. Its bounds are the same at each accuracy, and the rows that are joined
--- are those of the tables' scans
+-- what a statistics file gives for a query and any tables. Its bounds are the same at each accuracy, and the rows are those of the tables' scans
 abbrev pub sourced_of_file : Query → StatsFile → Tables → Sourced
 sourced_of_file query file tables = record {
   sets = λ accuracy. set_bounds_of_file query file;

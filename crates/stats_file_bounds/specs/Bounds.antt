@@ -1,4 +1,4 @@
--- What a file of statistics bounds, where it has all that a query needs.
+-- The bounds of a query from a file of statistics that has all that the query needs.
 use Rattle.std.specs.Prelude.{ℕ, List}
 use Rattle.stats_file_bounds.specs.FileStatistics.{stats_file_statistics}
 use Rattle.query_bounds.specs.Bounds.{scan_bounds, set_bounds}

@@ -1,4 +1,4 @@
-//! Why a file tells nothing of a query.
+//! Why a file gives no bounds for a query.
 ghost use Rattle.std.specs.Prelude.{◌≡◌};
 ghost use Rattle.stats_file_bounds.specs.declared.errors.NeedError.TheVariants as error;
 

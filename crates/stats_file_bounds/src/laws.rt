@@ -25,8 +25,8 @@ pub fn files_are_never_under()
 {}
 
 /// Never under: for all tables for which a file stands, no scan of the query has more rows than its bound, and no level over the entries of a
-/// set more than the bound of the set. Each scan's bound is at most the number of rows of its table, and no table has more rows than a file
-/// may say. So a plan by these bounds, of whatever shape, is one over the query's scans.
+/// set has more rows than the bound of the set. Each scan's bound is at most the number of rows of its table, and no table has more than
+/// 4,000,000 rows. So the bounds of a plan from the file hold for these tables, whatever the plan's shape.
 pub fn bounds_from_files_are_never_under()
     ensures sets { (query : Query) (file : StatsFile) (tables : Tables) → NamesItsEntries query → IsFile file → first_missing query file ≡ None
         → StandsFor query file tables → BoundLevels query tables (scans_of query tables) (set_bounds_of_file query file) }

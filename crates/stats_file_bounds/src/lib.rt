@@ -1,7 +1,7 @@
-//! Bounds from a file of statistics: what the file tells of the entries of a query, without a table.
+//! The bounds of a query from a file of statistics, without its tables.
 //!
 //! In: a query, and a `StatsFile` that keeps the rules. Out: the `QueryStats` that its bounds are made from, as gathered_stats makes them
-//! from tables, and the `Known` of all sets and scans, by which a plan is chosen as by any other; or the first FROM entry for which the file
+//! from tables, and a `Known` with the bounds of all sets and scans, from which a plan is chosen. Or the first FROM entry for which the file
 //! lacks a section or a pair.
 //!
 //! Callers cite `stats_file_statistics` (in `specs/FileStatistics.antt`) for what is told, `first_missing` (in `specs/Found.antt`) for what may be missing,

@@ -1,4 +1,4 @@
-//! What is known of a query's entries from a file.
+//! The bounds of a query from a file.
 ghost use Rattle.std.specs.Prelude.{◌≡◌, ◌<◌, ◌≤◌, ◌^◌, IfErr, IfOk, None, length};
 ghost use Rattle.limits.specs.Profile.{most_entries};
 ghost use Rattle.stats_file_bounds.specs.Bounds.{scan_bounds_of_file, set_bounds_of_file};
@@ -15,9 +15,9 @@ use query_types::Query;
 use stats_file::StatsFile;
 use std::alloc::Global;
 
-/// From a file of statistics, by what it tells of the entries (SafeBound, SIGMOD 2023). No table is read.
+/// The bounds of all sets of a query's entries and of its scans, from a file of statistics (SafeBound, SIGMOD 2023). No table is read.
 ///
-/// `Missing` names the first entry for which the file lacks something, before any bound is made. `NoMemory` comes where memory is wanting.
+/// `Missing` names the first entry for which the file lacks something, before any bound is made. `NoMemory` comes if memory runs out.
 pub fn from_file(alloc: Global, query: &Query, file: &StatsFile) -> Result<Known, NeedError>
     requires file { IsFile file.now }
     requires few { length query.now.from ≤ most_entries }
