@@ -66,7 +66,7 @@ request_if : {A : Type 0} (test : Bool) (made r : A) → (if test then Some made
 request_if true made r is = (refl, cc)
 request_if false made r is = absurd (cc)
 
--- what is asked where something doesn't stand beside it
+-- if something is asked for, the options that can't stand beside it aren't given
 alone_asks : {A : Type 0} (beside : Bool) (asked : Option A) (r : A) → (if beside then None else asked) ≡ Some r → asked ≡ Some r
 alone_asks true asked r is = absurd (cc)
 alone_asks false asked r is = is
@@ -74,7 +74,7 @@ alone_asks false asked r is = is
 most_if : (most n : ℕ) → nat_le n most ≡ true → n ≤ most
 most_if most n is = grind (arith, nat_tests)
 
--- the terms of a plan
+-- the budget of a plan isn't past the greatest one of its shape
 abbrev IsSmall : PlanTerms → Type 0
 IsSmall terms = terms.budget ≤ most_budget_of terms.shape
 
@@ -86,7 +86,7 @@ terms_in given terms is =
     let made = request_if (nat_le budget.0 (most_budget_of (shape_by bushy.0))) (terms_by budget.0 bushy.0 (limit_of bytes.0)) terms bushy.2 in
     subst IsSmall made.1 (most_if (most_budget_of (shape_by bushy.0)) budget.0 made.0)
 
--- over tables, or from a statistics file
+-- the numbers of a plan over tables or from a statistics file are in range
 module _ (out : OutText) (terms : PlanTerms) (small : terms.budget ≤ most_budget_of terms.shape) (given : Given) (work : Work) where
   tables_in : over_tables out terms given ≡ Some work → WorkHasRanges work
   tables_in is =

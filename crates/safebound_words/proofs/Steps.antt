@@ -174,7 +174,7 @@ no_file [] many = absurd (omega arith)
 no_file (a ∷ []) many = absurd (omega arith)
 no_file (a ∷ b ∷ rest) many = refl
 
--- the flags that say what bounds are made from
+-- the flags that name a source
 abbrev IsSource : FlagName → Type 0
 IsSource flag.Bushy = ⊥
 IsSource flag.Reduce = Unit {0}
@@ -187,7 +187,7 @@ set_once zero many = absurd (omega arith)
 set_once (suc zero) many = absurd (omega arith)
 set_once (suc (suc more)) many = refl
 
--- the stages of the terms
+-- The stages of `terms_given`.
 module _ (given : Given) where
   abbrev by_bushy : ℕ → ℕ → Bool → Option PlanTerms
   by_bushy bytes budget bushy = if nat_le budget (most_budget_of (shape_by bushy)) then Some (terms_by budget bushy (limit_of bytes)) else None
@@ -212,7 +212,7 @@ module _ (given : Given) where
       (λ bytes. none_behind (value_of option.Budget (given.values option.Budget)) (λ budget. by_budget bytes budget)
       (λ budget. none_first (is_set (given.times flag.Bushy)) (λ bushy. by_bushy bytes budget bushy) (set_once (given.times flag.Bushy) many)))
 
--- the stages of a plan over tables
+-- The stages of `over_tables`.
 module _ (out : OutText) (terms : PlanTerms) (given : Given) where
   abbrev by_count : ℕ → Bool → Bool → Bool → Option Work
   by_count accuracy reduce keys count = if keys && reduce then None
@@ -252,7 +252,7 @@ module _ (out : OutText) (terms : PlanTerms) (given : Given) where
   tables_without_flag f is many =
       none_behind (value_of option.Accuracy (given.values option.Accuracy)) (λ accuracy. by_accuracy accuracy) (λ accuracy. many_sources accuracy f is many)
 
--- the same of a plan from a statistics file
+-- A plan from a statistics file: beside it no flag for a source may be given, so none may be given twice.
 
 nowhere : (b : Bool) → (b && false) ≡ false
 nowhere true = refl
@@ -279,7 +279,7 @@ words_twice words b many = let some : (length words == 0) ≡ false = ne_eqb (le
 not_alone : (file : Word) (terms : PlanTerms) (given : Given) → file_alone given ≡ false → from_file file terms given ≡ None
 not_alone file terms given beside = rw beside refl
 
--- ---- a plan of either
+-- ---- a plan over tables or from a statistics file
 
 module _ (out : OutText) (terms : PlanTerms) (given : Given) where
   either_without_accuracy : (file : Option Word) → 1 < length (given.values option.Accuracy) → from_file_or_tables out file terms given ≡ None
@@ -297,7 +297,7 @@ module _ (out : OutText) (terms : PlanTerms) (given : Given) where
   no_second_file : 1 < length (given.values option.Stats) → work_given out terms given ≡ None
   no_second_file many = none_first (option_file (given.values option.Stats)) (λ file. from_file_or_tables out file terms given) (no_file (given.values option.Stats) many)
 
--- what lacks its terms, or its work, is refused
+-- if `terms_given` or `work_given` has no result, nothing is asked for
 module _ (out : OutText) (given : Given) where
   abbrev by_terms : Word → Word → PlanTerms → Option Command
   by_terms schema query terms = work_given out terms given >>= λ work. Some (over_query None schema query work)

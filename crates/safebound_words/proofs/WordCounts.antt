@@ -9,7 +9,7 @@ use Rattle.std.proofs.lemmas.Slice.Eq.{bytes_eq-Decides}
 use Rattle.safebound_words.specs.Answer.{command_of}
 use Rattle.safebound_words.specs.CommandLines.{Alone, Beside, IsEnd, IsItemOf, Item, Joined, Place, given_by, given_in, place_words, same_flag, same_option, set_by, spelling}
 use Rattle.safebound_words.specs.Commands.{over_query}
-use Rattle.safebound_words.specs.Table.{Given, command_row, file_alone, flag_word, from_file, from_file_or_tables, is_set, limit_of, of_append, of_number, of_stats, option_file, option_row, over_files, over_tables, terms_given, value_of, work_given}
+use Rattle.safebound_words.specs.Table.{Given, command_row, file_alone, flag_word, from_file, from_file_or_tables, is_set, of_append, of_number, of_stats, option_file, option_row, over_files, over_tables, terms_given, value_of, work_given}
 use Rattle.safebound_words.specs.Words.{Word}
 use Rattle.safebound_words.specs.declared.command.Command.{Command}
 use Rattle.safebound_words.specs.declared.command.OutText.{OutText}
@@ -140,7 +140,7 @@ map_so : {A B : Type 0} (f : A → B) (from : Option A) (b : B) → option_map f
 map_so f None b is = absurd (cc)
 map_so f (Some a) b is = (a, refl)
 
--- each of these at most once
+-- each of these options and flags is given at most once
 record AreTermsFew (given : Given) : Type 0 where
   memory : length (given.values option.Memory) ≤ 1
   budget : length (given.values option.Budget) ≤ 1
@@ -199,7 +199,7 @@ module _ (out : OutText) (terms : PlanTerms) (given : Given) (work : Work) where
       let file = bind_so (option_file (given.values option.Stats)) _ work is in
       (either_few file.0 file.2, one_file (given.values option.Stats) file.0 file.1)
 
--- two places, and each option and flag at most once
+-- there are two place words, and each option and flag is given at most once
 record AreFew (places : List Word) (given : Given) : Type 0 where
   two : length places ≡ 2
   terms : AreTermsFew given

@@ -1,5 +1,5 @@
 -- Which values a command may have.
-use Rattle.std.specs.Prelude.{ℕ, ◌<◌, ◌≤◌, ⊤}
+use Rattle.std.specs.Prelude.{◌<◌, ◌≤◌, ⊤}
 use Rattle.limits.specs.Profile.{most_accuracy}
 use Rattle.safebound_words.specs.Commands.{most_budget_of}
 use Rattle.safebound_words.specs.declared.command.Aim.{Aim}

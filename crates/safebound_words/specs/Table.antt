@@ -101,7 +101,7 @@ abbrev pub ◌>>=◌ : {A B : Type 0} → Option A → (A → Option B) → Opti
 None >>= rest = None
 (Some value) >>= rest = rest value
 
--- on which terms a plan is made. The budget is at most the greatest one for the plan's shape
+-- what is asked of a plan: a budget, a shape and a limit of memory. The budget is at most the greatest one of the shape
 abbrev pub terms_given : Given → Option PlanTerms
 terms_given given = do
   bytes ← value_of option.Memory (given.values option.Memory)
@@ -124,7 +124,7 @@ over_tables out terms given = do
       else if count && not (count_alone given reduce keys) then None
       else Some (works.Plan (record { terms = terms; accuracy = accuracy; source = source_by reduce keys count; out = out }))
 
--- whether neither an accuracy nor a source is given, as a statistics file requires: it has its accuracy, and is a source
+-- whether neither an accuracy nor another source is given: a statistics file has its own accuracy
 abbrev pub file_alone : Given → Bool
 file_alone given =
     length (given.values option.Accuracy) == 0 && (given.times flag.Reduce == 0 && (given.times flag.Keys == 0 && given.times flag.Count == 0))

@@ -44,8 +44,8 @@ pub struct PlanTerms {
     pub memory: Option<u64>,
 }
 
-/// How a query is planned over its tables: on which terms; the accuracy of compression; what bounds are made from; and which text goes to
-/// `out`.
+/// How a query is planned over its tables. `terms` is what is asked of any plan, `accuracy` is that of compression, `source` says what bounds are
+/// made from, and `out` which text goes to `out`.
 #[derive(Clone, Copy, Debug)]
 pub struct PlanWork {
     pub terms: PlanTerms,

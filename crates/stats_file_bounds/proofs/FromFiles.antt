@@ -1,5 +1,5 @@
 -- No bound from a file is too low for tables for which the file stands, and there are as many bounds as sets, and as scans.
-use Rattle.std.proofs.Common.{◌≡◌, ℕ, ◌^◌, ◌<◌, ◌≤◌, List, length, get_or, None, ap, ◌∙◌, arith}
+use Rattle.std.proofs.Common.{◌≡◌, ℕ, ◌^◌, ◌<◌, ◌≤◌, length, get_or, None, ap, ◌∙◌, arith}
 use Rattle.std.proofs.lemmas.List.FromFn.{length-map-range_with_len}
 use Rattle.std.specs.List.{Contains}
 use Rattle.berge_tree.specs.declared.edges.Place.{Place}
