@@ -2,6 +2,7 @@ use Rattle.std.proofs.Common.{◌≡◌, ◌⊎◌, ℕ, ◌^◌, List, Result, 
 use Rattle.std.proofs.lemmas.Result.{err_from_is_err_and}
 use Rattle.order_search.specs.declared.refusal.PlanError.{PlanError}
 use Rattle.order_search.specs.declared.refusal.PlanError.TheVariants as error
+use Rattle.stats_file_bounds.specs.Bounds.{scan_bounds_of_file, set_bounds_of_file}
 use Rattle.stats_file_bounds.proofs.FromFiles.{all_sets, one_scan}
 use Rattle.prepared_runs.specs.Shapes.{answer_of}
 use Rattle.prepared_runs.specs.StatsFiles.{made_from_file, plan_from_file_asked}
@@ -59,7 +60,17 @@ returns-in_err-keep_limit-clause-refused c =
     c.in_err-keep_limit.field-0.0 (sym (rw c.memory_of-bytes.ensures at c.in_err-keep_limit.ensures)))
 
 pub returns-clause-plan : goal.returns-clause-plan
-returns-clause-plan c = record { plan = (memory_of-bytes-requires c).3; bytes = c.memory_of-bytes.ensures }
+returns-clause-plan c =
+    let terms = c.args.terms.now in
+    let query = c.args.query in
+    let file = c.args.file in
+    let known = c.args.known.now in
+    let made : plan_from_file_asked terms query file ≡ Ok c.in_ok-plan.plan =
+    sym (asked_known terms query file known c.requires.known) ∙ was_made (answer_of terms.shape known.sets known.scans terms.budget) c.in_ok-plan.plan c.in_ok-plan.ensures in
+    record {
+      plan = answer_is_plan terms.shape (set_bounds_of_file query file) (scan_bounds_of_file query file) (length query.from) terms.budget (one_scan query file) c.requires.some c.requires.few c.in_ok-plan.plan made;
+      bytes = c.memory_of-bytes.ensures;
+    }
 
 pub returns-clause-within : goal.returns-clause-within
 returns-clause-within c =
