@@ -98,10 +98,10 @@ unfolding plan_stage
 plan_ok task schema query rows needs range some few own =
     then_ok IsMade IsSound (told plan_refusal (plan_asked task schema query (tables_in rows))) _
     (ok_so IsMade plan_refusal (plan_asked task schema query (tables_in rows)) made_ok)
-    (λ plan is. within_so IsSound task.memory (shape_bytes plan) (Planned (run_asked task query rows plan)) is)
+    (λ plan is. within_so IsSound task.terms.memory (shape_bytes plan) (Planned (run_asked task query rows plan)) is)
   where
     IsMade : AnyPlan → Type 0
-    IsMade plan = IsWithinLimit task.memory (shape_bytes plan) → IsRun (run_asked task query rows plan)
+    IsMade plan = IsWithinLimit task.terms.memory (shape_bytes plan) → IsRun (run_asked task query rows plan)
 
     made_ok : (plan : AnyPlan) → plan_asked task schema query (tables_in rows) ≡ Ok plan → IsMade plan
     made_ok plan made within =
@@ -112,8 +112,8 @@ plan_ok task schema query rows needs range some few own =
           lists = refl;
           rows = is.rows;
           limit = within;
-          bounds = plan_fits query (tables_in rows) given is task.accuracy task.budget some few task.shape plan made range.budget;
-          scans = (task.accuracy, scan_is_given query (tables_in rows) given is task.accuracy task.budget some few task.shape plan made);
+          bounds = plan_fits query (tables_in rows) given is task.accuracy task.terms.budget some few task.terms.shape plan made range.budget;
+          scans = (task.accuracy, scan_is_given query (tables_in rows) given is task.accuracy task.terms.budget some few task.terms.shape plan made);
         }
 
 work_ok : (work : Work) (schema : Schema) (query : Query) (files : Files) → WorkHasRanges work → IsValid schema → IsOf schema query → IfOk (work_run work schema query files) IsSound
@@ -123,9 +123,9 @@ work_ok (works.Plan task) schema query files range valid of =
 work_ok (works.WriteStats accuracy) schema query files range valid of =
     then_ok (λ rows. tables_stage schema query.from files ≡ Ok rows) IsSound (tables_stage schema query.from files) _ (is_ok (tables_stage schema query.from files))
     (λ rows is. filed_stands schema query files accuracy rows is)
-work_ok (works.PlanFromStats name budget memory) schema query files range valid of =
+work_ok (works.PlanFromStats name terms) schema query files range valid of =
     then_ok (KeepsRules schema) IsSound (stats_stage name schema files) _ (stats_keep name schema files valid)
-    (λ stats keeps. filed_plan_holds schema query of stats keeps budget range memory IsSound (λ plan holds within. (holds, within)))
+    (λ stats keeps. filed_plan_holds schema query of stats keeps terms range IsSound (λ plan holds within. (holds, within)))
 
 aim_ok : (aim : Aim) (schema : Schema) (files : Files) → HasRanges aim → IsValid schema → IfOk (aim_run aim schema files) IsSound
 aim_ok (aims.Query name work) schema files range valid =

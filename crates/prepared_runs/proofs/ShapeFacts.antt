@@ -5,11 +5,14 @@ use Rattle.std.specs.List.{AllByRecursion, IsDistinct}
 use Rattle.csv_tables.specs.declared.types.Database.{Database}
 use Rattle.plans.specs.LeftDeep.{IsPlan}
 use Rattle.plans.specs.declared.left_deep.Plan.{Plan}
+use Rattle.order_search.specs.declared.refusal.PlanError.{PlanError}
 use Rattle.order_search.specs.declared.refusal.PlanError.TheVariants as error
 use Rattle.plan_answers.specs.PlanAnswer.{plan_answer}
 use Rattle.plan_answers.proofs.OneChoice as orders
+use Rattle.tree_answers.specs.Promised.{IsPromised}
 use Rattle.tree_answers.specs.TreeAnswer.{tree_answer}
 use Rattle.tree_answers.proofs.OneChoice as trees
+use Rattle.tree_plans.specs.TreePlans.{IsTreePlan}
 use Rattle.tree_plans.specs.declared.bushy.BushyPlan.{BushyPlan}
 use Rattle.tree_rows.specs.Trees.{node_count}
 use Rattle.tree_rows.proofs.AllEntries.{root_all}
@@ -30,7 +33,7 @@ use Rattle.outcomes.specs.Reads.{seen}
 use Rattle.planning.specs.declared.known.Known.{Known}
 use Rattle.planning.specs.HasBounds.{HasBounds}
 use Rattle.planning.specs.Standing.{BoundLevels}
-use Rattle.planning.proofs.FromLists.{plan_over_lists, scan_kept}
+use Rattle.planning.proofs.FromLists.{is_plan_from, plan_over_lists, scan_kept}
 use Rattle.planning.proofs.ReducedPlans.{levels_of_scans}
 use Rattle.bushy_planning.proofs.Stages as stages
 use Rattle.prepared_runs.specs.Shapes.{IsPlanOver, IsShapedPlan, answer_of, joined_entries, part_bound, part_count, part_rows, planned_by, scan_bounds, whole_parts}
@@ -58,14 +61,13 @@ along plan = shaped.OrderPlan plan
 abbrev pub over : BushyPlan → AnyPlan
 over plan = shaped.TreePlan plan
 
+pub no_want : (shape : Shape) (sets scans : List ℕ) (budget : ℕ) → answer_of shape sets scans budget ≢ Err error.NoMemory
+no_want shapes.Order sets scans budget = never_seen along (plan_answer sets scans budget) error.NoMemory (orders.never_memory sets scans budget)
+no_want shapes.Tree sets scans budget = never_seen over (tree_answer sets scans budget) error.NoMemory (trees.never_memory sets scans budget)
+
 pub never_wants_memory : (shape : Shape) (given : Sourced) (accuracy budget : ℕ) → planned_by shape given accuracy budget ≢ Err error.NoMemory
 unfolding planned_by
-never_wants_memory shapes.Order given accuracy budget =
-    never_seen along (plan_answer (given.sets accuracy) (given.scans accuracy) budget) error.NoMemory
-    (orders.never_memory (given.sets accuracy) (given.scans accuracy) budget)
-never_wants_memory shapes.Tree given accuracy budget =
-    never_seen over (tree_answer (given.sets accuracy) (given.scans accuracy) budget) error.NoMemory
-    (trees.never_memory (given.sets accuracy) (given.scans accuracy) budget)
+never_wants_memory shape given accuracy budget = no_want shape (given.sets accuracy) (given.scans accuracy) budget
 
 -- if the code has the bounds that a source gives, then the best plan by them is that of the definition
 pub planned_known : (shape : Shape) (given : Sourced) (accuracy budget : ℕ) (known : Known) → HasBounds (given.sets accuracy) (given.scans accuracy) known
@@ -74,6 +76,18 @@ unfolding planned_by
 planned_known shape given accuracy budget known gives =
     ap (λ (s : List ℕ). answer_of shape s known.scans budget) gives.sets ∙ ap (λ (s : List ℕ). answer_of shape (given.sets accuracy) s budget) gives.scans
 
+-- an answered plan is for as many entries as there are bounds of scans
+pub answer_is_plan : (shape : Shape) (sets scans : List ℕ) (n budget : ℕ) → length scans ≡ n → 1 ≤ n → n ≤ 12 → (plan : AnyPlan)
+    → answer_of shape sets scans budget ≡ Ok plan → IsShapedPlan n plan
+answer_is_plan shapes.Order sets scans n budget long some few plan made =
+    let it = seen_ok along (plan_answer sets scans budget) plan made in
+    subst (IsShapedPlan n) it.2 (is_plan_from sets scans n budget long it.0 it.1)
+answer_is_plan shapes.Tree sets scans n budget long some few plan made =
+    let it = seen_ok over (tree_answer sets scans budget) plan made in
+    let P : Result BushyPlan PlanError → Type 0 = IsPromised sets scans budget in
+    let its : IsTreePlan (length scans) it.0 = (subst P it.1 (trees.allowed sets scans budget (omega (arith, some, long)) (omega (arith, few, long)))).plan in
+    subst (IsShapedPlan n) it.2 (subst (λ (m : ℕ). IsTreePlan m it.0) long its)
+
 -- ---- a plan by the bounds that a source gives
 
 -- the plan is for the query's entries, and no list and no part has more rows than the plan says
@@ -81,6 +95,19 @@ pub record Fits (query : Query) (tables : Tables) (lists : List (List ℕ)) (mad
   pub plan : IsShapedPlan (length query.from) made
   pub scans : (entry : ℕ) → entry < length query.from → rows_listed lists entry ≤ get_or (scan_bounds made) entry 0
   pub parts : (k : ℕ) → k < part_count made → length (part_rows query tables lists made k) ≤ part_bound made k
+
+-- that holds of each plan over the lists
+pub over_so : (query : Query) (tables : Tables) (lists : List (List ℕ)) (plan : AnyPlan) → IsPlanOver query tables lists plan → Fits query tables lists plan
+over_so query tables lists (shaped.OrderPlan plan) of = record {
+  plan = of.for_each_entry;
+  scans = of.scans;
+  parts = λ k low. of.levels k (omega (arith, low, of.for_each_entry.order.all));
+}
+over_so query tables lists (shaped.TreePlan plan) of = record {
+  plan = of.for_each_entry;
+  scans = of.scans;
+  parts = λ k low. of.nodes (length plan.scans + k) (omega arith);
+}
 
 module _ (query : Query) (tables : Tables) (given : Sourced) (is : IsSource query tables given) (accuracy budget : ℕ) (some : 1 ≤ length query.from) (few : length query.from ≤ 12) where
   abbrev sets : List ℕ
@@ -94,13 +121,6 @@ module _ (query : Query) (tables : Tables) (given : Sourced) (is : IsSource quer
 
   order_over : (plan : Plan) → budget ≤ 20000000 → plan_answer sets scans budget ≡ Ok plan → IsPlanOf query tables given.lists plan
   order_over plan small made = plan_over_lists query tables given.lists sets scans levels (is.of_scans accuracy) budget plan few small made
-
-  order_fits : (plan : Plan) → IsPlanOf query tables given.lists plan → Fits query tables given.lists (shaped.OrderPlan plan)
-  order_fits plan of = record {
-    plan = of.for_each_entry;
-    scans = of.scans;
-    parts = λ k low. of.levels k (omega (arith, low, of.for_each_entry.order.all));
-  }
 
   tree_fits : (plan : BushyPlan) → budget ≤ 4000000 → tree_answer sets scans budget ≡ Ok plan → Fits query tables given.lists (shaped.TreePlan plan)
   tree_fits plan small made = record {
@@ -116,12 +136,12 @@ module _ (query : Query) (tables : Tables) (given : Sourced) (is : IsSource quer
   answer_fits : (shape : Shape) (plan : AnyPlan) → budget ≤ most_budget_of shape → answer_of shape sets scans budget ≡ Ok plan → Fits query tables given.lists plan
   answer_fits shapes.Order plan small made =
       let it = seen_ok along (plan_answer sets scans budget) plan made in
-      subst (Fits query tables given.lists) it.2 (order_fits it.0 (order_over it.0 small it.1))
+      subst (Fits query tables given.lists) it.2 (over_so query tables given.lists (shaped.OrderPlan it.0) (order_over it.0 small it.1))
   answer_fits shapes.Tree plan small made =
       let it = seen_ok over (tree_answer sets scans budget) plan made in
       subst (Fits query tables given.lists) it.2 (tree_fits it.0 small it.1)
 
-  answer_over : (shape : Shape) (plan : AnyPlan) → budget ≤ most_budget_of shape → HaveFewRows tables (length query.from) → answer_of shape sets scans budget ≡ Ok plan
+  pub answer_over : (shape : Shape) (plan : AnyPlan) → budget ≤ most_budget_of shape → HaveFewRows tables (length query.from) → answer_of shape sets scans budget ≡ Ok plan
       → IsPlanOver query tables given.lists plan
   answer_over shapes.Order plan small rows made =
       let it = seen_ok along (plan_answer sets scans budget) plan made in

@@ -1,8 +1,9 @@
 -- The bounds and lists that each source gives: the lists lose no row of the answer, and no bound is too low.
-use Rattle.std.proofs.Common.{◌≡◌, ℕ, ◌^◌, List, length, ap, sym, ◌∙◌}
+use Rattle.std.proofs.Common.{◌≡◌, ℕ, ◌^◌, List, length, None, ap, sym, ◌∙◌}
 use Rattle.std.proofs.lemmas.List.FromFn.{length-map-range_with_len}
 use Rattle.std.proofs.Math.Seq.{take-length}
 use Rattle.schema_types.specs.declared.types.Schema.{Schema}
+use Rattle.query_types.specs.Named.{NamesItsEntries}
 use Rattle.query_types.specs.declared.types.Query.{Query}
 use Rattle.join_graph.specs.Conjuncts.{equalities_of}
 use Rattle.sql_meaning.specs.Answers.{conjuncts_of}
@@ -29,7 +30,12 @@ use Rattle.counted_bounds.specs.Bounds.{counted_bound}
 use Rattle.counted_factors.specs.Limits.{counted_of}
 use Rattle.counted_planning.specs.Bounds.{set_bounds_by_counts}
 use Rattle.counted_planning.proofs.InSets.{bound_levels}
-use Rattle.prepared_runs.specs.Sources.{Needs, sets_by, lists_by, scans_by, sourced}
+use Rattle.stats_file.specs.declared.types.StatsFile.{StatsFile}
+use Rattle.stats_file_of_query.specs.Standing.{StandsFor}
+use Rattle.stats_file_bounds.specs.Entries.{IsFile}
+use Rattle.stats_file_bounds.specs.Found.{first_missing}
+use Rattle.stats_file_bounds.proofs.FromFiles.{all_sets as file_sets, levels_fit, scans_fit}
+use Rattle.prepared_runs.specs.Sources.{Needs, sets_by, lists_by, scans_by, sourced, sourced_of_file}
 use Rattle.prepared_runs.specs.Standing.{IsSource, LoseNoRow}
 use Rattle.safebound_words.specs.declared.command.ListSource.{ListSource}
 use Rattle.safebound_words.specs.declared.command.ListSource.TheVariants as sources
@@ -98,3 +104,14 @@ module _ (query : Query) (tables : Tables) where
 
     pub stand : (source : ListSource) → Needs source schema query tables → IsSource query tables (sourced source schema query tables)
     stand source needs = record { rows = rows_kept source; of_scans = scans_bound source; of_sets = levels_bound source needs; of_all_sets = all_sets source }
+
+-- ---- what a statistics file gives, for tables for which it stands
+
+pub file_is_source : (query : Query) (file : StatsFile) → NamesItsEntries query → IsFile file → first_missing query file ≡ None → (tables : Tables) → StandsFor query file tables
+    → IsSource query tables (sourced_of_file query file tables)
+file_is_source query file own is none tables stands = record {
+  rows = whole_rows query tables;
+  of_scans = λ accuracy. scans_fit query file own is none tables stands;
+  of_sets = λ accuracy. levels_fit query file own is none tables stands;
+  of_all_sets = λ accuracy. file_sets query file;
+}

@@ -17,5 +17,5 @@ shape_cost (shaped.TreePlan plan) = plan.cost
 -- buffers take no more bytes than the limit of memory, if there is one
 pub record MayJoin (task : PlanWork) (plan : AnyPlan) : Type 0 where
   pub asked : task.out ≢ out_text.Nothing
-  pub affordable : shape_cost plan ≤ task.budget
-  pub within : IsWithinLimit task.memory (shape_bytes plan)
+  pub affordable : shape_cost plan ≤ task.terms.budget
+  pub within : IsWithinLimit task.terms.memory (shape_bytes plan)

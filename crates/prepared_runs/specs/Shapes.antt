@@ -1,7 +1,7 @@
 -- The two shapes of a plan: an order, or a join tree. The parts of a plan are the levels of its order, or the inner nodes of its tree. Each
 -- part has a bound and a list of rows. Five other files have a case for each shape: Allowed (costs), PreparedQuery (rooms), Kept (joined
 -- rows), Commands of safebound_words (budgets) and Promise of safebound_top (plan texts).
-use Rattle.std.specs.Prelude.{ℕ, ◌+◌, ◌-◌, List, length, map, slice_index, Result}
+use Rattle.std.specs.Prelude.{ℕ, ◌+◌, ◌-◌, List, length, map, slice_index, Option, Result}
 use Rattle.std.specs.List.{range_with_len}
 use Rattle.order_search.specs.declared.refusal.PlanError.{PlanError}
 use Rattle.plan_answers.specs.PlanAnswer.{plan_answer}
@@ -21,9 +21,12 @@ use Rattle.sql_meaning.specs.Tables.{Tables, row_counts}
 use Rattle.join_steps.specs.Lists.{list_levels}
 use Rattle.join_steps.specs.Plans.{IsPlanOf}
 use Rattle.bushy_join.specs.Trees.{node_rows, whole_rows, IsTreePlanOf}
-use Rattle.outcomes.specs.Reads.{seen}
+use Rattle.outcomes.specs.Errors.{plan_refusal}
+use Rattle.outcomes.specs.Reads.{◌>>=◌, seen, told}
+use Rattle.outcomes.specs.declared.refusal.Refusal.{Refusal}
 use Rattle.printed_texts.specs.Plans.{audit_lines, plan_lines}
 use Rattle.printed_texts.specs.TreePlans.{tree_audits, tree_lines}
+use Rattle.prepared_runs.specs.Limits.{within_limit}
 use Rattle.prepared_runs.specs.Sources.{Sourced}
 use Rattle.prepared_runs.specs.declared.shapes.AnyPlan.{AnyPlan}
 use Rattle.prepared_runs.specs.declared.shapes.AnyPlan.TheVariants as shaped
@@ -75,6 +78,12 @@ shape_bytes (shaped.TreePlan plan) = tree_bytes plan
 abbrev pub parts_bytes : AnyPlan → ℕ
 parts_bytes (shaped.OrderPlan plan) = rooms_bytes (rooms plan.order plan.scans plan.levels)
 parts_bytes (shaped.TreePlan plan) = tree_rooms_bytes plan
+
+-- what `made` makes of a plan, or a refusal: why there is no plan, or MemoryLimit with the bytes of the plan
+abbrev pub planned_within : {A : Type 0} → Option ℕ → (AnyPlan → A) → Result AnyPlan PlanError → Result A Refusal
+planned_within limit made answer = do
+  plan ← told plan_refusal answer
+  within_limit limit (shape_bytes plan) (made plan)
 
 -- no list has more rows than its bound, no part over these lists has more rows than its bound, and no bound is more than joins can take
 abbrev pub IsPlanOver : Query → Tables → List (List ℕ) → AnyPlan → Type 0

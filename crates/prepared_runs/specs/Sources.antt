@@ -12,6 +12,8 @@ use Rattle.planning.specs.ListedBounds.{set_bounds_over}
 use Rattle.key_carriers.specs.DeclaredKeys.{DeclaredKeysHold}
 use Rattle.key_bounds.specs.Bounds.{set_bounds_by_keys}
 use Rattle.counted_planning.specs.Bounds.{set_bounds_by_counts}
+use Rattle.stats_file.specs.declared.types.StatsFile.{StatsFile}
+use Rattle.stats_file_bounds.specs.Bounds.{scan_bounds_of_file, set_bounds_of_file}
 use Rattle.safebound_words.specs.declared.command.ListSource.{ListSource}
 use Rattle.safebound_words.specs.declared.command.ListSource.TheVariants as sources
 
@@ -50,6 +52,15 @@ sourced source schema query tables = record {
   sets = sets_by source schema query tables;
   scans = scans_by source query tables;
   lists = lists_by source query tables;
+}
+
+-- the bounds that a statistics file gives for a query, and the lists of any tables. The bounds are the same at each accuracy, and the lists are
+-- the scans of the tables
+abbrev pub sourced_of_file : Query → StatsFile → Tables → Sourced
+sourced_of_file query file tables = record {
+  sets = λ accuracy. set_bounds_of_file query file;
+  scans = λ accuracy. scan_bounds_of_file query file;
+  lists = scans_of query tables;
 }
 
 -- what a source needs of the tables: the source Keyed carries conditions along declared keys, so the declared keys must hold. They hold in

@@ -10,7 +10,7 @@ use Rattle.text_answers.specs.QueryTexts.{query_answer}
 use Rattle.query_types.specs.declared.types.Query.{Query}
 use Rattle.sql_meaning.specs.Tables.{Tables}
 use Rattle.order_search.specs.declared.refusal.PlanError.{PlanError}
-use Rattle.outcomes.specs.Errors.{plan_refusal, query_refusal, schema_refusal}
+use Rattle.outcomes.specs.Errors.{query_refusal, schema_refusal}
 use Rattle.outcomes.specs.Reads.{◌>>=◌, told}
 use Rattle.outcomes.specs.declared.names.FileId.{FileId}
 use Rattle.outcomes.specs.declared.names.FileId.TheVariants as file
@@ -29,9 +29,8 @@ use Rattle.safebound_words.specs.declared.command.Work.{Work}
 use Rattle.safebound_words.specs.declared.command.Aim.TheVariants as aims
 use Rattle.safebound_words.specs.declared.command.Work.TheVariants as works
 use Rattle.prepared_runs.specs.StatsFiles.{stats_file_plan_stage, stats_stage, stats_file_of_tables}
-use Rattle.prepared_runs.specs.Limits.{within_limit}
 use Rattle.prepared_runs.specs.RunOutcome.{RunOutcome, Planned}
-use Rattle.prepared_runs.specs.Shapes.{planned_by, shape_bytes}
+use Rattle.prepared_runs.specs.Shapes.{planned_by, planned_within}
 use Rattle.prepared_runs.specs.Sources.{lists_by, sourced}
 use Rattle.prepared_runs.specs.declared.shapes.AnyPlan.{AnyPlan}
 use Rattle.safebound_words.specs.declared.command.PlanWork.{PlanWork}
@@ -64,7 +63,7 @@ query_stage name schema files = do
 
 -- the plan of a query over its tables, in the shape that the task asks for, by the bounds that its source gives
 abbrev pub plan_asked : PlanWork → Schema → Query → Tables → Result AnyPlan PlanError
-plan_asked task schema query ts = planned_by task.shape (sourced task.source schema query ts) task.accuracy task.budget
+plan_asked task schema query ts = planned_by task.terms.shape (sourced task.source schema query ts) task.accuracy task.terms.budget
 
 -- the accepted query for a plan, with the rows that the source gives
 abbrev pub run_asked : PlanWork → Query → List (List Row) → AnyPlan → AcceptedQuery
@@ -74,16 +73,15 @@ run_asked task query rows plan = record {
   plan = plan;
   source = task.source;
   lists = lists_by task.source query (tables_in rows);
-  memory = task.memory;
+  memory = task.terms.memory;
   out = task.out;
 }
 
 -- the plan of a query over its entries' rows: the best order or tree with its bounds, or a refusal. The refusals are PastBits, Budget with
 -- the least cost, and MemoryLimit with the bytes of the plan
 unfoldable pub plan_stage : PlanWork → Schema → Query → List (List Row) → Result RunOutcome Refusal
-plan_stage task schema query rows = do
-  plan ← told plan_refusal (plan_asked task schema query (tables_in rows))
-  within_limit task.memory (shape_bytes plan) (Planned (run_asked task query rows plan))
+plan_stage task schema query rows =
+    planned_within task.terms.memory (λ plan. Planned (run_asked task query rows plan)) (plan_asked task schema query (tables_in rows))
 
 -- the outcome of the work on a query, or the first refusal
 abbrev pub work_run : Work → Schema → Query → Files → Result RunOutcome Refusal
@@ -93,9 +91,9 @@ work_run (works.Plan task) schema query files = do
 work_run (works.WriteStats accuracy) schema query files = do
   rows ← tables_stage schema query.from files
   Ok (stats_file_of_tables schema query rows accuracy)
-work_run (works.PlanFromStats name budget memory) schema query files = do
+work_run (works.PlanFromStats name terms) schema query files = do
   stats ← stats_stage name schema files
-  stats_file_plan_stage query stats budget memory
+  stats_file_plan_stage terms query stats
 
 -- the outcome of an aim over a schema, or the first refusal. The aim is work on a query, or new rows to append
 abbrev pub aim_run : Aim → Schema → Files → Result RunOutcome Refusal
@@ -127,7 +125,7 @@ schema_read words files = do
 abbrev pub IsWorkFile : Work → Schema → Query → Files → FileId → Type 0
 IsWorkFile (works.Plan task) schema query files id = IsTableReached schema (tables_of_query query.from) files id
 IsWorkFile (works.WriteStats accuracy) schema query files id = IsTableReached schema (tables_of_query query.from) files id
-IsWorkFile (works.PlanFromStats name budget memory) schema query files id = id ≡ file.Stats
+IsWorkFile (works.PlanFromStats name terms) schema query files id = id ≡ file.Stats
 
 -- The file `id` is read after the schema. It is the file of the query, or it is read for the query. For `append` it is the statistics file,
 -- or, if the statistics file has a section of the table, the file of new rows.

@@ -77,8 +77,8 @@ fn make_room(
     query: &Query,
     db: &Database,
 ) -> Result<PendingOutput, NoMemory>
-    requires affordable { shape_cost planned.plan ≤ task.now.budget }
-    requires within { IsWithinLimit task.now.memory (shape_bytes planned.plan) }
+    requires affordable { shape_cost planned.plan ≤ task.now.terms.budget }
+    requires within { IsWithinLimit task.now.terms.memory (shape_bytes planned.plan) }
     requires database { IsDatabaseOf query.now db.now }
     requires plan { IsPlanOver query.now (tables_of db.now) (lists_in planned.scans query.now (tables_of db.now)) planned.plan }
     requires rows { LoseNoRow query.now (tables_of db.now) (lists_in planned.scans query.now (tables_of db.now)) }
@@ -127,13 +127,13 @@ fn prepare_plan(
 {
     let planned = plan_task(alloc, task, schema, &query, &db)?;
     let bytes = memory_of(&planned.plan);
-    keep_limit(task.memory, bytes)?;
+    keep_limit(task.terms.memory, bytes)?;
     let rest = make_room(alloc, task, planned, &query, &db)?;
     Ok(PreparedQuery {
         query,
         db,
         source: task.source,
-        memory: task.memory,
+        memory: task.terms.memory,
         bytes,
         rest,
     })
@@ -189,14 +189,8 @@ fn prepare_query<S: Store>(
             )?;
             Ok(PreparedRun::StatsMade(made_stats))
         }
-        Work::PlanFromStats {
-            file,
-            budget,
-            memory,
-        } => {
-            let made = prepare_stats_file_plan(
-                alloc, store, schema, query, file, *budget, *memory,
-            )?;
+        Work::PlanFromStats { file, terms } => {
+            let made = prepare_stats_file_plan(alloc, store, schema, query, file, terms)?;
             Ok(PreparedRun::PlannedFromStats(made))
         }
     }

@@ -119,7 +119,7 @@ pub fn plan_task(
     requires database { IsDatabaseOf query.now db.now }
     requires ranges { IsInRange task.now }
     ensures planned { IfOk result (λ p. plan_asked task.now schema.now query.now (tables_of db.now) ≡ Ok p.plan) }
-    ensures affordable { IfOk result (λ p. shape_cost p.plan ≤ task.now.budget) }
+    ensures affordable { IfOk result (λ p. shape_cost p.plan ≤ task.now.terms.budget) }
     ensures lists { IfOk result (λ p. lists_in p.scans query.now (tables_of db.now)
         ≡ lists_by task.now.source query.now (tables_of db.now)) }
     ensures exact { IfOk result (λ p. HoldExactly p.scans (scan_bounds p.plan)) }
@@ -133,7 +133,7 @@ pub fn plan_task(
         query,
         db,
     )?;
-    let plan = plan_by(alloc, task.shape, &known, task.budget)?;
+    let plan = plan_by(alloc, task.terms.shape, &known, task.terms.budget)?;
     Ok(PlanWithScans { plan, scans })
 }
 

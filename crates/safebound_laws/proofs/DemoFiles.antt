@@ -89,9 +89,9 @@ module _ (number : ℕ) where
     plan_misses : (schema : Schema) (query : Query) (rows : List (List Row)) → MissesNothing (plan_stage task schema query rows)
     unfolding plan_stage
     plan_misses schema query rows =
-        then_misses (told plan_refusal (plan_asked task schema query (tables_in rows))) (λ plan. within_limit task.memory (shape_bytes plan) (Planned (run_asked task query rows plan)))
+        then_misses (told plan_refusal (plan_asked task schema query (tables_in rows))) (λ plan. within_limit task.terms.memory (shape_bytes plan) (Planned (run_asked task query rows plan)))
         (plans_miss (plan_asked task schema query (tables_in rows)))
-        (λ plan _. within_misses task.memory (shape_bytes plan) (Planned (run_asked task query rows plan)))
+        (λ plan _. within_misses task.terms.memory (shape_bytes plan) (Planned (run_asked task query rows plan)))
 
     query_misses : (schema : Schema) (query : Query) → schema_answer schema_text ≡ Ok schema → IsOf schema query
         → MissesNothing (work_run (works.Plan task) schema query (demo_files number))

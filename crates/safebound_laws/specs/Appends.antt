@@ -6,7 +6,6 @@ use Rattle.base_io.specs.Files.{Files}
 use Rattle.csv_tables.specs.Rows.{Row}
 use Rattle.stats_file_of_query.specs.Standing.{StandsFor}
 use Rattle.join_steps.specs.Lists.{scans_of}
-use Rattle.join_steps.specs.Plans.{IsPlanOf}
 use Rattle.limits.specs.Profile.{most_rows}
 use Rattle.query_types.specs.declared.types.Query.{Query}
 use Rattle.schema_types.specs.declared.types.Schema.{Schema}
@@ -16,6 +15,7 @@ use Rattle.stats_file.specs.declared.types.TableStats.{TableStats}
 use Rattle.table_files.specs.Stage.{table_at}
 use Rattle.table_files.specs.TableFile.{rows_in}
 use Rattle.prepared_runs.specs.Appending.{section_stage}
+use Rattle.prepared_runs.specs.Shapes.{IsPlanOver}
 use Rattle.prepared_runs.specs.StatsFiles.{stats_stage}
 use Rattle.prepared_runs.specs.RunOutcome.{Appended, PlanFromStatsFile, RunOutcome, PlannedFromStats}
 use Rattle.prepared_runs.specs.Verdict.{schema_stage, verdict}
@@ -46,4 +46,4 @@ abbrev pub PlansAfter : StatsFile → ℕ → List Row → StatsFile → Type 0
 PlansAfter before table rows after = (words : List (List ℕ)) (files : Files) (plan : PlanFromStatsFile) (tables grown : Tables)
     → verdict words files ≡ Ok (PlannedFromStats plan) → plan.file ≡ after
     → StandsFor plan.query before tables → HasNewRows plan.query table rows tables grown
-    → IsPlanOf plan.query grown (scans_of plan.query grown) plan.plan
+    → IsPlanOver plan.query grown (scans_of plan.query grown) plan.plan

@@ -1,6 +1,6 @@
 -- Calls of `stats`, `append` and `plan --stats` that ended with Done. Two calls are connected by the bytes of a statistics file: one call
 -- wrote the bytes, and the next call read them.
-use Rattle.std.specs.Prelude.{ℕ, ◌≡◌, ◌++◌, List, [], ◌∷◌, Option, None, Some, ⊤}
+use Rattle.std.specs.Prelude.{ℕ, ◌≡◌, ◌++◌, List, [], ◌∷◌, None, Some, ⊤}
 use Rattle.base_io.specs.Devices.{Growth}
 use Rattle.base_io.specs.Files.{Files, file_of}
 use Rattle.outcomes.specs.declared.status.Status.TheVariants as status
@@ -8,6 +8,7 @@ use Rattle.safebound_words.specs.CommandLines.{AskFor}
 use Rattle.safebound_words.specs.Commands.{over_query, with_rows}
 use Rattle.safebound_words.specs.declared.command.Command.{Command}
 use Rattle.safebound_words.specs.declared.command.NewRows.{NewRows}
+use Rattle.safebound_words.specs.declared.command.PlanTerms.{PlanTerms}
 use Rattle.safebound_words.specs.declared.command.Work.TheVariants as works
 use Rattle.schema_types.specs.declared.types.Schema.{Schema}
 use Rattle.safebound_top.specs.Call.{Call}
@@ -77,11 +78,10 @@ pub record PlanCall : Type 0 where
   pub schema_file : List ℕ
   pub query_file : List ℕ
   pub stats_file : List ℕ
-  pub budget : ℕ
-  pub memory : Option ℕ
+  pub terms : PlanTerms
 
 -- the call of `plan --stats` read this schema, and its statistics file has these bytes
 pub record PlannedFrom (schema : Schema) (bytes : List ℕ) (planned : PlanCall) : Type 0 where
-  pub done : IsDone planned.call (over_query None planned.schema_file planned.query_file (works.PlanFromStats planned.stats_file planned.budget planned.memory)) planned.files
+  pub done : IsDone planned.call (over_query None planned.schema_file planned.query_file (works.PlanFromStats planned.stats_file planned.terms)) planned.files
   pub declares : DeclaresSchema planned.files planned.schema_file schema
   pub there : file_of planned.files planned.stats_file ≡ Some bytes

@@ -15,7 +15,7 @@ use Rattle.prepared_runs.specs.Verdict.{command_stage, schema_read}
 abbrev pub stats_file_of : Work → List ℕ
 stats_file_of (works.Plan task) = []
 stats_file_of (works.WriteStats accuracy) = []
-stats_file_of (works.PlanFromStats file budget memory) = file
+stats_file_of (works.PlanFromStats file terms) = file
 
 -- the names that a line may use: those of the command's files, and those in the schema. Only a command that appends rows names the file of a table's
 -- rows

@@ -66,10 +66,10 @@ DoneIsExact call = call.status ≡ status.Done
 -- 2. If the verdict is accepted, the scan of each FROM entry and each level of the order have at most as many rows as the plan text of 1 says. That
 --    holds for `plan` too, which lists no rows. With `--bushy` the plan is a join tree, and its inner nodes take the place of levels. Without
 --    `--reduce` and `--count`, scans, levels and nodes are those of the query over whole tables. With either, scans are the reduced ones, the text
---    prints exactly their numbers of rows, and levels and nodes are over them. `--keys` makes bounds of levels lower, and not their rows. The audit
---    text of 1 prints the number of rows of each level or inner node beside its bound. With `--stats` bounds hold over all tables for which the
---    statistics file stands, whoever wrote it. The file that `stats` writes stands for the tables that were read. If a file stands for some tables,
---    the one that `append` makes of it stands for these with the new rows after them.
+--    prints exactly their numbers of rows, and levels and nodes are over them. `--keys` makes bounds of levels and nodes lower, and not their rows.
+--    The audit text of 1 prints the number of rows of each level or inner node beside its bound. With `--stats` bounds hold over all tables for
+--    which the statistics file stands, whoever wrote it. The file that `stats` writes stands for the tables that were read. If a file stands for
+--    some tables, the one that `append` makes of it stands for these with the new rows after them.
 abbrev pub EveryBoundHolds : Call → Type 0
 EveryBoundHolds call = OverFiles call (λ files v. IfOk v NoBoundIsTooLow)
 

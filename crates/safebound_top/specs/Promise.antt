@@ -172,7 +172,7 @@ pub record RanWhole (files : Files) (schema_file query_file : List ℕ) (work : 
   pub scans : List (List ℕ)
   pub are_scans : AreScans work.source query tables scans
   pub plan_text : List ℕ
-  pub plan : PrintsPlan work.shape work.memory query tables scans plan_text
+  pub plan : PrintsPlan work.terms.shape work.terms.memory query tables scans plan_text
   pub plan_written : Grew notes plan_text
   pub rows_text : List ℕ
   pub answer : PrintsAnswer query tables rows_text

@@ -27,6 +27,7 @@ pub use outcomes::{
 pub use prepared_runs::Joined;
 pub use report::write_fault;
 pub use safebound_words::{
-    Aim, Command, ListSource, NewRows, OutText, PlanWork, Shape, Word, WordsError, Work, read_words,
+    Aim, Command, ListSource, NewRows, OutText, PlanTerms, PlanWork, Shape, Word, WordsError, Work,
+    read_words,
 };
 pub use top_call::{refuse_words, safebound};

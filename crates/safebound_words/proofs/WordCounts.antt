@@ -9,11 +9,13 @@ use Rattle.std.proofs.lemmas.Slice.Eq.{bytes_eq-Decides}
 use Rattle.safebound_words.specs.Answer.{command_of}
 use Rattle.safebound_words.specs.CommandLines.{Alone, Beside, IsEnd, IsItemOf, Item, Joined, Place, given_by, given_in, place_words, same_flag, same_option, set_by, spelling}
 use Rattle.safebound_words.specs.Commands.{over_query}
-use Rattle.safebound_words.specs.Table.{Given, command_row, option_file, flag_word, from_file, is_set, limit_of, of_append, of_number, of_stats, option_row, over_files, over_schema_and_query, plan_from_stats_or_tables, value_of}
+use Rattle.safebound_words.specs.Table.{Given, command_row, file_alone, flag_word, from_file, from_file_or_tables, is_set, of_append, of_number, of_stats, option_file, option_row, over_files, over_tables, terms_given, value_of, work_given}
 use Rattle.safebound_words.specs.Words.{Word}
 use Rattle.safebound_words.specs.declared.command.Command.{Command}
 use Rattle.safebound_words.specs.declared.command.OutText.{OutText}
 use Rattle.safebound_words.specs.declared.command.OutText.TheVariants as out_text
+use Rattle.safebound_words.specs.declared.command.PlanTerms.{PlanTerms}
+use Rattle.safebound_words.specs.declared.command.Work.{Work}
 use Rattle.safebound_words.specs.declared.command.Work.TheVariants as works
 use Rattle.safebound_words.specs.declared.table.CommandName.{CommandName}
 use Rattle.safebound_words.specs.declared.table.CommandName.TheVariants as command
@@ -126,7 +128,7 @@ once (suc zero) set is = omega arith
 once (suc (suc more)) set is = absurd (cc)
 
 -- a test before what is asked for
-asked_if : (test : Bool) (made r : Command) → (if test then Some made else None) ≡ Some r → test ≡ true
+asked_if : {A : Type 0} (test : Bool) (made r : A) → (if test then Some made else None) ≡ Some r → test ≡ true
 asked_if true made r is = refl
 asked_if false made r is = absurd (cc)
 
@@ -138,69 +140,82 @@ map_so : {A B : Type 0} (f : A → B) (from : Option A) (b : B) → option_map f
 map_so f None b is = absurd (cc)
 map_so f (Some a) b is = (a, refl)
 
--- two places, and each of these at most once
-record AreFew (places : List Word) (given : Given) : Type 0 where
-  two : length places ≡ 2
+-- each of these options and flags is given at most once
+record AreTermsFew (given : Given) : Type 0 where
+  memory : length (given.values option.Memory) ≤ 1
   budget : length (given.values option.Budget) ≤ 1
+  bushy : given.times flag.Bushy ≤ 1
+
+record AreSourcesFew (given : Given) : Type 0 where
   accuracy : length (given.values option.Accuracy) ≤ 1
   reduce : given.times flag.Reduce ≤ 1
-  bushy : given.times flag.Bushy ≤ 1
   keys : given.times flag.Keys ≤ 1
   count : given.times flag.Count ≤ 1
 
-two_few : (out : OutText) (memory : Option ℕ) (places : List Word) (given : Given) (r : Command) → over_schema_and_query out memory places given ≡ Some r → AreFew places given
-two_few out memory [] given r is = absurd (cc)
-two_few out memory (schema ∷ []) given r is = absurd (cc)
-two_few out memory (schema ∷ query ∷ []) given r is =
-    let budget = bind_so (value_of option.Budget (given.values option.Budget)) _ r is in
-    let accuracy = bind_so (value_of option.Accuracy (given.values option.Accuracy)) _ r budget.2 in
-    let reduce = bind_so (is_set (given.times flag.Reduce)) _ r accuracy.2 in
-    let bushy = bind_so (is_set (given.times flag.Bushy)) _ r reduce.2 in
-    let keys = bind_so (is_set (given.times flag.Keys)) _ r bushy.2 in
-    let count = bind_so (is_set (given.times flag.Count)) _ r keys.2 in
+terms_few : (given : Given) (terms : PlanTerms) → terms_given given ≡ Some terms → AreTermsFew given
+terms_few given terms is =
+    let bytes = bind_so (value_of option.Memory (given.values option.Memory)) _ terms is in
+    let budget = bind_so (value_of option.Budget (given.values option.Budget)) _ terms bytes.2 in
+    let bushy = bind_so (is_set (given.times flag.Bushy)) _ terms budget.2 in
     record {
-      two = refl;
+      memory = one_value option.Memory (given.values option.Memory) bytes.0 bytes.1;
       budget = one_value option.Budget (given.values option.Budget) budget.0 budget.1;
-      accuracy = one_value option.Accuracy (given.values option.Accuracy) accuracy.0 accuracy.1;
-      reduce = once (given.times flag.Reduce) reduce.0 reduce.1;
       bushy = once (given.times flag.Bushy) bushy.0 bushy.1;
-      keys = once (given.times flag.Keys) keys.0 keys.1;
-      count = once (given.times flag.Count) count.0 count.1;
     }
-two_few out memory (schema ∷ query ∷ more ∷ places) given r is = absurd (cc)
 
-files_few : (out : OutText) (places : List Word) (given : Given) (r : Command) → over_files out places given ≡ Some r → AreFew places given × (length (given.values option.Memory) ≤ 1)
+module _ (out : OutText) (terms : PlanTerms) (given : Given) (work : Work) where
+  tables_few : over_tables out terms given ≡ Some work → AreSourcesFew given
+  tables_few is =
+      let accuracy = bind_so (value_of option.Accuracy (given.values option.Accuracy)) _ work is in
+      let reduce = bind_so (is_set (given.times flag.Reduce)) _ work accuracy.2 in
+      let keys = bind_so (is_set (given.times flag.Keys)) _ work reduce.2 in
+      let count = bind_so (is_set (given.times flag.Count)) _ work keys.2 in
+      record {
+        accuracy = one_value option.Accuracy (given.values option.Accuracy) accuracy.0 accuracy.1;
+        reduce = once (given.times flag.Reduce) reduce.0 reduce.1;
+        keys = once (given.times flag.Keys) keys.0 keys.1;
+        count = once (given.times flag.Count) count.0 count.1;
+      }
+
+  file_few : (file : Word) → from_file file terms given ≡ Some work → AreSourcesFew given
+  file_few file is =
+      let alone = asked_if (file_alone given) (works.PlanFromStats file terms) work is in
+      let first = both_true (length (given.values option.Accuracy) == 0) _ alone in
+      let second = both_true (given.times flag.Reduce == 0) _ first.1 in
+      let third = both_true (given.times flag.Keys == 0) (given.times flag.Count == 0) second.1 in
+      record {
+        accuracy = omega (arith, eqb-true (length (given.values option.Accuracy)) 0 first.0);
+        reduce = omega (arith, eqb-true (given.times flag.Reduce) 0 second.0);
+        keys = omega (arith, eqb-true (given.times flag.Keys) 0 third.0);
+        count = omega (arith, eqb-true (given.times flag.Count) 0 third.1);
+      }
+
+  either_few : (file : Option Word) → from_file_or_tables out file terms given ≡ Some work → AreSourcesFew given
+  either_few None is = tables_few is
+  either_few (Some file) is = file_few file is
+
+  work_few : work_given out terms given ≡ Some work → AreSourcesFew given × (length (given.values option.Stats) ≤ 1)
+  work_few is =
+      let file = bind_so (option_file (given.values option.Stats)) _ work is in
+      (either_few file.0 file.2, one_file (given.values option.Stats) file.0 file.1)
+
+-- there are two place words, and each option and flag is given at most once
+record AreFew (places : List Word) (given : Given) : Type 0 where
+  two : length places ≡ 2
+  terms : AreTermsFew given
+  sources : AreSourcesFew given
+  stats : length (given.values option.Stats) ≤ 1
+
+files_few : (out : OutText) (places : List Word) (given : Given) (r : Command) → over_files out places given ≡ Some r → AreFew places given
 unfolding over_files
-files_few out places given r is =
-    let memory = bind_so (value_of option.Memory (given.values option.Memory)) _ r is in
-    (two_few out (limit_of memory.0) places given r memory.2, one_value option.Memory (given.values option.Memory) memory.0 memory.1)
-
-from_few : (file : Word) (memory : Option ℕ) (places : List Word) (given : Given) (r : Command) → from_file file memory places given ≡ Some r → AreFew places given
-from_few file memory [] given r is = absurd (cc)
-from_few file memory (schema ∷ []) given r is = absurd (cc)
-from_few file memory (schema ∷ query ∷ []) given r is =
-    let budget = bind_so (value_of option.Budget (given.values option.Budget)) _ r is in
-    let alone = asked_if _ (over_query None schema query (works.PlanFromStats file budget.0 memory)) r budget.2 in
-    let first = both_true (length (given.values option.Accuracy) == 0) _ alone in
-    let second = both_true (given.times flag.Reduce == 0) _ first.1 in
-    let third = both_true (given.times flag.Bushy == 0) _ second.1 in
-    let fourth = both_true (given.times flag.Keys == 0) (given.times flag.Count == 0) third.1 in
-    record {
-      two = refl;
-      budget = one_value option.Budget (given.values option.Budget) budget.0 budget.1;
-      accuracy = omega (arith, eqb-true (length (given.values option.Accuracy)) 0 first.0);
-      reduce = omega (arith, eqb-true (given.times flag.Reduce) 0 second.0);
-      bushy = omega (arith, eqb-true (given.times flag.Bushy) 0 third.0);
-      keys = omega (arith, eqb-true (given.times flag.Keys) 0 fourth.0);
-      count = omega (arith, eqb-true (given.times flag.Count) 0 fourth.1);
-    }
-from_few file memory (schema ∷ query ∷ more ∷ places) given r is = absurd (cc)
-
-planned_few : (file : Option Word) (places : List Word) (given : Given) (r : Command) → plan_from_stats_or_tables file places given ≡ Some r → AreFew places given × (length (given.values option.Memory) ≤ 1)
-planned_few None places given r is = files_few out_text.Nothing places given r is
-planned_few (Some file) places given r is =
-    let memory = bind_so (value_of option.Memory (given.values option.Memory)) _ r is in
-    (from_few file (limit_of memory.0) places given r memory.2, one_value option.Memory (given.values option.Memory) memory.0 memory.1)
+files_few out [] given r is = absurd (cc)
+files_few out (schema ∷ []) given r is = absurd (cc)
+files_few out (schema ∷ query ∷ []) given r is =
+    let terms = bind_so (terms_given given) _ r is in
+    let work = bind_so (work_given out terms.0 given) _ r terms.2 in
+    let few = work_few out terms.0 given work.0 work.1 in
+    record { two = refl; terms = terms_few given terms.0 terms.1; sources = few.0; stats = few.1 }
+files_few out (schema ∷ query ∷ more ∷ places) given r is = absurd (cc)
 
 stats_few : (places : List Word) (given : Given) (r : Command) → of_stats places given ≡ Some r → (length places ≡ 2) × (length (given.values option.Accuracy) ≤ 1)
 stats_few [] given r is = absurd (cc)
@@ -224,16 +239,17 @@ demo_few (number ∷ []) given r is = refl
 demo_few (number ∷ more ∷ places) given r is = absurd (cc)
 
 -- two places, three options and four flags; a plan may have one option more
-whole_few : (places : List Word) (given : Given) → AreFew places given → length (given.values option.Memory) ≤ 1 → weight command.Run places given ≤ 12
-whole_few places given few memory = omega (arith, few.two, few.budget, few.accuracy, few.reduce, few.bushy, few.keys, few.count, memory)
+whole_few : (places : List Word) (given : Given) → AreFew places given → weight command.Run places given ≤ 12
+whole_few places given few =
+    let terms = few.terms in
+    let sources = few.sources in
+    omega (arith, few.two, terms.memory, terms.budget, terms.bushy, sources.accuracy, sources.reduce, sources.keys, sources.count)
 
 asks_few : (name : CommandName) (places : List Word) (given : Given) (r : Command) → (command_row name).asks places given ≡ Some r → weight name places given ≤ 14
-asks_few command.Run places given r is = let few = files_few out_text.Rows places given r is in omega (arith, whole_few places given few.0 few.1)
+asks_few command.Run places given r is = omega (arith, whole_few places given (files_few out_text.Rows places given r is))
 asks_few command.Plan places given r is =
-    let file = bind_so (option_file (given.values option.Stats)) _ r is in
-    let few = planned_few file.0 places given r file.2 in
-    omega (arith, whole_few places given few.0 few.1, one_file (given.values option.Stats) file.0 file.1)
-asks_few command.Audit places given r is = let few = files_few out_text.Audit places given r is in omega (arith, whole_few places given few.0 few.1)
+    let few = files_few out_text.Nothing places given r is in omega (arith, whole_few places given few, few.stats)
+asks_few command.Audit places given r is = omega (arith, whole_few places given (files_few out_text.Audit places given r is))
 asks_few command.Stats places given r is = let few = stats_few places given r is in omega (arith, few.0, few.1)
 asks_few command.Append places given r is = omega (arith, append_few places given r is)
 asks_few command.Demo places given r is = omega (arith, demo_few places given r is)

@@ -9,6 +9,7 @@ use Rattle.safebound_words.specs.declared.command.ListSource.TheVariants as sour
 use Rattle.safebound_words.specs.declared.command.NewRows.{NewRows}
 use Rattle.safebound_words.specs.declared.command.OutText.{OutText}
 use Rattle.safebound_words.specs.declared.command.OutText.TheVariants as out_text
+use Rattle.safebound_words.specs.declared.command.PlanTerms.{PlanTerms}
 use Rattle.safebound_words.specs.declared.command.Shape.{Shape}
 use Rattle.safebound_words.specs.declared.command.Shape.TheVariants as shapes
 use Rattle.safebound_words.specs.declared.command.Work.{Work}
@@ -34,10 +35,14 @@ abbrev pub shape_by : Bool → Shape
 shape_by false = shapes.Order
 shape_by true = shapes.Tree
 
+-- the terms of a plan, by a budget, the flag `--bushy`, and a limit of memory, if there is one
+abbrev pub terms_by : ℕ → Bool → Option ℕ → PlanTerms
+terms_by budget bushy memory = record { budget = budget; shape = shape_by bushy; memory = memory }
+
 -- a plan with a text for out, a budget, an accuracy, a source, the flag `--bushy`, and a limit of memory, if there is one
 abbrev pub plan_work : OutText → ℕ → ℕ → ListSource → Bool → Option ℕ → Work
-plan_work out budget accuracy source bushy memory = works.Plan
-    (record { budget = budget; accuracy = accuracy; source = source; shape = shape_by bushy; memory = memory; out = out })
+plan_work out budget accuracy source bushy memory =
+    works.Plan (record { terms = terms_by budget bushy memory; accuracy = accuracy; source = source; out = out })
 
 -- the same by the flags `--reduce`, `--bushy` and `--keys`, without `--count`
 abbrev pub plan_by : OutText → ℕ → ℕ → Bool → Bool → Bool → Option ℕ → Work

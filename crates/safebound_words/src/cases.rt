@@ -1,7 +1,7 @@
 //! What small command lines ask for.
 ghost use Rattle.std.specs.Prelude.{◌≡◌, Some, None, [], ◌∷◌, codes, false, true};
 ghost use Rattle.safebound_words.specs.Answer.{command_of};
-ghost use Rattle.safebound_words.specs.Commands.{demo_of, over_query, plan_by, plan_work, with_rows};
+ghost use Rattle.safebound_words.specs.Commands.{demo_of, over_query, plan_by, plan_work, terms_by, with_rows};
 ghost use Rattle.safebound_words.specs.declared.command.ListSource.TheVariants as sources;
 ghost use Rattle.safebound_words.specs.declared.command.OutText.TheVariants as out_text;
 ghost use Rattle.safebound_words.specs.declared.command.Work.TheVariants as works;
@@ -106,14 +106,16 @@ pub fn small_keys()
         ≡ Some (over_query None (codes "s") (codes "q") (plan_by out_text.Nothing 20000000 1 false false true None)) }
     ensures between { command_of (codes "audit" ∷ codes "s" ∷ codes "--accuracy=8" ∷ codes "--keys" ∷ codes "q" ∷ codes "--memory=9" ∷ [])
         ≡ Some (over_query None (codes "s") (codes "q") (plan_by out_text.Audit 1000000 8 false false true (Some 9))) }
+    ensures tree { command_of (codes "plan" ∷ codes "--bushy" ∷ codes "s" ∷ codes "q" ∷ codes "--keys" ∷ [])
+        ≡ Some (over_query None (codes "s") (codes "q") (plan_by out_text.Nothing 1000000 1 false true true None)) }
+    ensures past_most { command_of (codes "run" ∷ codes "--keys" ∷ codes "--budget=4000001" ∷ codes "s" ∷ codes "q" ∷ codes "--bushy" ∷ []) ≡ None }
     ensures twice { command_of (codes "run" ∷ codes "--keys" ∷ codes "s" ∷ codes "q" ∷ codes "--keys" ∷ []) ≡ None }
     ensures value { command_of (codes "run" ∷ codes "s" ∷ codes "q" ∷ codes "--keys=1" ∷ []) ≡ None }
     ensures of_demo { command_of (codes "demo" ∷ codes "7" ∷ codes "--keys" ∷ []) ≡ None }
     ensures of_stats { command_of (codes "stats" ∷ codes "s" ∷ codes "q" ∷ codes "--keys" ∷ []) ≡ None }
 
-    // It can't stand beside `--reduce`, `--bushy` or `--stats`.
+    // It can't stand beside `--reduce` or `--stats`.
     ensures reduced { command_of (codes "run" ∷ codes "--keys" ∷ codes "s" ∷ codes "q" ∷ codes "--reduce" ∷ []) ≡ None }
-    ensures tree { command_of (codes "plan" ∷ codes "--bushy" ∷ codes "s" ∷ codes "q" ∷ codes "--keys" ∷ []) ≡ None }
     ensures of_a_file { command_of (codes "plan" ∷ codes "s" ∷ codes "q" ∷ codes "--stats=f" ∷ codes "--keys" ∷ []) ≡ None }
 {}
 
@@ -143,9 +145,9 @@ pub fn small_statistics()
     ensures stats { command_of (codes "stats" ∷ codes "s" ∷ codes "q" ∷ codes "--accuracy" ∷ codes "8" ∷ []) ≡ Some (over_query None (codes "s") (codes "q") (works.WriteStats 8)) }
     ensures usual { command_of (codes "stats" ∷ codes "s" ∷ codes "q" ∷ []) ≡ Some (over_query None (codes "s") (codes "q") (works.WriteStats 1)) }
     ensures plan { command_of (codes "plan" ∷ codes "s" ∷ codes "q" ∷ codes "--stats" ∷ codes "f" ∷ codes "--budget=5" ∷ [])
-        ≡ Some (over_query None (codes "s") (codes "q") (works.PlanFromStats (codes "f") 5 None)) }
+        ≡ Some (over_query None (codes "s") (codes "q") (works.PlanFromStats (codes "f") (terms_by 5 false None))) }
     ensures joined { command_of (codes "plan" ∷ codes "--stats=a=b" ∷ codes "s" ∷ codes "q" ∷ [])
-        ≡ Some (over_query None (codes "s") (codes "q") (works.PlanFromStats (codes "a=b") 1000000 None)) }
+        ≡ Some (over_query None (codes "s") (codes "q") (works.PlanFromStats (codes "a=b") (terms_by 1000000 false None))) }
 
     // The file's name isn't empty, and doesn't begin with a dash.
     ensures no_name { command_of (codes "plan" ∷ codes "s" ∷ codes "q" ∷ codes "--stats=" ∷ []) ≡ None }
@@ -153,10 +155,18 @@ pub fn small_statistics()
     ensures next_word { command_of (codes "plan" ∷ codes "s" ∷ codes "q" ∷ codes "--stats" ∷ codes "--budget=5" ∷ []) ≡ None }
     ensures two_files { command_of (codes "plan" ∷ codes "s" ∷ codes "q" ∷ codes "--stats=f" ∷ codes "--stats=f" ∷ []) ≡ None }
 
-    // Only `--budget` and `--memory` may stand beside `--stats`, and `stats` has only `--accuracy`.
+    // It can stand beside `--bushy`.
+    ensures tree { command_of (codes "plan" ∷ codes "s" ∷ codes "q" ∷ codes "--stats=f" ∷ codes "--bushy" ∷ codes "--budget=5" ∷ [])
+        ≡ Some (over_query None (codes "s") (codes "q") (works.PlanFromStats (codes "f") (terms_by 5 true None))) }
+    ensures limited { command_of (codes "plan" ∷ codes "--bushy" ∷ codes "s" ∷ codes "q" ∷ codes "--memory=9" ∷ codes "--stats" ∷ codes "f" ∷ [])
+        ≡ Some (over_query None (codes "s") (codes "q") (works.PlanFromStats (codes "f") (terms_by 1000000 true (Some 9)))) }
+    ensures past_most { command_of (codes "plan" ∷ codes "s" ∷ codes "q" ∷ codes "--stats=f" ∷ codes "--budget=4000001" ∷ codes "--bushy" ∷ []) ≡ None }
+    ensures of_orders { command_of (codes "plan" ∷ codes "s" ∷ codes "q" ∷ codes "--stats=f" ∷ codes "--budget=4000001" ∷ [])
+        ≡ Some (over_query None (codes "s") (codes "q") (works.PlanFromStats (codes "f") (terms_by 4000001 false None))) }
+
+    // It can't stand beside another source or an accuracy, and `stats` has only `--accuracy`.
     ensures accuracy { command_of (codes "plan" ∷ codes "s" ∷ codes "q" ∷ codes "--stats=f" ∷ codes "--accuracy=1" ∷ []) ≡ None }
     ensures reduced { command_of (codes "plan" ∷ codes "s" ∷ codes "q" ∷ codes "--stats=f" ∷ codes "--reduce" ∷ []) ≡ None }
-    ensures tree { command_of (codes "plan" ∷ codes "s" ∷ codes "q" ∷ codes "--stats=f" ∷ codes "--bushy" ∷ []) ≡ None }
     ensures of_run { command_of (codes "run" ∷ codes "s" ∷ codes "q" ∷ codes "--stats=f" ∷ []) ≡ None }
     ensures budget { command_of (codes "stats" ∷ codes "s" ∷ codes "q" ∷ codes "--budget=5" ∷ []) ≡ None }
     ensures flag { command_of (codes "stats" ∷ codes "s" ∷ codes "q" ∷ codes "--reduce" ∷ []) ≡ None }
@@ -178,7 +188,7 @@ pub fn small_limits()
     ensures twice { command_of (codes "run" ∷ codes "--memory=5" ∷ codes "s" ∷ codes "q" ∷ codes "--memory=5" ∷ []) ≡ None }
     ensures no_number { command_of (codes "run" ∷ codes "s" ∷ codes "q" ∷ codes "--memory=5k" ∷ []) ≡ None }
     ensures of_a_file { command_of (codes "plan" ∷ codes "s" ∷ codes "q" ∷ codes "--stats=f" ∷ codes "--memory=5" ∷ [])
-        ≡ Some (over_query None (codes "s") (codes "q") (works.PlanFromStats (codes "f") 1000000 (Some 5))) }
+        ≡ Some (over_query None (codes "s") (codes "q") (works.PlanFromStats (codes "f") (terms_by 1000000 false (Some 5)))) }
     ensures of_stats { command_of (codes "stats" ∷ codes "s" ∷ codes "q" ∷ codes "--memory=5" ∷ []) ≡ None }
     ensures of_demo { command_of (codes "demo" ∷ codes "7" ∷ codes "--memory=5" ∷ []) ≡ None }
 {}

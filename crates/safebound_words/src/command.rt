@@ -35,16 +35,22 @@ pub enum Shape {
     Tree,
 }
 
-/// How a query is planned over its tables. `budget` is the most rows that a plan may cost, `accuracy` that of compression. `source` says what bounds
-/// are made from, `shape` how entries are joined, and `out` which text goes to `out`. `memory` is the most bytes that the plan's buffers may take, if
-/// there is a limit.
+/// What is asked of a plan, whatever its bounds are made from. `budget` is the most rows that it may cost, and `shape` says how entries are joined.
+/// `memory` is the most bytes that the plan's buffers may take, if there is a limit.
 #[derive(Clone, Copy, Debug)]
-pub struct PlanWork {
+pub struct PlanTerms {
     pub budget: u64,
-    pub accuracy: u8,
-    pub source: ListSource,
     pub shape: Shape,
     pub memory: Option<u64>,
+}
+
+/// How a query is planned over its tables. `terms` is what is asked of any plan, `accuracy` is that of compression, `source` says what bounds are
+/// made from, and `out` which text goes to `out`.
+#[derive(Clone, Copy, Debug)]
+pub struct PlanWork {
+    pub terms: PlanTerms,
+    pub accuracy: u8,
+    pub source: ListSource,
     pub out: OutText,
 }
 
@@ -54,15 +60,9 @@ pub enum Work<'a> {
     /// It is planned over its tables, and joined if a text goes to `out`.
     Plan(PlanWork),
     /// The statistics file of its tables is written, at an accuracy of compression from 1 to 64.
-    WriteStats {
-        accuracy: u8,
-    },
-    /// It is planned from the statistics file of this name, within a budget and a limit of memory, if there is one.
-    PlanFromStats {
-        file: Word<'a>,
-        budget: u64,
-        memory: Option<u64>,
-    },
+    WriteStats { accuracy: u8 },
+    /// It is planned from the statistics file of this name, and no table is read.
+    PlanFromStats { file: Word<'a>, terms: PlanTerms },
 }
 
 /// The name of a statistics file, the name of a table, and the name of a file with new rows of it.

@@ -22,7 +22,9 @@ pub use cases::{
     small_appends, small_commands, small_flags, small_keys, small_limits, small_options,
     small_refusals, small_statistics, small_trees,
 };
-pub use command::{Aim, Command, ListSource, NewRows, OutText, PlanWork, Shape, WordsError, Work};
+pub use command::{
+    Aim, Command, ListSource, NewRows, OutText, PlanTerms, PlanWork, Shape, WordsError, Work,
+};
 pub use laws::{one_command, one_reading};
 pub use table::{CommandName, FlagName, OptionName};
 pub use word::Word;

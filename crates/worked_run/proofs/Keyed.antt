@@ -61,7 +61,7 @@ use Rattle.worked_run.proofs.Queries.{workers_query_read}
 use Rattle.worked_run.proofs.Schemas.{workers_read}
 
 abbrev task : PlanWork
-task = record { budget = 1000000; accuracy = 1; source = sources.Keyed; shape = shapes.Order; memory = None; out = out_text.Nothing }
+task = record { terms = record { budget = 1000000; shape = shapes.Order; memory = None }; accuracy = 1; source = sources.Keyed; out = out_text.Nothing }
 
 abbrev command : Command
 command = over_query None (codes "schema.sql") (codes "query.sql") (works.Plan task)

@@ -50,7 +50,7 @@ use Rattle.worked_run.proofs.Levels.{T, said, says, scans_found}
 use Rattle.worked_run.proofs.Verdicts.{of_words}
 
 abbrev pub task : ListSource → PlanWork
-task source = record { budget = 1000000; accuracy = 1; source = source; shape = shapes.Order; memory = None; out = out_text.Rows }
+task source = record { terms = record { budget = 1000000; shape = shapes.Order; memory = None }; accuracy = 1; source = source; out = out_text.Rows }
 
 -- ---- what is left
 

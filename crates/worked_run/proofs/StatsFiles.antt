@@ -1,5 +1,5 @@
 -- The statistics file of the small tables, a plan from it, and the file with new rows.
-use Rattle.std.proofs.Common.{◌≡◌, ℕ, List, [], ◌∷◌, None, Some, Result, Ok, refl, ap, sym, ◌∙◌, subst, arith}
+use Rattle.std.proofs.Common.{◌≡◌, ℕ, false, List, [], ◌∷◌, None, Some, Result, Ok, refl, ap, sym, ◌∙◌, subst, arith}
 use Rattle.std.specs.Fmt.{digits}
 use Rattle.std.specs.Prelude.{codes}
 use Rattle.std.specs.Str.{chars, is_utf8}
@@ -38,7 +38,7 @@ use Rattle.table_files.specs.EntryTables.{tables_in}
 use Rattle.table_files.specs.Examples.{numbers_table, two_tables}
 use Rattle.table_files.specs.TableFile.{read, rows_in}
 use Rattle.safebound_words.specs.Answer.{command_of, kind_of, parts_from, reading_of}
-use Rattle.safebound_words.specs.Commands.{over_query, with_rows}
+use Rattle.safebound_words.specs.Commands.{over_query, terms_by, with_rows}
 use Rattle.safebound_words.specs.Numbers.{number_of}
 use Rattle.safebound_words.specs.Table.{over_files}
 use Rattle.safebound_words.specs.declared.command.Aim.TheVariants as aims
@@ -69,7 +69,7 @@ stats_asked : command_stage stats_words ≡ Ok (over_query None (codes "schema.s
 unfolding command_of reading_of over_files parts_from kind_of number_of
 stats_asked = refl
 
-from_file_asked : command_stage from_file_words ≡ Ok (over_query None (codes "schema.sql") (codes "query.sql") (works.PlanFromStats (codes "rs.stats") 1000000 None))
+from_file_asked : command_stage from_file_words ≡ Ok (over_query None (codes "schema.sql") (codes "query.sql") (works.PlanFromStats (codes "rs.stats") (terms_by 1000000 false None)))
 unfolding command_of reading_of over_files parts_from kind_of number_of
 from_file_asked = refl
 
@@ -106,15 +106,15 @@ there : read file_id.Stats most_file (codes "rs.stats") small_files ≡ Ok stats
 unfolding stats_text r_stats r_cuts s_stats
 there = refl
 
-alike : seen printed (command_run (over_query None (codes "schema.sql") (codes "query.sql") (works.PlanFromStats (codes "rs.stats") 1000000 None)) small_files)
+alike : seen printed (command_run (over_query None (codes "schema.sql") (codes "query.sql") (works.PlanFromStats (codes "rs.stats") (terms_by 1000000 false None))) small_files)
     ≡ Ok (Some (codes "scan R 6\nscan S 5\nlevel 1 S 5\nlevel 2 R 12\n"), None)
 alike =
-    files_alike (codes "schema.sql") (codes "query.sql") (codes "rs.stats") 1 1000000 None small_files small_stats_file stats_text (omega arith) (omega arith) file_made stats_printed there
+    files_alike (codes "schema.sql") (codes "query.sql") (codes "rs.stats") 1 (terms_by 1000000 false None) small_files small_stats_file stats_text (omega arith) (omega arith) file_made stats_printed there
     ∙ ap (seen printed) plan_alone ∙ ap (λ (t : List ℕ). Ok (Some t, None)) (notes_text out_texts.Nothing)
 
 pub plan_printed : seen printed (verdict from_file_words small_files) ≡ Ok (Some (codes "scan R 6\nscan S 5\nlevel 1 S 5\nlevel 2 R 12\n"), None)
 plan_printed =
-    ap (seen printed) (asked_run from_file_words (over_query None (codes "schema.sql") (codes "query.sql") (works.PlanFromStats (codes "rs.stats") 1000000 None)) from_file_asked) ∙ alike
+    ap (seen printed) (asked_run from_file_words (over_query None (codes "schema.sql") (codes "query.sql") (works.PlanFromStats (codes "rs.stats") (terms_by 1000000 false None))) from_file_asked) ∙ alike
 
 -- ---- with new rows
 

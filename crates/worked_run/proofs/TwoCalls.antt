@@ -1,5 +1,5 @@
 -- What one call wrote and another one read, by the law on such calls.
-use Rattle.std.proofs.Common.{◌≡◌, ℕ, List, None, Some, Ok, refl, ap, sym, ◌∙◌, subst}
+use Rattle.std.proofs.Common.{◌≡◌, ℕ, false, List, None, Some, Ok, refl, ap, sym, ◌∙◌, subst}
 use Rattle.std.specs.Prelude.{codes}
 use Rattle.base_io.specs.Files.{Files, file_of}
 use Rattle.safebound_laws.proofs.Ended.{same_some}
@@ -11,7 +11,7 @@ use Rattle.schema_types.specs.Texts.{IsSchemaOf}
 use Rattle.table_files.specs.Examples.{two_tables}
 use Rattle.safebound_words.specs.Answer.{command_of, kind_of, parts_from, reading_of}
 use Rattle.safebound_words.specs.CommandLines.{AskFor}
-use Rattle.safebound_words.specs.Commands.{over_query}
+use Rattle.safebound_words.specs.Commands.{over_query, terms_by}
 use Rattle.safebound_words.specs.Numbers.{number_of}
 use Rattle.safebound_words.specs.Table.{over_files}
 use Rattle.safebound_words.specs.declared.command.Command.{Command}
@@ -29,7 +29,7 @@ abbrev stats_command : Command
 stats_command = over_query None (codes "schema.sql") (codes "query.sql") (works.WriteStats 1)
 
 abbrev plan_command : Command
-plan_command = over_query None (codes "schema.sql") (codes "query.sql") (works.PlanFromStats (codes "rs.stats") 1000000 None)
+plan_command = over_query None (codes "schema.sql") (codes "query.sql") (works.PlanFromStats (codes "rs.stats") (terms_by 1000000 false None))
 
 stats_asked : command_of stats_words ≡ Some stats_command
 unfolding command_of reading_of over_files parts_from kind_of number_of

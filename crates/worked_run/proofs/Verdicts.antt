@@ -44,7 +44,7 @@ use Rattle.worked_run.proofs.Schemas.{schema_read}
 
 -- for a text for out, along an order or by a tree, within a budget, and with a limit of memory, where there is one
 abbrev task : OutText → Shape → ℕ → Option ℕ → PlanWork
-task out shape budget memory = record { budget = budget; accuracy = 1; source = sources.Columns; shape = shape; memory = memory; out = out }
+task out shape budget memory = record { terms = record { budget = budget; shape = shape; memory = memory }; accuracy = 1; source = sources.Columns; out = out }
 
 abbrev ask : OutText → Shape → ℕ → Option ℕ → Command
 ask out shape budget memory = over_query None (codes "schema.sql") (codes "query.sql") (works.Plan (task out shape budget memory))
