@@ -1,11 +1,11 @@
 -- A plan from the statistics file of a query's tables prints the same as a plan from these tables.
 use Rattle.std.proofs.Common.{◌≡◌, ℕ, ◌<◌, ◌≤◌, List, Bool, true, false, Option, None, Some, Result, Ok, Err, refl, ap, sym, ◌∙◌}
-use Rattle.std.specs.Prelude.{length, nat_le, if◌then◌else◌}
+use Rattle.std.specs.Prelude.{nat_le, if◌then◌else◌}
 use Rattle.limits.specs.Profile.{most_accuracy, most_file}
 use Rattle.base_io.specs.Files.{Files}
 use Rattle.csv_tables.specs.Rows.{Row}
 use Rattle.csv_tables.specs.declared.types.Database.{Database}
-use Rattle.stats_file_bounds.specs.Bounds.{scan_bounds_of_file, set_bounds_of_file}
+use Rattle.stats_file_bounds.specs.Bounds.{scan_bounds_of_file}
 use Rattle.stats_file_exactness.proofs.Exactness.{none_missing, scans_same, sets_same}
 use Rattle.stats_file_of_query.proofs.Rules.{file_keeps}
 use Rattle.stats_file_of_query.specs.Databases.{IsOverSchema}

@@ -3,7 +3,7 @@ use Rattle.std.proofs.Common.{◌≡◌, ℕ, ◌<◌, false, List, length, Some
 use Rattle.appended_stats.specs.Appended.{alone}
 use Rattle.csv_tables.specs.Rows.{Row}
 use Rattle.stats_file_bounds.proofs.Telling.{IsThere, is_there, section_is}
-use Rattle.stats_file_bounds.specs.Bounds.{scan_bounds_of_file, set_bounds_of_file}
+use Rattle.stats_file_bounds.specs.Bounds.{scan_bounds_of_file}
 use Rattle.stats_file_bounds.specs.Found.{is_missing, pair_in, section_for}
 use Rattle.stats_file_exactness.proofs.Exactness.{KnowsTables, scans_known, sets_known}
 use Rattle.stats_file_exactness.proofs.Sections as sections
@@ -35,7 +35,7 @@ use Rattle.safebound_laws.proofs.KnownBytes.{FromStats, from_stats}
 use Rattle.safebound_laws.proofs.NearRuns.{parts_near}
 use Rattle.safebound_laws.proofs.OtherQueries.{stands_for_other}
 use Rattle.safebound_laws.proofs.Planned as planned_facts
-use Rattle.safebound_laws.proofs.Planned.{PlanMade, moved}
+use Rattle.safebound_laws.proofs.Planned.{moved}
 
 module _ (schema : Schema) (bytes : List ℕ) (made : StatsCall) (planned : PlanCall) (wrote : WroteStats made schema bytes) (from : PlannedFrom schema bytes planned) where
   start : FromStats made bytes schema

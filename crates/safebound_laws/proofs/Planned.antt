@@ -1,5 +1,5 @@
 -- The bounds of a plan from a statistics file hold for all tables for which the file is known to stand.
-use Rattle.std.proofs.Common.{◌≡◌, ℕ, ◌<◌, ◌==◌, ◌++◌, true, false, List, [], length, get_or, Option, None, Some, Result, Ok, Err, refl, ap, sym, ◌∙◌, subst, arith}
+use Rattle.std.proofs.Common.{◌≡◌, ℕ, ◌<◌, ◌==◌, ◌++◌, true, false, List, [], length, get_or, Option, None, Some, Ok, refl, ap, sym, ◌∙◌, subst, arith}
 use Rattle.std.specs.Prelude.{unwrap_or}
 use Rattle.std.proofs.lemmas.Bool.{eq-eqb}
 use Rattle.std.proofs.lemmas.List.{get_or-map}
@@ -38,7 +38,7 @@ use Rattle.prepared_runs.specs.Limits.{IsWithinLimit, within_limit}
 use Rattle.prepared_runs.specs.Shapes.{IsPlanOver, planned_within, shape_bytes}
 use Rattle.prepared_runs.specs.declared.shapes.AnyPlan.{AnyPlan}
 use Rattle.safebound_words.specs.declared.command.PlanTerms.{PlanTerms}
-use Rattle.prepared_runs.specs.RunOutcome.{PlanFromStatsFile, HoldsWhereItStands, NoBoundIsTooLow, RunOutcome, PlannedFromStats}
+use Rattle.prepared_runs.specs.RunOutcome.{PlanFromStatsFile, HoldsWhereItStands, NoBoundIsTooLow, RunOutcome}
 use Rattle.prepared_runs.specs.Verdict.{aim_run, command_run, query_stage, schema_stage, work_run}
 use Rattle.safebound_top.proofs.Promises.{asks, query_of_schema, text_prints}
 use Rattle.safebound_top.specs.Call.{Grew}
