@@ -16,7 +16,7 @@ use limits::GREATEST_ROWS;
 use piece_math::Pieces;
 use std::alloc::Global;
 
-// How many elements, from `start` on, are equal to the one at `start`. In a falling list they stand side by side.
+// How many elements, from `start` on, are equal to the element at `start`. In a falling list equal elements stand side by side.
 fn run_length(list: &[u64], start: usize) -> usize
     requires falls { IsFalling list.now }
     requires start { start < length list.now }
@@ -28,7 +28,7 @@ fn run_length(list: &[u64], start: usize) -> usize
     list[start..].partition_point(|next| *next == first)
 }
 
-// A falling list as pieces. It goes from run to run, since a long list of degrees has few runs.
+// A falling list as pieces. The loop goes from run to run, since a long list of degrees has few runs.
 fn pieces_of_falling(alloc: Global, list: &[u64]) -> Result<Pieces, NoMemory>
     requires falls { IsFalling list.now }
     requires positive { All (λ x. 0 < x) list.now }

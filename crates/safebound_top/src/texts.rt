@@ -103,7 +103,7 @@ fn write_room<N: Sink>(room: &Room, sources: &[Source], notes: &mut N) -> Result
     }
 }
 
-// Writes the plan text.
+// Writes the plan text of an order or of a tree.
 fn write_shaped<N: Sink>(plan: &AnyPlan, sources: &[Source], notes: &mut N) -> Result<(), Failed>
     requires { IsShapedPlan (length sources.now) plan.now }
     ensures { Wrote (growth N.taken N.faults notes.old notes.new) (shape_lines sources.now plan.now) result }

@@ -35,7 +35,7 @@ pub fn read_words<'a>(words: &[&'a str]) -> Result<Command<'a>, WordsError>
     ensures command { IfOk result (AskFor (map (λ w. w.now) words.now)) }
     ensures usage { OnErr result ((command : Command) → AskFor (map (λ w. w.now) words.now) command → ⊥) }
 
-    // The same as a function of the words.
+    // The answer is what `asked_by` computes from the words.
     ensures answer { result_ok result ≡ asked_by (map (λ w. w.now) words.now) }
     ensures ranges { IfOk result (λ command. HasRanges command.aim) }
     ensures few { OnOk result (length words.now ≤ MOST_WORDS) }
