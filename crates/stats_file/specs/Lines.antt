@@ -23,11 +23,11 @@ abbrev pub datum_text : Datum → List ℕ
 datum_text (datum.Int number) = signed_decimal number
 datum_text (datum.Text bytes) = hex_text bytes
 
--- a run: its value, and how often it stands
+-- a run: its value, and how often this value stands
 abbrev pub run_text : Piece → List ℕ
 run_text run = decimal run.value ++ (codes "*" ++ decimal run.count)
 
--- the runs with blanks between them, or a dash if there is none
+-- the runs with blanks between them, or a dash if there is no run
 abbrev pub runs_text : List Piece → List ℕ
 runs_text [] = codes "-"
 runs_text (run ∷ runs) = run_text run ++ flat_map (λ next. codes " " ++ run_text next) runs
