@@ -1,4 +1,4 @@
--- Which element of an argument is the first wrong one.
+-- The first element of an argument that is wrong.
 use Rattle.std.specs.Prelude.{ℕ, ◌<◌}
 
 -- `place` is the first of `count` places whose element is wrong

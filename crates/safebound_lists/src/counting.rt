@@ -45,7 +45,7 @@ fn pieces_of_falling(alloc: Global, list: &[u64]) -> Result<Pieces, NoMemory>
 }
 
 /// Writes the degree sequence of a column at the front of `into`, as runs whose degrees strictly fall, and says how many runs these are. `keys`
-/// has the key of each row. It refuses more than 2^48 keys, want of memory, and too little room; `into` is then as it was.
+/// has the key of each row. The call refuses more than 2^48 keys, want of memory, and too little room; `into` is then as it was.
 pub fn degrees(alloc: Global, keys: &[u64], into: &mut [Run]) -> Result<u64, Refusal>
     ensures done { IfOk result (IsWritten (degree_list keys.now) into.old into.new) }
     ensures few { OnOk result (length keys.now ≤ greatest_rows) }

@@ -152,7 +152,7 @@ scans_are query tables sources.Keyed = refl
 scans_are query tables sources.Reduced = reduced_scans_by_rounds query tables
 scans_are query tables sources.Counted = reduced_scans_by_rounds query tables
 
--- a plan that fits any lists, whole scans or reduced ones
+-- a plan that fits its lists, whatever these are: whole scans or reduced scans
 module _ (query : Query) (tables : Tables) (lists : List (List ℕ)) where
   along : (plan : Plan) → Fits query tables lists (shaped.OrderPlan plan) → HoldsAlong query tables lists plan
   along plan h = record {

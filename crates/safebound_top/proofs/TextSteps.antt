@@ -59,7 +59,7 @@ out_cut t0 t1 o0 o1 f0 f1 g0 g1 run text (Some other) u e is out h k = record {
   later_notes = h.later;
 }
 
--- ---- a statistics file, and a plan from one
+-- ---- the text of a statistics file, and the text of a plan from a statistics file
 
 module _ (out notes : Growth) (outcome : RunOutcome) (still : DidNotGrow notes) (text : List ℕ) (no_notes : notes_text outcome ≡ None) (its : out_text outcome ≡ Some text) where
   untouched : GrewWhole notes (notes_text outcome)

@@ -83,7 +83,7 @@ WantOfMemoryLeavesItsLine call = call.status ≡ status.NoMemory → GrewByLine 
 
 -- 5. A call ends with a write fault only if the verdict is accepted and the named sink's count of faults rose.
 pub record WriteFaultsHaveTheirCause (call : Call) : Type 0 where
-  -- a fault of notes: they took a prefix of the plan text, and then a prefix of the line; out didn't grow
+  -- a fault of notes: the notes took a prefix of the plan text, and then a prefix of the line; out didn't grow
   pub of_notes : call.status ≡ status.WriteFault sink.Notes → FaultsRose call.notes × DidNotGrow call.out
       × OverFiles call (λ files v. IsOkAnd v (λ outcome. WasCutAndTold call.notes (notes_text outcome)
       (fault_text call.status call.words files)))

@@ -10,11 +10,11 @@
 --   Under `WHERE 1 = 2` every level and node is empty, and the scans are the same as without this condition.
 -- - With `--reduce` or `--count` the text has the same form. Its scan lines then speak of the reduced scans, and levels and nodes are over the reduced
 --   scans.
--- - With `--bushy` there is a line for each inner node. A tree of one FROM entry has none: then the scan's line is the bound of the answer.
+-- - With `--bushy` there is a line for each inner node. A tree of one FROM entry has no inner node: then the line of the scan has the bound of the answer.
 -- - With `--keys` the promise is the same as without `--keys`: scans, levels and choices are those of the query as it is written.
 -- - Apart from the limit of `--memory`, nothing is said about how high a bound may be. Budget, accuracy, the limit of `--memory` and the flags decide
 --   whether a plan is printed, and which plan; the headline says how.
--- - The answer is that of SQL-92 as the profile has it. It differs from the standard or from usual engines mainly in these points. Reserved words
+-- - The answer is that of SQL-92 as the profile has it. This answer differs from the standard or from usual engines mainly in these points. Reserved words
 --   that sql_tokens doesn't list (`read_words`, `reserved_words`) are plain names. Texts are compared without padding (`value_cmp` of
 --   csv_tables). All number types are one kind of 64 bits (`kind_of` of schema_types). No row is tested against a reference (`reference_of` of
 --   schema_types).

@@ -12,7 +12,7 @@ use printed_texts::{Named, write_line};
 use safebound_words::{Aim, Command, Work};
 use schema_types::Schema;
 
-// The name of the statistics file that a command reads. It is empty if the command reads none.
+// The name of the statistics file that a command reads. The name is empty if the command reads no statistics file.
 fn stats_file_of<'a>(work: &'a Work<'a>) -> &'a str
     ensures { result.now ≡ stats_file_told work.now }
 {

@@ -208,8 +208,8 @@ fn write_stats_file_plan<N: Sink>(made: PreparedStatsFilePlan, notes: &mut N) ->
     }
 }
 
-/// Writes the texts of a run: first the one for `notes`, if the run has one, and then the one for `out`, if the run has one. If the run
-/// joins, it hands out the buffers with the rows of the joins.
+/// Writes the texts of a run: first the text for `notes`, if the run has such a text, and then the text for `out`, if the run has such a text. If the
+/// run joins, the call hands out the buffers with the rows of the joins.
 pub fn write_outcome<O: Sink, N: Sink>(
     ready: PreparedRun,
     schema: &Schema,

@@ -191,7 +191,7 @@ pub fn refuse_words<N: Sink>(notes: &mut N) -> Status
 ///
 /// After `run`, `audit` or `demo`, `kept` has the buffers of the joins, with the rows of each level or of each inner node. Their capacities
 /// times the sizes of their items sum to exactly the bytes of the plan. With `--memory N` the plan text prints these bytes, and they are at
-/// most N (sentences 1 and 9 of the headline). No other command takes such buffers. The caller frees them.
+/// most N (sentences 1 and 9 of the headline). No other command takes buffers for joins. The caller frees them.
 ///
 /// The contract says what `run` promises (`specs/Promise.antt`), what comes out of any call (`specs/Headline.antt`, sentence by sentence),
 /// and what the buffers hold (`KeepsItsBuffers` of prepared_runs).

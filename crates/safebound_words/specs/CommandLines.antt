@@ -10,7 +10,7 @@ use Rattle.safebound_words.specs.declared.table.CommandName.{CommandName}
 use Rattle.safebound_words.specs.declared.table.FlagName.{FlagName}
 use Rattle.safebound_words.specs.declared.table.OptionName.{OptionName}
 
--- an item stands before `--`. It is a place word, a flag, an option and its value in two words, or an option and its value in one word
+-- an item, which stands before `--`, is a place word, a flag, an option and its value in two words, or an option and its value in one word
 pub data Item : Type 0 where
   Place : Word → Item
   Alone : FlagName → Item

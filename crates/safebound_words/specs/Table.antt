@@ -134,7 +134,7 @@ file_alone given =
 abbrev pub from_file : Word → PlanTerms → Given → Option Work
 from_file file terms given = if file_alone given then Some (works.PlanFromStats file terms) else None
 
--- a plan from a statistics file, if one is given, else over the tables
+-- a plan from a statistics file, if such a file is given, otherwise a plan over the tables
 abbrev pub from_file_or_tables : OutText → Option Word → PlanTerms → Given → Option Work
 from_file_or_tables out None terms given = over_tables out terms given
 from_file_or_tables out (Some file) terms given = from_file file terms given

@@ -133,7 +133,7 @@ pub fn small_counts()
     ensures of_demo { command_of (codes "demo" ∷ codes "7" ∷ codes "--count" ∷ []) ≡ None }
     ensures of_stats { command_of (codes "stats" ∷ codes "s" ∷ codes "q" ∷ codes "--count" ∷ []) ≡ None }
 
-    // `--count` can't stand beside `--reduce`, `--keys` or `--stats`. It can't stand beside `--accuracy` either, since it compresses nothing.
+    // `--count` can't stand beside `--reduce`, `--keys` or `--stats`. Nor can `--count` stand beside `--accuracy`, since `--count` compresses nothing.
     ensures reduced { command_of (codes "run" ∷ codes "--count" ∷ codes "s" ∷ codes "q" ∷ codes "--reduce" ∷ []) ≡ None }
     ensures keyed { command_of (codes "plan" ∷ codes "--keys" ∷ codes "s" ∷ codes "q" ∷ codes "--count" ∷ []) ≡ None }
     ensures of_a_file { command_of (codes "plan" ∷ codes "s" ∷ codes "q" ∷ codes "--stats=f" ∷ codes "--count" ∷ []) ≡ None }

@@ -141,7 +141,7 @@ fn from_file<'a>(file: &'a str, terms: PlanTerms, line: &Line<'a>) -> Option<Wor
     })
 }
 
-// A plan from a statistics file, if one is given, else over tables.
+// A plan from a statistics file, if such a file is given, otherwise a plan over tables.
 fn work_in<'a>(out: OutText, terms: PlanTerms, line: &Line<'a>) -> Option<Work<'a>>
     ensures { result ≡ work_given out terms (given_of line.now) }
 {

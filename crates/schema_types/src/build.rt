@@ -26,7 +26,7 @@ pub struct Links {
 }
 
 impl Scope<'_> {
-    // The number of a column in a table with these columns. It is 0 if there is no such column.
+    // The number of a column in a table with these columns. The number is 0 if the table has no such column.
     fn number(&self, declared: &NameList, column: &Lexeme) -> Result<u32, NoMemory>
         requires { IsNameOf (IsLexemeOf self.now.text.now) column.now }
         ensures { IfOk result (λ found. found ≡ number_in self.now.text.now declared.now column.now) }

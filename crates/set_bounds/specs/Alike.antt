@@ -29,7 +29,7 @@ pub record IsOfTurnBefore (es : List Edge) (subset turn : ℕ) (kept : List Edge
 abbrev pub AreOfTurnsBefore : List Edge → ℕ → ℕ → List (List Edge) → Type 0
 AreOfTurnsBefore es subset turn folded = AllByRecursion (IsOfTurnBefore es subset turn) folded
 
--- a turn keeps equalities that are like those of a turn before it
+-- an earlier turn keeps equalities that are alike to those that `turn` keeps
 pub record IsLikeEarlier (es : List Edge) (subset turn : ℕ) : Type 0 where
   pub earlier : ℕ
   pub before : earlier < turn

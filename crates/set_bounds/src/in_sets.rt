@@ -57,7 +57,7 @@ pub fn folded_bound(
     Ok(bound)
 }
 
-// The same row bounds and lists in every set.
+// `EntryLists` has the same row bounds and lists in every set.
 impl KnownInSets for EntryLists {
     ghost known = { λ lists. in_every_set (bounds_of lists) };
 

@@ -87,7 +87,7 @@ abbrev pub mark_len : List ℕ → ℕ
 mark_len (b ∷ c ∷ d ∷ rest) = if (b == 239) && ((c == 187) && (d == 191)) then 3 else 0
 mark_len text = 0
 
--- these are the tokens of the text
+-- the list has the tokens of the text
 pub record IsLexed (text : List ℕ) (tokens : List Token) : Type 0 where
   pub utf8 : IsUtf8 text
   pub leads : Leads (mark_len text) (drop (mark_len text) text) tokens (length text) []

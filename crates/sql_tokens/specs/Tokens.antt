@@ -78,7 +78,7 @@ pub record IsEnclosed (quote : ℕ) (bytes body : List ℕ) : Type 0 where
   pub whole : bytes ≡ quote ∷ (body ++ quote ∷ [])
   pub doubled : are_doubled quote body ≡ true
 
--- a delimited identifier: one or more characters in quotes, none below U+0020
+-- a delimited identifier: one or more characters in quotes, and no character below U+0020
 pub record IsIdentifier (bytes : List ℕ) : Type 0 where
   pub first : ℕ
   pub others : List ℕ

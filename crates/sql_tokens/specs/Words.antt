@@ -11,7 +11,7 @@ use Rattle.sql_tokens.specs.declared.token.Token.{Token}
 use Rattle.sql_tokens.specs.declared.token.TokenKind.{TokenKind}
 use Rattle.sql_tokens.specs.declared.token.TokenKind.TheVariants as kind
 
--- the bytes of a text from the place `start` up to the place `end`, without the byte there
+-- the bytes of a text from the place `start` up to the place `end`, without the byte at `end`
 abbrev pub slice : List ℕ → ℕ → ℕ → List ℕ
 slice text start end = slice_range text start end
 

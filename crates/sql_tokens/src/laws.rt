@@ -30,7 +30,7 @@ pub fn forms()
     ensures { (text : List ℕ) (tokens : List Token) → IsLexed text tokens → All (HasItsForm text) tokens }
 {}
 
-/// The spans of a text's tokens are in order, and none is empty.
+/// The spans of a text's tokens are in order, and no span is empty.
 pub fn spans()
     ensures { (text : List ℕ) (tokens : List Token) → IsLexed text tokens → TokensAreInOrder 0 (length text) tokens }
 {}

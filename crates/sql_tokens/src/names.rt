@@ -17,7 +17,7 @@ fn part<'a>(text: &'a [u8], lexeme: &Lexeme) -> &'a str
     }
 }
 
-/// The characters before the closing quote. Two quotes in a row stand for one.
+/// The characters before the closing quote. Two quotes in a row stand for one quote.
 #[tactic(auto, using(crate::proofs::Unquoting::single_goes_on, crate::proofs::Unquoting::single_ends, crate::proofs::Unquoting::single_whole))]
 fn unquote(alloc: Global, quote: char, text: &str) -> Result<String, NoMemory>
     requires { quote < 128 }

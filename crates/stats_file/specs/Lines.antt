@@ -10,7 +10,7 @@ use Rattle.stats_file.specs.declared.types.Datum.TheVariants as datum
 abbrev pub hex_digit : ℕ → ℕ
 hex_digit n = if nat_lt n 10 then 48 + n else 87 + n
 
--- a byte as two digits, the higher one first
+-- a byte as two digits, the higher digit first
 abbrev pub hex_byte : ℕ → List ℕ
 hex_byte byte = hex_digit (byte / 16) ∷ (hex_digit (byte % 16) ∷ [])
 

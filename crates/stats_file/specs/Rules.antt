@@ -39,7 +39,7 @@ pub record IsList (rows : ℕ) (list : List ℕ) : Type 0 where
   pub positive : All (λ x. 0 < x) list
   pub within : sum list ≤ rows
 
--- the frequent values of a column of this kind: at most 32 different ones, each with a list
+-- the frequent values of a column of this kind: at most 32 different values, each with a list
 pub record AreFrequent (kind : Kind) (rows : ℕ) (frequent : List (Datum × List ℕ)) : Type 0 where
   pub few : length frequent ≤ 32
   pub differ : AllPairs (λ (a b : Datum × List ℕ). a.0 ≢ b.0) frequent
@@ -83,7 +83,7 @@ pub record HaveSameFilterCounts (a b : Pair) : Type 0 where
   pub cuts : a.cuts ≡ b.cuts
   pub nodes : map sum a.nodes ≡ map sum b.nodes
 
--- two pairs agree: with the same joined column they have one list of all rows, and with the same filter column they count the same rows
+-- two pairs agree: with the same joined column they have the same list of all rows, and with the same filter column they count the same rows
 pub record Agree (a b : Pair) : Type 0 where
   pub joined : a.joined ≡ b.joined → a.whole ≡ b.whole
   pub filter : a.filter ≡ b.filter → HaveSameFilterCounts a b

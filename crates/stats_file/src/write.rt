@@ -250,7 +250,7 @@ fn put_sections<N: Sink>(
     Ok(())
 }
 
-/// Appends the text of a file that keeps the rules for this schema. It takes no memory. On `Failed` a prefix of the
+/// Appends the text of a file that keeps the rules for this schema. The call takes no memory. On `Failed` a prefix of the
 /// text was taken, and the sink counted a fault.
 pub fn write_stats<N: Sink>(file: &StatsFile, schema: &Schema, sink: &mut N) -> Result<(), Failed>
     requires { KeepsRules schema.now file.now }

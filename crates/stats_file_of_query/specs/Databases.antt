@@ -28,7 +28,7 @@ pub record IsOverSchema (schema : Schema) (query : Query) (db : Database) : Type
   pub texts : All IsUtf8 db.pool
   pub differ : HaveDifferentCharacters db.pool
 
--- the section of a table from the cells of one of its entries
+-- the section of a table, from the cells of a FROM entry of this table
 abbrev pub section_of_cells : Query → Database → ℕ → ℕ → ℕ → TableStats
 section_of_cells query db accuracy table entry = record {
   table = table;
