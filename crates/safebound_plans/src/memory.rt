@@ -92,7 +92,7 @@ fn told(bytes: u128) -> Result<u64, Refusal>
 }
 
 /// How many bytes an engine's buffers take for an order, if `rows` has the most rows of each entry's list. The buffers are for the lists, the levels,
-/// and the lists that are joined after the first list: each of these has chains (its hash table), and one buffer has the keys of one of them.
+/// the hash chains of each list that is joined after the first list, and the keys of one of these lists.
 pub fn order_memory(rows: &[u64], levels: &[Level]) -> Result<u64, Refusal>
     ensures done { IfOk result (IsOrderMemory rows.now levels.now) }
     ensures refused { IfErr result (IsOrderMemoryCause rows.now levels.now) }
