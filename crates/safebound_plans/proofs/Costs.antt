@@ -8,7 +8,7 @@ use Rattle.bushy_plan.specs.BestTree.{cost as tree_cost, inner_greatest}
 use Rattle.bushy_plan.specs.PlanTrees.{PlanTree, leaf_set, leaf, node}
 use Rattle.safebound_plans.specs.Bits.{all_widened, no_bound, in_128_bits}
 
--- the number has 64 bits, or it is the greatest of 128 bits, which stands for all from there on
+-- the number fits 64 bits, or it is the greatest number of 128 bits, which stands for every number from there on
 abbrev IsNarrow : ℕ → Type 0
 IsNarrow x = (x < 2 ^ 64) ⊎ (x ≡ 2 ^ 128 - 1)
 

@@ -1,4 +1,4 @@
--- The levels of an order are written into the caller's room one by one. These lemmas are for the loop that does it.
+-- The levels of an order are written into the room, the caller's buffer, one by one. These lemmas are for the loop of `write_levels`.
 use Rattle.std.proofs.Common.{◌≡◌, ℕ, ◌+◌, ◌<◌, ◌≤◌, List, [], ◌∷◌, ◌++◌, length, take, drop, get_or, refl, ap, sym, ◌∙◌, arith}
 use Rattle.std.proofs.Math.ListN.{set}
 use Rattle.std.proofs.lemmas.List.{map-append, take_all, take_more}
@@ -7,9 +7,9 @@ use Rattle.safebound_lists.proofs.Writing.{filled_more, filled_none}
 use Rattle.safebound_plans.specs.declared.ordering.Level.{Level}
 use Rattle.safebound_plans.specs.Orders.{AreLevels, bounds_in, entries_in}
 
--- ---- levels
+-- ---- the room before, in and after the loop
 
--- after i steps: the first i places have the entries of the order and the bounds of its levels, and the others are as they were
+-- after i steps the first i places have the entries of the order and the bounds of its levels, and the other places are as they were
 pub record SoFar (order levels : List ℕ) (old new : List Level) (i : ℕ) : Type 0 where
   pub front : List Level
   pub entries : entries_in front ≡ take i order
@@ -40,7 +40,7 @@ one_more_level order levels old new i x so_far low lower room entry bound = reco
   filled = filled_more so_far.front old new i x no_level so_far.filled room;
 }
 
--- after the last step
+-- after the last step all levels are written
 pub all_levels : (order levels : List ℕ) (old new : List Level) (i : ℕ) → SoFar order levels old new i → i ≡ length order → length levels ≤ i → AreLevels order levels old new
 all_levels order levels old new i so_far whole end = record {
   front = so_far.front;

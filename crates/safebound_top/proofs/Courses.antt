@@ -1,4 +1,4 @@
--- The course of a call has the headline.
+-- The headline of a call follows from its course (`Course`), sentence by sentence.
 use Rattle.std.proofs.Common.{◌≡◌, ◌⊎◌, ℕ, inl, inr, List, None, Some, Result, Ok, Err, refl, ap, sym, ◌∙◌, subst}
 use Rattle.std.specs.Prelude.{IsOkAnd, codes}
 use Rattle.base_io.specs.Causes.{Rose}
@@ -23,21 +23,21 @@ use Rattle.safebound_top.specs.OutcomeTexts.{notes_text, out_text}
 use Rattle.prepared_runs.specs.Verdict.{IsReached, command_stage, verdict}
 use Rattle.prepared_runs.proofs.Runs.{bounds_hold, limits_hold, rows_are_the_answer}
 
--- words that are no command are refused at once
+-- if the words are no command, the verdict is the refusal Usage
 unasked_verdict : (words : List (List ℕ)) (files : Files) → command_stage words ≡ Err refusal.Usage → verdict words files ≡ Err refusal.Usage
 unfolding verdict
 unasked_verdict words files is = rw is refl
 
--- and if they are refused as r, then r is Usage
+-- if a status is the refusal Usage and also the refusal r, then r is Usage
 unasked_is : (r : Refusal) → status.Refused refusal.Usage ≡ status.Refused r → r ≡ refusal.Usage
 unasked_is r is = cc
 
 module _ (call : Call) (course : Course call) where
-  -- a line that was told is the fault text, where the store tells its files
+  -- if the store tells its files, the line that was written to the notes is the fault text
   line_told : StatusTold call.notes course.line → (files : Files) → call.store.files ≡ Some files → say.GrewByLine call.notes (fault_text call.status call.words files)
   line_told told files is = subst (say.GrewByLine call.notes) (course.is_line files is) told.tells
 
-  -- a reading that ended
+  -- a call whose reading ended early, with the ending `e`
   module _ (e : Ending) (status_is : call.status ≡ ended e) (reads : Reads call.store (verdict call.words) (IsReached call.words) (Err e)) where
     ends_as : (f : Ending) → e ≡ f → Ends call.store (verdict call.words) (IsReached call.words) f
     ends_as f is = subst (Ends call.store (verdict call.words) (IsReached call.words)) is reads.gives
@@ -48,7 +48,7 @@ module _ (call : Call) (course : Course call) where
     by_fault : (file : FileId) → call.status ≡ status.ReadFault file → Ends call.store (verdict call.words) (IsReached call.words) (ending.Fault file)
     by_fault file is = ends_as (ending.Fault file) (ended_fault e file (sym status_is ∙ is))
 
-    -- where no fault was counted
+    -- if the store counted no fault, the status is the verdict's, or want of memory
     stopped_so : (Rose call.store.faults_before call.store.faults_after → ⊥) → (files : Files) → call.store.files ≡ Some files
         → (call.status ≡ say.status_of (verdict call.words files)) ⊎ (call.status ≡ status.NoMemory)
     stopped_so calm files told = by e refl
@@ -58,13 +58,13 @@ module _ (call : Call) (course : Course call) where
         by (ending.Fault file) is = absurd (calm ((ends_as (ending.Fault file) is).0))
         by ending.NoMemory is = inr (status_is ∙ ap ended is)
 
-  -- a run that was read to its end
+  -- a call that read everything to its end, and then wrote its texts
   module _ (run : RunOutcome) (reads : Reads call.store (verdict call.words) (IsReached call.words) (Ok run))
       (written : TextsEnded call.status call.out call.notes run course.line) where
     went_verdict : (files : Files) → call.store.files ≡ Some files → verdict call.words files ≡ Ok run
     went_verdict = reads.gives
 
-    -- no ending of a reading was told
+    -- the status of this call isn't the status of a reading that ended early
     went_on : (e : Ending) → call.status ≡ ended e → ⊥
     went_on e is = by written
       where
@@ -137,7 +137,7 @@ module _ (call : Call) (course : Course call) where
         by (CutInNotes e rose out line) = absurd (calm_notes rose)
         by (CutInOut e rose out line) = absurd (calm_out rose)
 
-  -- ---- the sentences
+  -- ---- the sentences of the headline, by their numbers
 
   -- 1
   done : How call course.line → say.DoneIsExact call

@@ -18,16 +18,16 @@ use Rattle.prepared_runs.specs.RunOutcome.{PlanFromStatsFile, RunOutcome, Planne
 use Rattle.safebound_top.specs.OutcomeTexts.{stats_file_plan_text, notes_text, out_text}
 use Rattle.safebound_top.specs.Texts.{out_text_of, plan_text}
 
--- a line that was written, whole or cut, was told
+-- if a line was written, to its end or up to a failed write, then it was told (`StatusTold`)
 pub told_of : (g : Growth) (line : List ℕ) (r : Result (Unit {0}) Failed) → Wrote g line r → StatusTold g line
 told_of g line (Ok u) h = record { tells = record { prefix = h.prefix; whole = λ calm. h.ok }; later = h.later }
 told_of g line (Err e) h = record { tells = record { prefix = h.prefix; whole = λ calm. absurd (calm h.failed) }; later = h.later }
 
--- if a write of a text was cut, so was the write of a longer text that begins with it
+-- if the write of text `a` failed, then the write of `a` followed by `b` failed
 pub cut_first : {t0 t1 : Option (List ℕ)} {f0 f1 : ℕ} {a : List ℕ} {e : Failed} (b : List ℕ) → Wrote (between t0 t1 f0 f1) a (Err e) → Wrote (between t0 t1 f0 f1) (a ++ b) (Err e)
 cut_first {t0} {t1} {f0} {f1} {a} {e} b h = record { ok = tt; prefix = prefix_of_first t0 t1 a b h.prefix; later = h.later; failed = h.failed }
 
--- ---- the plan text, and then the other text, if any
+-- ---- the plan text is written to notes, and then the text for out, if there is one
 
 pub notes_cut : (t0 t1 o : Option (List ℕ)) (f0 f1 g : ℕ) (run : AcceptedQuery) (text : List ℕ) (e : Failed) → text ≡ plan_text run → Wrote (between t0 t1 f0 f1) text (Err e)
     → TextsWritten (between o o g g) (between t0 t1 f0 f1) (Planned run) (Err sink.Notes)
@@ -59,7 +59,7 @@ out_cut t0 t1 o0 o1 f0 f1 g0 g1 run text (Some other) u e is out h k = record {
   later_notes = h.later;
 }
 
--- ---- a statistics file, and a plan from one
+-- ---- the text of a statistics file, and the text of a plan from a statistics file
 
 module _ (out notes : Growth) (outcome : RunOutcome) (still : DidNotGrow notes) (text : List ℕ) (no_notes : notes_text outcome ≡ None) (its : out_text outcome ≡ Some text) where
   untouched : GrewWhole notes (notes_text outcome)
@@ -85,7 +85,7 @@ module _ (t0 t1 t2 : Option (List ℕ)) (f0 f1 f2 : ℕ) (line : List ℕ) (told
   cut_then_told None cut = cut
   cut_then_told (Some text) cut = record { mid = t1; cut = cut; told = told.tells.prefix }
 
-  -- what the notes tell after their text
+  -- if the notes grew by exactly their text, their bytes are the earlier bytes and then the text
   told_after : (text : Option (List ℕ)) → GrewWhole (between t0 t1 f0 f1) text → t1 ≡ grown t0 text
   told_after None still = still.0
   told_after (Some text) whole = whole

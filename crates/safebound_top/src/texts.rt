@@ -103,7 +103,7 @@ fn write_room<N: Sink>(room: &Room, sources: &[Source], notes: &mut N) -> Result
     }
 }
 
-// Writes the plan text.
+// Writes the plan text of an order or of a tree.
 fn write_shaped<N: Sink>(plan: &AnyPlan, sources: &[Source], notes: &mut N) -> Result<(), Failed>
     requires { IsShapedPlan (length sources.now) plan.now }
     ensures { Wrote (growth N.taken N.faults notes.old notes.new) (shape_lines sources.now plan.now) result }
@@ -208,8 +208,8 @@ fn write_stats_file_plan<N: Sink>(made: PreparedStatsFilePlan, notes: &mut N) ->
     }
 }
 
-/// Writes the texts of a run: first the one for `notes`, if the run has one, and then the one for `out`, if the run has one. If the run
-/// joins, it hands out the buffers with the rows of the joins.
+/// Writes the texts of a run: first the text for `notes`, if the run has such a text, and then the text for `out`, if the run has such a text. If the
+/// run joins, the call hands out the buffers with the rows of the joins.
 pub fn write_outcome<O: Sink, N: Sink>(
     ready: PreparedRun,
     schema: &Schema,

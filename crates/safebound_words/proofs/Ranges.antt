@@ -23,12 +23,12 @@ use Rattle.safebound_words.specs.declared.table.FlagName.TheVariants as flag
 use Rattle.safebound_words.specs.declared.table.OptionName.TheVariants as option
 use Rattle.safebound_words.proofs.Readings.{bind_so}
 
--- a command that words ask for
+-- what is proved of each command that words ask for: its values are in their ranges, and only `demo` has a shop
 record IsAsked (asked : Command) : Type 0 where
   ranges : HasRanges asked.aim
   shop : (number : ℕ) → asked.shop ≡ Some number → asked ≡ demo_of number
 
--- a command of the store's files
+-- a command without a shop, whose values are in their ranges
 of_store : (asked : Command) → asked.shop ≡ None → HasRanges asked.aim → IsAsked asked
 of_store asked none ranges = record {
   ranges = ranges;
@@ -66,7 +66,7 @@ request_if : {A : Type 0} (test : Bool) (made r : A) → (if test then Some made
 request_if true made r is = (refl, cc)
 request_if false made r is = absurd (cc)
 
--- if something is asked for, the options that can't stand beside it aren't given
+-- `beside` says that an option is given which can't stand there. If something is asked for anyway, it is what `asked` says
 alone_asks : {A : Type 0} (beside : Bool) (asked : Option A) (r : A) → (if beside then None else asked) ≡ Some r → asked ≡ Some r
 alone_asks true asked r is = absurd (cc)
 alone_asks false asked r is = is
@@ -74,7 +74,7 @@ alone_asks false asked r is = is
 most_if : (most n : ℕ) → nat_le n most ≡ true → n ≤ most
 most_if most n is = grind (arith, nat_tests)
 
--- the budget of a plan isn't past the greatest one of its shape
+-- the budget of a plan is at most the greatest budget of its shape
 abbrev IsSmall : PlanTerms → Type 0
 IsSmall terms = terms.budget ≤ most_budget_of terms.shape
 
@@ -119,7 +119,7 @@ files_in out (schema ∷ query ∷ []) given r is =
     subst IsAsked same (of_store (over_query None schema query work.0) refl (work_in out terms.0 (terms_in given terms.0 terms.1) given work.0 work.1))
 files_in out (schema ∷ query ∷ more ∷ places) given r is = absurd (cc)
 
--- the statistics of a query
+-- the accuracy of the command `stats` is in its range
 accuracy_has : (accuracy : Option ℕ) (schema query : Word) (r : Command) → ((n : ℕ) → accuracy ≡ Some n → (1 ≤ n) × (n ≤ 64))
     → option_map (λ a. over_query None schema query (works.WriteStats a)) accuracy ≡ Some r → IsAsked r
 accuracy_has None schema query r close is = absurd (cc)
@@ -132,7 +132,7 @@ stats_in (schema ∷ query ∷ []) given r is =
     accuracy_has (value_of option.Accuracy (given.values option.Accuracy)) schema query r (accuracy_in (given.values option.Accuracy)) is
 stats_in (schema ∷ query ∷ more ∷ places) given r is = absurd (cc)
 
--- new rows of a table
+-- `append` has no numbers, and the number of `demo` is a shop
 append_in : (places : List Word) (given : Given) (r : Command) → of_append places given ≡ Some r → IsAsked r
 append_in [] given r is = absurd (cc)
 append_in (schema ∷ []) given r is = absurd (cc)

@@ -1,4 +1,5 @@
--- One more word: what is asked for by the collected words and the words left stays the same, or nothing can be asked for.
+-- The walk over a command line takes one more word. The collected words and the words that are left then still ask for the same, or nothing can be
+-- asked for.
 use Rattle.std.proofs.Common.{◌≡◌, ℕ, ◌+◌, ◌<◌, ◌≤◌, ◌==◌, ◌&&◌, not, nat_le, Bool, true, false, if◌then◌else◌, option_map, List, [], ◌∷◌, ◌++◌, length, map, drop, Option, Some, None, Result, Ok, Err, Bor, sym, refl, ap, ◌∙◌, append_assoc, append-nil, length-append, suc, zero, arith}
 use Rattle.std.proofs.Math.Path.{fun_ext}
 use Rattle.std.proofs.lemmas.Bool.{false≢true, ne_eqb}
@@ -41,12 +42,12 @@ same_asks name places places' given given' same values times =
     ∙ ap (λ (v : OptionName → List Word). (command_row name).asks places' (record { values = v; times = given.times })) (fun_ext values)
     ∙ ap (λ (t : FlagName → ℕ). (command_row name).asks places' (record { values = given'.values; times = t })) (fun_ext times)
 
--- one more place word changes nothing of options and flags
+-- two lines give the same words to each option and have each flag equally often, whatever their place words are
 pub record IsSameBeside (new old : Line) : Type 0 where
   pub values : (o : OptionName) → given_to new o ≡ given_to old o
   pub times : (f : FlagName) → times_of new f ≡ times_of old f
 
--- an item that isn't a flag changes nothing of how often each flag is given
+-- an item that isn't a flag doesn't change how often each flag is given
 no_more_times : (new old : Line) (item : Item) (items : List Item) → ((f : FlagName) → times_of new f ≡ times_of old f)
     → ((f : FlagName) → set_by f item ≡ 0) → (f : FlagName) → (given_with new items).times f ≡ (given_with old (item ∷ items)).times f
 no_more_times new old item items same none f = rw (same f) (omega (arith, sum_by-cons (set_by f) item items, none f))
@@ -79,7 +80,7 @@ one_more_behind name new old word words places same =
     (λ o. ap (λ ws. ws ++ []) (same.values o))
     (λ f. ap (λ n. n + 0) (same.times f))
 
--- what a line has after one flag more
+-- the line `new` has one flag more than the line `old`
 SetsMore : Line → Line → FlagName → Type 0
 SetsMore new old f = (other : FlagName) → times_of new other ≡ times_of old other + (if same_flag other f then 1 else 0)
 
@@ -97,7 +98,7 @@ one_more_flag name new old f parts places values more =
     (λ o. ap (λ ws. ws ++ flat_map (given_by o) parts.0) (values o))
     (λ other. omega (arith, more other, sum_by-cons (set_by other) (Alone f) parts.0))
 
--- what a line gives after one value more
+-- the line `new` has one value more for an option than the line `old`
 GivesMore : Line → Line → OptionName → Word → Type 0
 GivesMore new old o value = (other : OptionName) → given_to new other ≡ given_to old other ++ (if same_option other o then value ∷ [] else [])
 
@@ -118,7 +119,7 @@ one_more_value name new old item o value parts none unset by places times given 
     ∙ append_assoc (given_to old other) (given_by other item) (flat_map (given_by other) parts.0))
     (no_more_times new old item parts.0 times unset)
 
--- without a first value there is no result
+-- `first >>= rest` is None if `first` is None, or if `rest` is None for each value
 none_first : {A B : Type 0} (first : Option A) (rest : A → Option B) → first ≡ None → first >>= rest ≡ None
 none_first first rest is = rw is refl
 
@@ -126,7 +127,7 @@ none_behind : {A B : Type 0} (first : Option A) (rest : A → Option B) → ((a 
 none_behind None rest all = refl
 none_behind (Some a) rest all = all a
 
--- Where too much is collected, nothing is asked for.
+-- If too many words are collected, nothing is asked for.
 
 files_of_two : (out : OutText) (places : List Word) (given : Given) → 4 < length places → over_files out places given ≡ None
 unfolding over_files
@@ -168,20 +169,20 @@ too_often o [] many = absurd (omega arith)
 too_often o (a ∷ []) many = absurd (omega arith)
 too_often o (a ∷ b ∷ rest) many = refl
 
--- an option of a file to which two words are given names no file
+-- an option for a file's name names no file if two words are given to it
 no_file : (words : List Word) → 1 < length words → option_file words ≡ None
 no_file [] many = absurd (omega arith)
 no_file (a ∷ []) many = absurd (omega arith)
 no_file (a ∷ b ∷ rest) many = refl
 
--- the flags that name a source
+-- the flags that name a source of bounds
 abbrev IsSource : FlagName → Type 0
 IsSource flag.Bushy = ⊥
 IsSource flag.Reduce = Unit {0}
 IsSource flag.Keys = Unit {0}
 IsSource flag.Count = Unit {0}
 
--- a flag that stands twice gives no value
+-- if a flag stands twice, `is_set` has no value
 set_once : (n : ℕ) → 1 < n → is_set n ≡ None
 set_once zero many = absurd (omega arith)
 set_once (suc zero) many = absurd (omega arith)
@@ -252,7 +253,7 @@ module _ (out : OutText) (terms : PlanTerms) (given : Given) where
   tables_without_flag f is many =
       none_behind (value_of option.Accuracy (given.values option.Accuracy)) (λ accuracy. by_accuracy accuracy) (λ accuracy. many_sources accuracy f is many)
 
--- A plan from a statistics file: beside it no flag for a source may be given, so none may be given twice.
+-- A plan from a statistics file allows no flag for another source of bounds, so it is refused if such a flag stands twice.
 
 nowhere : (b : Bool) → (b && false) ≡ false
 nowhere true = refl
@@ -275,7 +276,7 @@ times_twice given f is many = let some = flags_twice given f is many in rw some 
 words_twice : (words : List Word) (b : Bool) → 1 < length words → (length words == 0 && b) ≡ false
 words_twice words b many = let some : (length words == 0) ≡ false = ne_eqb (length words) 0 (λ e. absurd (omega (arith, e, many))) in rw some refl
 
--- not alone beside a statistics file
+-- there is no plan from a statistics file if an accuracy or a flag for a source is given too
 not_alone : (file : Word) (terms : PlanTerms) (given : Given) → file_alone given ≡ false → from_file file terms given ≡ None
 not_alone file terms given beside = rw beside refl
 
@@ -394,7 +395,7 @@ twice_set name line f parts has again =
 
 -- Steps of the walk.
 
--- an item in front
+-- an item stands in front of the other parts
 front_asked : (name : CommandName) (new old : Line) (item : Item) (parts : Option Parts)
     → ((p : Parts) → asked_with name new p ≡ asked_with name old (item ∷ p.0, p.1))
     → parts >>= asked_with name new ≡ in_front item parts >>= asked_with name old
@@ -406,7 +407,7 @@ front_refused : (name : CommandName) (line : Line) (item : Item) (parts : Option
 front_refused name line item None none = refl
 front_refused name line item (Some p) none = none p
 
--- what is read of a word before `--` and the words behind it
+-- how a word before `--` and the words after it are read
 read_so : (name : CommandName) (word : Word) (words : List Word) (kind : Kind) → kind ≡ kind_of name word
     → parts_from name None (word ∷ words) ≡ read_by kind word words (λ wanted. parts_from name wanted words)
 unfolding parts_from
@@ -512,7 +513,7 @@ pub behind_refused : (name : CommandName) (line : Line) (word : Word) → length
 unfolding asked_from
 behind_refused name line word full words = full_behind name line word words full
 
--- what holds anyway holds after an error
+-- if P is true, P is true whenever `r` is an error
 pub anyway : {T E P : Type 0} (r : Result T E) → P → OnErr r P
 anyway (Ok value) holds = tt
 anyway (Err error) holds = holds
@@ -525,7 +526,7 @@ nothing_given line budget accuracy memory stats option.Accuracy = rw accuracy re
 nothing_given line budget accuracy memory stats option.Memory = rw memory refl
 nothing_given line budget accuracy memory stats option.Stats = rw stats refl
 
--- nothing collected yet
+-- a line in which nothing is collected yet, and all words after the command's word, ask for what `asked_by` says
 pub start_asked : (name : CommandName) (line : Line) (words : List Word) → words_of line.places ≡ [] → ((o : OptionName) → given_to line o ≡ [])
     → ((f : FlagName) → times_of line f ≡ 0) → asked_from name line next.Item words ≡ asked_by name words
 unfolding asked_from asked_by asked_with

@@ -1,4 +1,4 @@
--- A command line has few words: those of its places, one of each flag, two of each option, its command's word and `--`.
+-- A command line has at most 16 words: its place words, one word for each flag, two words for each option, the command's word and `--`.
 use Rattle.std.proofs.Common.{◌≡◌, ◌+◌, ◌*◌, ◌≤◌, ◌<◌, ◌&&◌, ◌++◌, ℕ, Bool, true, false, suc, zero, inl, inr, List, [], ◌∷◌, length, Option, None, Some, ap, sym, refl, ◌∙◌, arith}
 use Rattle.std.specs.Prelude.{if◌then◌else◌, option_map, ◌==◌}
 use Rattle.std.specs.List.{AllByRecursion, flat_map, list_any, sum_by}
@@ -25,9 +25,9 @@ use Rattle.safebound_words.specs.declared.table.OptionName.{OptionName}
 use Rattle.safebound_words.specs.declared.table.OptionName.TheVariants as option
 use Rattle.safebound_words.proofs.Readings.{bind_so, computed_asked}
 
--- ---- the words of items, by what they give
+-- ---- how many words items have, by what they give to options and flags
 
--- an item of an option of these gives it a value
+-- if an item gives a value to `option`, which is one of `options`, then it gives at least one value to these options together
 option_given : (option : OptionName) (item : Item) (value : Word) (options : List OptionName)
     → ((other : OptionName) → given_by other item ≡ (if same_option other option then value ∷ [] else []))
     → list_any (same_option option) options ≡ true → 1 ≤ sum_by (λ other. length (given_by other item)) options
@@ -43,7 +43,7 @@ option_given option item value (first ∷ options) gives has = elim (cases_Bool 
       omega (arith, option_given option item value options gives rest, sum_by-cons (λ other. length (given_by other item)) first options)
 ]
 
--- an item of a flag of these sets it
+-- if `flag` is one of `flags`, its item sets these flags at least once together
 flag_given : (flag : FlagName) (flags : List FlagName) → list_any (same_flag flag) flags ≡ true → 1 ≤ sum_by (λ other. set_by other (Alone flag)) flags
 flag_given flag [] has = absurd (false≢true has)
 flag_given flag (first ∷ flags) has = elim (cases_Bool (same_flag flag first)) [
@@ -91,7 +91,7 @@ times_split item items (first ∷ flags) =
       sum_by-cons (set_by first) item items,
     )
 
--- what is given to a command, in words
+-- the most words that place words, options and flags of a command can have
 abbrev weight : CommandName → List Word → Given → ℕ
 weight name places given =
     length places + (2 * sum_by (λ option. length (given.values option)) (command_row name).options + sum_by (λ flag. given.times flag) (command_row name).flags)
@@ -127,7 +127,7 @@ once zero set is = omega arith
 once (suc zero) set is = omega arith
 once (suc (suc more)) set is = absurd (cc)
 
--- a test before what is asked for
+-- if something is asked for after a test, the test is true
 asked_if : {A : Type 0} (test : Bool) (made r : A) → (if test then Some made else None) ≡ Some r → test ≡ true
 asked_if true made r is = refl
 asked_if false made r is = absurd (cc)
@@ -238,7 +238,7 @@ demo_few [] given r is = absurd (cc)
 demo_few (number ∷ []) given r is = refl
 demo_few (number ∷ more ∷ places) given r is = absurd (cc)
 
--- two places, three options and four flags; a plan may have one option more
+-- two place words, three options of two words each and four flags have 12 words; `plan` may have one more option of two words
 whole_few : (places : List Word) (given : Given) → AreFew places given → weight command.Run places given ≤ 12
 whole_few places given few =
     let terms = few.terms in
@@ -279,7 +279,7 @@ few_words words r is =
       takes,
     )
 
--- more words ask for nothing
+-- more than 16 words ask for nothing
 pub too_many : (words : List Word) → 16 < length words → command_of words ≡ None
 too_many words many = by (command_of words) refl
   where

@@ -39,7 +39,7 @@ fn limit_in(line: &Line) -> Option<Option<u64>>
     }
 }
 
-// The source that the flags ask for.
+// The source of bounds that the flags ask for.
 fn source_of(reduce: bool, keys: bool, count: bool) -> ListSource
     ensures { result ≡ source_by reduce keys count }
 {
@@ -51,7 +51,7 @@ fn source_of(reduce: bool, keys: bool, count: bool) -> ListSource
     }
 }
 
-// The shape that the flag asks for.
+// The shape of the plan, an order or a tree, that the flag asks for.
 fn shape_of(bushy: bool) -> Shape
     ensures { result ≡ shape_by bushy }
 {
@@ -82,7 +82,7 @@ fn over<'a>(schema: &'a str, query: &'a str, work: Work<'a>) -> Command<'a>
     }
 }
 
-// What is asked of a plan, if the budget and the limit of memory have right values, and the budget isn't past the greatest one of the shape.
+// What is asked of a plan, if the budget and the limit of memory have right values, and the budget is at most the greatest budget of the shape.
 fn terms_in(line: &Line) -> Option<PlanTerms>
     ensures { result ≡ terms_given (given_of line.now) }
 {
@@ -99,7 +99,7 @@ fn terms_in(line: &Line) -> Option<PlanTerms>
     })
 }
 
-// A plan over tables, if at most one source is given and each option has a right value.
+// A plan over tables, if at most one source of bounds is given and each option has a right value.
 fn over_tables<'a>(out: OutText, terms: PlanTerms, line: &Line<'a>) -> Option<Work<'a>>
     ensures { result ≡ plan_over_tables out terms (given_of line.now) }
 {
@@ -141,7 +141,7 @@ fn from_file<'a>(file: &'a str, terms: PlanTerms, line: &Line<'a>) -> Option<Wor
     })
 }
 
-// A plan from a statistics file, if one is given, else over tables.
+// A plan from a statistics file, if such a file is given, otherwise a plan over tables.
 fn work_in<'a>(out: OutText, terms: PlanTerms, line: &Line<'a>) -> Option<Work<'a>>
     ensures { result ≡ work_given out terms (given_of line.now) }
 {

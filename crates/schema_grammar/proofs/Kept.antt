@@ -65,7 +65,7 @@ module _ (P : Lexeme → Type 0) where
   table_of =
       keeps_made table (IsTableOf P) (keeps_then (a_word terminal.Create) (keeps_then (a_word terminal.Table) (keeps_then name (keeps_inside (keeps_listed element_of))))) (λ parts q. (q.1.1.0, q.1.1.1))
 
-  -- where every token of the text has P, so has every token of its trees
+  -- if every token of the text has P, every token of its trees has P
   pub tables_of : Keeps P SchemaText (AreOf P)
   unfolding SchemaText AreOf
   tables_of =

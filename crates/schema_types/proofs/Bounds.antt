@@ -1,4 +1,4 @@
--- Numbers of columns lie in their table.
+-- In the schema of a text, each number of a column is below the number of columns of its table.
 use Rattle.std.proofs.Common.{◌≡◌, ℕ, zero, suc, ◌+◌, ◌<◌, ◌≤◌, List, [], ◌∷◌, ◌++◌, length, map, Option, Some, None, All, refl, sym, ◌∙◌, ap, subst, arith}
 use Rattle.std.specs.List.{flat_map, slice_get}
 use Rattle.std.specs.Option.{unwrap_or, option_map, option_and_then}
@@ -85,7 +85,7 @@ resolved_within : (text : List ℕ) (declared : List (List ℕ)) (chosen : Optio
 resolved_within text declared None some = All-nil (λ n. n < length declared)
 resolved_within text declared (Some tokens) some = numbers_within text declared tokens some
 
--- a reference to the table at a place leads to its columns
+-- a reference to the table at place `place` leads to columns of this table
 reference_to : (text : List ℕ) (tables : List TableNode) (table : Table) (from : List ℕ) (written : Option (List Lexeme)) (place : ℕ) (target : TableNode) → AreColumnsOf table from → slice_get tables place ≡ Some target → HasColumns text target → IsReference (map (table_of text tables) tables) table (record { columns = from; table = place; targets = led_numbers text written (Some target) })
 unfolding table_of
 reference_to text tables table from written place target within here some = record {
@@ -95,7 +95,7 @@ reference_to text tables table from written place target within here some = reco
   targets = rw (count_of_columns text target.elements) (resolved_within text (column_names text target.elements) (referenced_columns written target.elements) some);
 }
 
--- no table has the name: none of the first table's columns
+-- if no table has the name, the reference leads to table 0 and to no column
 reference_to_none : (text : List ℕ) (tables : List TableNode) (table : Table) (from : List ℕ) (first : TableNode) → AreColumnsOf table from → slice_get tables 0 ≡ Some first → IsReference (map (table_of text tables) tables) table (record { columns = from; table = 0; targets = [] })
 reference_to_none text tables table from first within here = record {
   columns = within;

@@ -1,4 +1,4 @@
--- A schema text has one answer at most, want of memory aside.
+-- A schema text has at most one answer, apart from the answer that memory ran out.
 use Rattle.std.proofs.Common.{◌≡◌, ◌≢◌, ℕ, ◌⊎◌, List, map, length, Result, Ok, Err, refl, sym, ◌∙◌, ap, subst, inl, inr}
 use Rattle.ll_grammars.specs.Places.{IsSyntaxPlace}
 use Rattle.schema_grammar.specs.declared.tree.TableNode.{TableNode}

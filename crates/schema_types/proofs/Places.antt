@@ -16,7 +16,7 @@ or_last_cond : (b : Bool) (o : Option ℕ) (count : ℕ) (same : Bool) → cond 
 or_last_cond true o count same = refl
 or_last_cond false o count same = or_last_shift o count same
 
--- with one more name at the end, a name has the place that it had, or else the last one if it is the new name
+-- when one more name is added at the end, a name keeps the place that it had. A name without a place gets the last place if it is the new name
 pub place_of-append : (names : List (List ℕ)) (last name : List ℕ) → place_of (names ++ last ∷ []) name ≡ or_last (place_of names name) (length names) (bytes_eq name last)
 unfolding place_of
 place_of-append [] last name = refl
@@ -25,7 +25,7 @@ place_of-append (other ∷ names) last name =
     rw count (ap (λ o. cond (bytes_eq name other) (Some 0) (option_map (λ place. place + 1) o)) (place_of-append names last name)
     ∙ or_last_cond (bytes_eq name other) (place_of names name) (length names) (bytes_eq name last))
 
--- two tests are equal if each holds where the other does
+-- two tests are equal if each is true whenever the other is
 same_tests : (a b : Bool) → (a ≡ true → b ≡ true) → (b ≡ true → a ≡ true) → a ≡ b
 same_tests true true f g = refl
 same_tests true false f g = sym (f refl)
@@ -45,7 +45,7 @@ is_last : (o : Option ℕ) (last : ℕ) → is_none o ≡ true → Some last ≡
 is_last (Some place) last none = cc
 is_last None last none = refl
 
--- a name without a place by `f` gets the last one: the place of any name after that is `or_last` of its place before
+-- `f` gives places to names, and `name` has none yet. When `name` gets the place `last`, each name's place is `or_last` of its earlier place
 pub place_added : (f : List ℕ → Option ℕ) (name other : List ℕ) (last : ℕ) → is_none (f name) ≡ true → cond (bytes_eq name other) (Some last) (f other) ≡ or_last (f other) last (bytes_eq other name)
 place_added f name other last none = elim (cases_Bool (bytes_eq name other)) [
   | inl e ↦
@@ -56,7 +56,7 @@ place_added f name other last none = elim (cases_Bool (bytes_eq name other)) [
       rw (e, other_one) (not_last (f other) last)
 ]
 
--- the same as `place_of-append`, where equations say what the lists and places are
+-- `place_of-append`, for lists and places that are given by equations
 pub place_pushed : (old new : List (List ℕ)) (last name : List ℕ) (count : ℕ) (before after : Option ℕ) → new ≡ old ++ last ∷ [] → count ≡ length old → before ≡ place_of old name → after ≡ or_last before count (bytes_eq name last) → after ≡ place_of new name
 place_pushed old new last name count before after grown counted stood stands = cc (place_of-append old last name)
 

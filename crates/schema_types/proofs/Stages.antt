@@ -1,4 +1,4 @@
--- One stage of the answer after the other.
+-- The answer, stage by stage: names, nullability, limits.
 use Rattle.std.proofs.Common.{◌≡◌, ℕ, List, Option, Some, None, Result, Ok, Err, refl, sym, ◌∙◌, ap, All}
 use Rattle.std.specs.Option.{option_map}
 use Rattle.ll_grammars.specs.declared.lexeme.Lexeme.{Lexeme}

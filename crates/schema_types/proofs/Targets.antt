@@ -9,12 +9,12 @@ use Rattle.schema_types.specs.Declarations.{table_names}
 use Rattle.schema_types.specs.Names.{place_of}
 use Rattle.schema_types.proofs.Places.{place_of_within}
 
--- without a place there is no table
+-- if the reference's name has no place among the tables, it leads to no table
 pub no_target : {A B : Type 0} (f : A → B) (xs : List A) (o : Option ℕ) → o ≡ None → None ≡ option_map f (option_and_then (slice_get xs) o)
 no_target f xs None e = refl
 no_target f xs (Some place) e = cc
 
--- the table at the place
+-- if the name has the place `place`, the reference leads to the table there
 pub target_found : {A B : Type 0} (f : A → B) (xs : List A) (ys : List B) (o : Option ℕ) (place : ℕ) (y : B) → ys ≡ map f xs → o ≡ Some place → slice_get ys place ≡ Some y → Some y ≡ option_map f (option_and_then (slice_get xs) o)
 target_found f xs ys None place y same e here = cc
 target_found f xs ys (Some p) place y same e here =

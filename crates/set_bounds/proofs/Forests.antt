@@ -1,4 +1,4 @@
--- If equalities close no cycle, they close no cycle when they are rotated, nor when some are left out. Then all of them are kept.
+-- If equalities close no cycle, they also close no cycle when they are rotated or when some are left out. A turn keeps all of them.
 use Rattle.std.proofs.Common.{◌≡◌, ◌≢◌, ◌⊎◌, ℕ, Bool, true, false, not, List, [], ◌∷◌, ◌++◌, take, drop, refl, ap, sym, ◌∙◌, subst, inl, inr}
 use Rattle.std.specs.Prelude.{filter}
 use Rattle.std.specs.List.{AllByRecursion, Contains}
@@ -28,7 +28,7 @@ both_hold : {X : Type 0} (Q R T : X → Type 0) → ((x : X) → Q x → R x →
 both_hold Q R T so [] h k = tt
 both_hold Q R T so (x ∷ xs) h k = (so x h.0 k.0, both_hold Q R T so xs h.1 k.1)
 
--- each equality of the one list is one of the other
+-- each equality of the first list is in the second list
 abbrev pub AreAmong : List Edge → List Edge → Type 0
 AreAmong xs ys = (e : Edge) → Contains xs e → Contains ys e
 
@@ -44,7 +44,7 @@ other_order xs ys e k = elim (Contains-append_cases xs ys e k) [
   | inr behind ↦ Contains-append_left ys xs e behind
 ]
 
--- ---- what some equalities hold apart, fewer do
+-- ---- two entries that equalities leave apart (don't connect) are left apart by fewer equalities too
 
 abbrev Together : (ℕ → Bool) → Edge → Type 0
 Together side e = side e.left.entry ≡ side e.right.entry
@@ -99,7 +99,8 @@ turned_back true true false e = absurd (cc e)
 turned_back true false true e = absurd (cc e)
 turned_back true false false e = refl
 
--- where f joins what e and those before it leave apart, e still joins what is apart when f comes before it
+-- let `earlier` leave apart the entries that e joins, and let `earlier` with e leave apart the entries that f joins. Then `earlier` with f leaves apart the
+-- entries that e joins, so the two can be exchanged
 still_apart : (earlier : List Edge) (e f : Edge) → AreApart earlier e.left.entry e.right.entry → AreApart (e ∷ earlier) f.left.entry f.right.entry → AreApart (f ∷ earlier) e.left.entry e.right.entry
 still_apart earlier e f s t = elim (same_or_not (s.side f.left.entry) (s.side f.right.entry)) [
   | inl same ↦ record { side = s.side; together = (same, s.together); across = s.across }
@@ -120,7 +121,7 @@ still_apart earlier e f s t = elim (same_or_not (s.side f.left.entry) (s.side f.
     so : (x y : ℕ) → s.side x ≡ s.side y → t.side x ≡ t.side y → side x ≡ side y
     so x y one other = ap (λ v. turned (beside v (t.side f.right.entry)) (s.side x)) other ∙ ap (turned (beside (t.side y) (t.side f.right.entry))) one
 
--- the earlier equalities, after these were added to them
+-- the earlier equalities, after the equalities of the second list were added to them one by one
 abbrev pub onto : List Edge → List Edge → List Edge
 onto earlier [] = earlier
 onto earlier (e ∷ es) = onto (e ∷ earlier) es

@@ -1,4 +1,4 @@
--- What a condition asks: the rows of the entries that it names.
+-- Whether a condition holds depends only on the rows of the entries that it names.
 use Rattle.std.proofs.Common.{◌≡◌, ℕ, Bool, true, not, eqb, List, [], ◌∷◌, ◌++◌, map, refl, ap, sym, ◌∙◌, subst, inl, inr}
 use Rattle.std.specs.List.{flat_map, list_any, AllByRecursion}
 use Rattle.std.proofs.lemmas.Bool.{cases_Bool, eq-eqb, or_right}

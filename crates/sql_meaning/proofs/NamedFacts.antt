@@ -1,4 +1,4 @@
--- What holds of conditions that can be asked.
+-- Conditions that can be asked of a database (`IsAskable`).
 use Rattle.std.proofs.Common.{◌<◌, length, refl, subst}
 use Rattle.std.specs.List.{All}
 use Rattle.csv_tables.specs.declared.types.Database.{Database}
@@ -12,7 +12,7 @@ use Rattle.query_types.specs.Typing.{Compares, IsTypedLayer}
 use Rattle.query_types.proofs.CondFacts.{entries_typed}
 use Rattle.sql_meaning.specs.Databases.{IsAskable, IsColumnOfKind}
 
--- such a condition names entries that have tables
+-- a condition that can be asked names only entries that are in the database
 pub entries_exist : (db : Database) (cond : Cond) → IsAskable db cond → All (λ entry. entry < length db.slots) (entries_named cond)
 entries_exist db = entries_typed (IsColumnOfKind db) (λ entry. entry < length db.slots) (λ column text h. h.exists.entry)
 

@@ -17,7 +17,7 @@ use Rattle.sql_meaning.specs.Tables.{cells_of, Tables, row_counts, tables_of}
 use Rattle.sql_meaning.proofs.NamedFacts.{can_ask}
 use Rattle.sql_meaning.proofs.ConditionFacts.{holds_and, holds_or, holds_not, holds_compare}
 
--- what X compared with a number says, in a row
+-- whether the comparison of X with a number holds in a row
 abbrev x_says : Op → ℕ → ℕ → Bool
 x_says op number row = comparison_says one_two_three (λ entry. row) op (column_at 0 0) (operand.Int (pos number))
 

@@ -63,7 +63,7 @@ pub unless_number_ok : (places : List ℕ) (answer : Result Query QueryError) (q
 unless_number_ok [] answer query is = sym is
 unless_number_ok (place ∷ rest) answer query is = absurd cc
 
--- every query that the relation allows
+-- every query that `IsAnswer` allows is a query of the schema
 pub answer_of_schema : (schema : Schema) (text : List ℕ) (query : Query) → IsAnswer schema text (Ok query) → IsOf schema query
 answer_of_schema schema text query (inl memory) = absurd cc
 answer_of_schema schema text query (inr (inl unlexed)) = absurd (let is = unlexed.refused in cc)

@@ -1,4 +1,4 @@
--- One stage of the answer after the other.
+-- The answer to a text, stage by stage: tokens, nesting, grammar, numbers, and the tree.
 use Rattle.std.proofs.Common.{◌≡◌, inl, inr, ℕ, ◌-◌, ◌^◌, ◌<◌, ◌≤◌, min, All, List, [], ◌∷◌, length, Option, Some, None, Result, Err, ap, subst, sym, ◌∙◌, refl, arith}
 use Rattle.ll_grammars.specs.declared.lexeme.Lexeme.{Lexeme}
 use Rattle.ll_grammars.specs.Places.{IsSyntaxPlace}

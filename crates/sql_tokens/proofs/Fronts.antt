@@ -1,4 +1,4 @@
--- What a computed piece is, in the words of the relation.
+-- If `piece` computes a separator, a token or an offence, this is what `Lexing` says of the front of the text.
 use Rattle.std.proofs.Common.{◌≡◌, ◌≢◌, ℕ, ◌+◌, ◌≤◌, Bool, true, false, cond, ◌&&◌, eqb, ltb, List, [], ◌∷◌, ◌++◌, length, Option, Some, None, refl, sym, ap, ◌∙◌, subst, inl, inr, ⊎_elim, arith, append_assoc, length-append}
 use Rattle.std.proofs.lemmas.Bool.{and_parts, and_from, or_from, eqb-true, ltb-true, ltb-false, eqb-false, false≢true}
 use Rattle.std.specs.Prelude.{slice_index}
@@ -136,7 +136,8 @@ sees_empty rest n c one = at c.body c.closes (let l : n ≡ length c.body + 1 = 
   at [] closes len = inr (inr (inl (record { more = c.more; whole = ap (λ (x : List ℕ). 34 ∷ x) closes.whole; ends = closes.ends; here = refl })))
   at (b ∷ body) closes len = absurd (omega arith)
 
--- where all up to the quote that closes is plain, the plain front is at least as long; else it ends at the first control character
+-- if the body before the closing quote has no control character, the longest front without control characters goes past the closing quote; otherwise it
+-- ends at the body's first control character
 plain_len : (rest : List ℕ) (n : ℕ) (c : ClosesAt 34 rest n) → list_all is_plain c.body ≡ true → n ≤ prefix_len is_plain rest
 plain_len rest n c all =
     let e : prefix_len is_plain rest ≡ length c.body + prefix_len is_plain (34 ∷ c.more) = ap (prefix_len is_plain) c.closes.whole ∙ prefix_all is_plain c.body (34 ∷ c.more) all in

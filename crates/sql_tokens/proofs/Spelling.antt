@@ -10,7 +10,7 @@ and_false : (a b : Bool) → false ≡ b → false ≡ (a && b)
 and_false true b e = e
 and_false false b e = refl
 
--- words of two lengths differ
+-- words of different lengths differ
 pub other_length : (word bytes : List ℕ) → length word ≢ length bytes → false ≡ bytes_eq word (in_upper_case bytes)
 other_length [] [] ne = absurd (ne refl)
 other_length [] (b ∷ bytes) ne = refl

@@ -11,7 +11,7 @@ use Rattle.sql_tokens.specs.declared.pieces.Piece.TheVariants as piece_
 use Rattle.sql_tokens.specs.Tokens.{is_blank, is_letter, is_digit, is_plain, is_sign, is_pair}
 use Rattle.sql_tokens.specs.Pieces.{closed, identifier_to, identifier, literal_to, literal, symbol, piece, Walked, before, step, pieces_up_to, tokens_at, with_front}
 
--- no piece is empty
+-- a separator or a token has at least one byte
 abbrev pub IsLong : Piece → Type 0
 IsLong (piece_.Gap n) = 1 ≤ n
 IsLong (piece_.Token k n) = 1 ≤ n

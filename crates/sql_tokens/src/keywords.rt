@@ -1,11 +1,11 @@
-//! Words that are no names everywhere (SQL-92 5.2), and their terminals.
+//! Words that can't be names, or can't be names everywhere (SQL-92 5.2), and their terminals.
 ghost use Rattle.std.specs.Prelude.{◌≡◌, map};
 ghost use Rattle.std.specs.Str.{bytes_eq};
 ghost use Rattle.sql_tokens.specs.Words.{entry_of, in_upper_case, keywords, terminal_in};
 
 use ll_grammars::Terminal;
 
-// Each word in upper case, and what it is to a grammar.
+// Each word in upper case, with the terminal by which grammars know it.
 const KEYWORDS: &[(&str, Terminal)] = &[
     ("AND", Terminal::And),
     ("AS", Terminal::As),

@@ -1,4 +1,4 @@
--- What the rules say of places.
+-- The rules say that the columns of a pair, which are given by their places, exist.
 use Rattle.std.proofs.Common.{◌≡◌, Some, Option, get_or, subst}
 use Rattle.std.specs.Prelude.{All, slice_get}
 use Rattle.std.proofs.lemmas.Option.{slice_get_within}

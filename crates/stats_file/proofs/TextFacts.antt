@@ -23,7 +23,7 @@ concat-each : {X : Type 0} (f : X → List (List ℕ)) (xs : List X) → concat 
 concat-each f [] = refl
 concat-each f (x ∷ xs) = concat-append (f x) (flat_map f xs) ∙ ap (λ rest. concat (f x) ++ rest) (concat-each f xs)
 
--- what stands behind `rest`
+-- the lines after the line `rest`: cuts and nodes
 abbrev pub tree_part : Pair → List ℕ
 tree_part pair = flat_map cut_line pair.cuts ++ flat_map histogram_node_line pair.nodes
 

@@ -1,4 +1,4 @@
--- No bound from a file is too low for tables for which the file stands, and there are as many bounds as sets, and as scans.
+-- No bound from a file is too low for tables for which the file stands. There is a bound for each set and a bound for each scan.
 use Rattle.std.proofs.Common.{◌≡◌, ℕ, ◌^◌, ◌<◌, ◌≤◌, length, get_or, None, ap, ◌∙◌, arith}
 use Rattle.std.proofs.lemmas.List.FromFn.{length-map-range_with_len}
 use Rattle.std.specs.List.{Contains}
@@ -79,7 +79,7 @@ module _ (query : Query) (file : StatsFile) (own : NamesItsEntries query) (is : 
     pub few_rows : (entry : ℕ) → entry < length query.from → row_counts tables entry ≤ 4000000
     few_rows entry low = omega (arith, rows_are entry low, (from_stats_file entry low).is.rows)
 
-    -- no more rows are told of an entry than its table has
+    -- the file gives an entry at most as many rows as the entry's table has
     told_few : (entry : ℕ) → entry < length query.from → (stats_file_counts (section_for query file entry) (needs_of query entry)).whole ≤ row_counts tables entry
     told_few entry low =
         omega (
@@ -98,7 +98,7 @@ module _ (query : Query) (file : StatsFile) (own : NamesItsEntries query) (is : 
     pub scans_fit : BoundLists query tables (scans_of query tables) (scan_bounds_of_file query file)
     scans_fit = scans_bound query known tables key its_stands told_few
 
--- ---- how many
+-- ---- how many bounds there are
 
 pub one_scan : (query : Query) (file : StatsFile) → length (scan_bounds_of_file query file) ≡ length query.from
 one_scan query file = length-map-range_with_len (scan_rows query (stats_file_statistics query file)) 0 (length query.from)

@@ -1,5 +1,5 @@
--- What a file tells of the entries is a `Statistics`. So that no bound is too low follows from laws of planning, which hold for any bounds.
--- What is shown here is that the lists of a file fall (`Falling`).
+-- The statistics that a file gives for the entries are a `Statistics`. So laws of planning, which are proved for any bounds, say that no bound is too low.
+-- What remains to be shown here is that the lists of a file fall (`Falling`).
 
 pub mod Finding
 pub mod Small

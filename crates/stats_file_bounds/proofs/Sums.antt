@@ -24,7 +24,7 @@ use Rattle.stats_file_bounds.specs.Entries.{IsFromStatsFile}
 use Rattle.stats_file_bounds.specs.FileStatistics.{stats_file_counts, stats_file_lists, of_one_key, joined_column_for, whole_by, whole_list}
 use Rattle.stats_file_bounds.specs.Found.{are_columns, has_pair, no_pair, pair_for, pair_in}
 
--- ---- where what is found stands
+-- ---- the place of the element that `find` finds
 
 pub found_at : {X : Type 0} (p : X → Bool) (xs : List X) (x : X) → find p xs ≡ Some x → (i : ℕ) × (i < length xs) × ((d : X) → get_or xs i d ≡ x) × (p x ≡ true)
 found_at p [] x e = absurd (cc)
@@ -36,7 +36,7 @@ found_at p (y ∷ xs) x e = elim (cases_Bool (p y)) [
 
 -- ---- pairs that count the same
 
--- each value, each node and each range has as many rows in both
+-- each value and each range has the same number of rows in both pairs
 pub record HaveSums (a b : Pair) : Type 0 where
   pub value : (value : Value) → sum (list_of_value a value) ≡ sum (list_of_value b value)
   pub between : (low high : Option Value) → sum (list_between a low high) ≡ sum (list_between b low high)
@@ -93,7 +93,7 @@ turned a b same = record { value = λ value. sym (same.value value); between = �
 itself : (a b : Pair) → a ≡ b → HaveSums a b
 itself a b same = subst (λ (p : Pair). HaveSums a p) same (record { value = λ value. refl; between = λ low high. refl })
 
--- pairs of one filter column of a section count the same
+-- two pairs of a section that have the same filter column count the same rows
 module _ (section : TableStats) (from_stats_file : IsFromStatsFile section) where
   pub found_sums : (filter one other : ℕ) (a b : Pair) → pair_in section filter one ≡ Some a → pair_in section filter other ≡ Some b → HaveSums a b
   found_sums filter one other a b here there =
@@ -122,7 +122,7 @@ module _ (section : TableStats) (from_stats_file : IsFromStatsFile section) wher
 
 -- ---- needed pairs
 
--- the column is joined, or the entry joins none
+-- a column in the list of joined columns is joined; `IsJoined` also allows any column if the entry joins no column
 unfoldable pub IsJoined : Needs → ℕ → Type 0
 IsJoined needs joined = (needs.joined ≡ []) ⊎ Contains needs.joined joined
 
@@ -200,7 +200,7 @@ module _ (section : TableStats) (from_stats_file : IsFromStatsFile section) (nee
           let found = partner_found column joined (subst (λ (f : List ℕ). Contains f column) (sym is) (in_front column columns column refl)) joins in
           ap (λ (p : Pair). sum p.whole) (its column (joined_column_for needs joined column) found.0 found.1) ∙ found_whole section from_stats_file column (joined_column_for needs joined column) found.0 found.1
 
-  -- pairs of a filter column with two joined columns
+  -- the pairs of one filter column with two joined columns have the same sums
   partners_sum : (filter one other : ℕ) → Contains needs.filters filter → IsJoined needs one → IsJoined needs other
       → HaveSums (pair_for section filter (joined_column_for needs one filter)) (pair_for section filter (joined_column_for needs other filter))
   partners_sum filter one other has joins also =

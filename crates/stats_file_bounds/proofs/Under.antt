@@ -1,4 +1,4 @@
--- What a file tells of a query stands for the tables for which the file stands.
+-- If a file stands for tables, the statistics that the file gives for a query stand for these tables.
 use Rattle.std.proofs.Common.{◌≡◌, ℕ, suc, ◌<◌, ◌≤◌, Bool, true, false, ◌&&◌, cond, eqb, List, [], ◌∷◌, map, length, get_or, sum, Option, None, Some, option_map, refl, ap, sym, ◌∙◌, subst, inl, inr, arith}
 use Rattle.std.specs.Prelude.{unwrap_or}
 use Rattle.std.specs.List.{Contains, filter, list_all, list_any, range_with_len}
@@ -106,7 +106,7 @@ module _ (pair : Pair) (tables : Tables) (entry : ℕ) (key : ℕ → ℕ) (stan
 
 -- ---- the list of all rows
 
--- it dominates the keys of fewer rows
+-- a list that dominates the keys of all rows dominates the keys of fewer rows
 fewer_rows : (tables : Tables) (entry : ℕ) (key : ℕ → ℕ) (s : List ℕ) (test : ℕ → Bool) → DominatesKeys s (map key (range_with_len 0 (row_counts tables entry)))
     → DominatesKeys s (map key (rows_where tables entry test))
 fewer_rows tables entry key s test dominates =
@@ -114,7 +114,7 @@ fewer_rows tables entry key s test dominates =
     fewer_dominated key test (λ row. true) s rows (all_in_range (PassesBoth key test (λ row. true)) 0 (row_counts tables entry) (λ row low h. refl))
     (subst (λ (those : List ℕ). DominatesKeys s (map key those)) (sym (all_pass (λ row. true) rows)) dominates)
 
--- ---- a column that is joined is needed with each filter column
+-- ---- each filter column is paired with a joined column
 
 pub partner_joined : (needs : Needs) (joined filter_column : ℕ) → Contains needs.joined joined → joined_column_for needs joined filter_column ≡ joined
 partner_joined needs joined filter_column has = some needs.joined has
@@ -127,7 +127,7 @@ partner_joined needs joined filter_column has = some needs.joined has
 
 module _ (section : TableStats) (from_stats_file : IsFromStatsFile section) (needs : Needs) (all : list_all (has_pair section) (pairs_of needs) ≡ true)
     (tables : Tables) (entry : ℕ) (key : ℕ → ℕ → ℕ) (tells : (column : ℕ) → TellsValues tables entry column (key column)) (stands : SectionStandsFor section tables entry) where
-  -- a pair that is there stands for the rows
+  -- a pair that is found in the section stands for the table's rows
   found_stands : (filter_column joined : ℕ) (p : Pair) → pair_in section filter_column joined ≡ Some p
       → (p.filter ≡ filter_column) × (p.joined ≡ joined) × PairStandsFor p tables entry (key joined)
   found_stands filter_column joined p here =
@@ -154,7 +154,7 @@ module _ (section : TableStats) (from_stats_file : IsFromStatsFile section) (nee
   pair_few : (filter_column joined : ℕ) → length (its_pair filter_column joined).cuts ≤ 32
   pair_few filter_column joined = (its_within section from_stats_file filter_column (joined_column_for needs joined filter_column)).cuts
 
-  -- the list of a value and that of a range, over the keys of the column with which the filter column is needed
+  -- the list of a value and the list of a range dominate the keys of their rows, in the column that the filter column is paired with
   value_dominates : (filter_column joined : ℕ) → Contains needs.filters filter_column → IsJoined needs joined → (value : Value)
       → DominatesKeys (list_of_value (its_pair filter_column joined) value) (map (key (joined_column_for needs joined filter_column)) (rows_where tables entry (has_value tables entry filter_column value)))
   value_dominates filter_column joined has joins value =

@@ -5,12 +5,12 @@ ghost use Rattle.stats_file_bounds.specs.declared.errors.NeedError.TheVariants a
 use base_io::NoMemory;
 use std::alloc::AllocFailed;
 
-/// Why a file tells nothing of a query.
+/// Why a file gives no bounds for a query.
 #[derive(Clone, Copy, Debug, PartialEq, Eq)]
 pub enum NeedError {
     /// This FROM entry is the first that needs a section or a pair that the file doesn't have.
     Missing { from: u8 },
-    /// Memory was wanting.
+    /// Memory ran out.
     NoMemory,
 }
 

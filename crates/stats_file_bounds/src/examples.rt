@@ -9,8 +9,8 @@ ghost use Rattle.stats_file_bounds.specs.Examples.{grown, itself, of_one, of_two
 ghost use Rattle.stats_file_bounds.specs.Bounds.{scan_bounds_of_file, set_bounds_of_file};
 ghost use Rattle.stats_file_bounds.specs.Found.{first_missing};
 
-/// R(X) of 1, 1, 1, 2, 2, 3 and S(X) of 1, 1, 4, 5, 6 from their lists alone; the value 99 in a file in which it isn't frequent; and files in
-/// which a section or a pair is missing.
+/// Bounds of R(X) with the values 1, 1, 1, 2, 2, 3 and S(X) with the values 1, 1, 4, 5, 6, from their lists alone. A bound for the value 99 in a file
+/// in which 99 isn't frequent. And files in which a section or a pair is missing.
 pub fn small_files()
     ensures scans { scan_bounds_of_file pair (of_two (section 0 6 (itself (3 ∷ 3 ∷ []))) (section 1 5 (itself (2 ∷ 2 ∷ 1 ∷ []))))
         ≡ 6 ∷ 5 ∷ [] }
@@ -22,7 +22,7 @@ pub fn small_files()
     ensures first { first_missing pair (of_one (section 2 0 (itself []))) ≡ Some 0 }
 {}
 
-/// R(X) of 1, 1, 1, 2, 2, 3 and S(X) of 1, 1, 4, 5, 6 from the file of both: the best order costs 12.
+/// A plan for R(X) with the values 1, 1, 1, 2, 2, 3 and S(X) with the values 1, 1, 4, 5, 6, from the file of both: the best order costs 12.
 pub fn small_plans()
     ensures plan { plan_answer (set_bounds_of_file pair (of_two (section 0 6 (itself (3 ∷ 3 ∷ []))) (section 1 5 (itself (2 ∷ 2 ∷ 1 ∷ [])))))
         (scan_bounds_of_file pair (of_two (section 0 6 (itself (3 ∷ 3 ∷ []))) (section 1 5 (itself (2 ∷ 2 ∷ 1 ∷ []))))) 12

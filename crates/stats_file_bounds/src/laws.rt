@@ -1,4 +1,4 @@
-//! What holds of bounds from files: no law computes anything, and the contract is the law.
+//! Laws of bounds from files. The contract of a function is the law; the function does nothing.
 ghost use Rattle.std.specs.Prelude.{◌≡◌, ◌<◌, ◌≤◌, ℕ, None, length};
 ghost use Rattle.limits.specs.Profile.{most_rows};
 ghost use Rattle.join_steps.specs.Lists.{scans_of};
@@ -16,8 +16,8 @@ ghost use Rattle.stats_file_bounds.specs.Entries.{IsFile};
 ghost use Rattle.stats_file_bounds.specs.FileStatistics.{stats_file_statistics};
 ghost use Rattle.stats_file_bounds.specs.Found.{first_missing};
 
-/// Never under: where a file stands for tables and has all that a query needs, what it tells of the query stands for them, over any keys
-/// that tell the values of each column. So no bound that is made from it is too low for these tables.
+/// Never under: let a file stand for tables and have all that a query needs. Then the statistics that the file gives for the query stand for these
+/// tables, with any keys that tell the values of each column. So no bound that is made from these statistics is too low for these tables.
 pub fn files_are_never_under()
     ensures { (query : Query) (file : StatsFile) (tables : Tables) (key : Keys) → NamesItsEntries query → IsFile file → StandsFor query file tables
         → first_missing query file ≡ None → ((entry column : ℕ) → TellsValues tables entry column (key entry column))

@@ -4,9 +4,9 @@
 //! from tables, and a `Known` with the bounds of all sets and scans, from which a plan is chosen. Or the first FROM entry for which the file
 //! lacks a section or a pair.
 //!
-//! Callers cite `stats_file_statistics` (in `specs/FileStatistics.antt`) for what is told, `first_missing` (in `specs/Found.antt`) for what may be missing,
-//! `set_bounds_of_file` and `scan_bounds_of_file` (in `specs/Bounds.antt`) for the bounds, and `laws` for why no bound from a file is too low
-//! for any tables for which the file stands.
+//! Callers cite `stats_file_statistics` (in `specs/FileStatistics.antt`) for the statistics that a file gives, `first_missing` (in `specs/Found.antt`)
+//! for the first entry that lacks something, `set_bounds_of_file` and `scan_bounds_of_file` (in `specs/Bounds.antt`) for the bounds, and `laws` for
+//! why no bound from a file is too low for any tables for which the file stands.
 //!
 //! ```text
 //! let stats = query_stats(alloc, &query, &parts, &file)?;  // Tells query stats (stats_file_statistics query file)

@@ -47,7 +47,7 @@ module _ (value : ℕ → Value) where
   abbrev at_most : ℕ → ℕ → Bool
   at_most a b = value_le (value a) (value b)
 
-  -- each is at most all that follow
+  -- each element is at most every element after it
   abbrev pub Ascends : List ℕ → Type 0
   Ascends [] = Unit {0}
   Ascends (x ∷ xs) = AllByRecursion (λ y. at_most x y ≡ true) xs × Ascends xs
@@ -98,14 +98,14 @@ module _ (value : ℕ → Value) where
       ∙ in_places ordered (ascends column) (cut_place n i) (cut_place n j) (cut_place-mono n i j (omega (arith, before)))
       (omega (arith, length-in_order at_most column, cut_place-within n j some low))
 
--- ---- as a file has them
+-- ---- the order of values in a file
 
 le_not_greater : (o : Ordering) → is_le o ≡ true → o ≢ Greater
 le_not_greater Less h e = cc
 le_not_greater Equal h e = cc
 le_not_greater Greater h e = absurd (false≢true h)
 
--- texts are UTF-8
+-- if the value is a text, it is UTF-8
 abbrev pub IsText : Value → Type 0
 IsText (values.Int number) = Unit {0}
 IsText (values.Text text) = IsUtf8 text

@@ -1,4 +1,4 @@
--- Each query that the relation allows is one of the schema.
+-- Each query that `IsAnswer` allows is a query of the schema.
 use Rattle.sql_parse.proofs.AnswerOfSchema.{answers_of_schema}
 use Rattle.sql_parse.proofs.read.read_query.Goals as goal
 
