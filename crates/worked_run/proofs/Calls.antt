@@ -76,7 +76,7 @@ budget_line : (words : List (List ℕ)) → fault_text (status.Refused (refusal.
 unfolding error_line digits
 budget_line words = refl
 
--- if the verdict is a refusal since the plan costs 12, each call with these words ends with its line
+-- if the verdict is a refusal since the plan costs 12, each call with these words ends with the line `error budget 12`
 pub answers_budget : (words : List (List ℕ)) → verdict words small_files ≡ Err (refusal.Budget 12)
     → EachCallEnds small_files words (status.Refused (refusal.Budget 12)) (Some (codes "error budget 12\n")) None
 answers_budget words is call head same told sound =
@@ -87,7 +87,7 @@ limit_line : (words : List (List ℕ)) → fault_text (status.Refused (refusal.M
 unfolding error_line digits
 limit_line words = refl
 
--- if the verdict is a refusal since the plan takes 556 bytes, each call with these words ends with its line
+-- if the verdict is a refusal since the plan takes 556 bytes, each call with these words ends with the line `error memory-limit 556`
 pub answers_limit : (words : List (List ℕ)) → verdict words small_files ≡ Err (refusal.MemoryLimit 556)
     → EachCallEnds small_files words (status.Refused (refusal.MemoryLimit 556)) (Some (codes "error memory-limit 556\n")) None
 answers_limit words is call head same told sound =

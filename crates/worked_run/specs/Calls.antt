@@ -13,7 +13,7 @@ pub record IsFaultless (call : Call) : Type 0 where
   pub out : FaultsRose call.out → ⊥
   pub notes : FaultsRose call.notes → ⊥
 
--- the call has this status, its notes grew by exactly this text, and its `out` by exactly that one; a stream without a text took nothing
+-- the call has status `s`, its notes grew by exactly `note_text`, and its `out` by exactly `out_text`; a stream without a text took nothing
 pub record Ended (call : Call) (s : Status) (note_text out_text : Option (List ℕ)) : Type 0 where
   pub status : call.status ≡ s
   pub notes : GrewWhole call.notes note_text

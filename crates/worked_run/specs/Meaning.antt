@@ -28,7 +28,7 @@ rows_of column = map (λ n. Int (pos n) ∷ []) column
 abbrev pub small_rows : List (List Row)
 small_rows = rows_of r_column ∷ rows_of s_column ∷ []
 
--- the scanned rows of each FROM entry: all its rows, since no conjunct names only one entry
+-- the row numbers that the scan of each FROM entry has: all rows, since no conjunct names only one entry
 abbrev pub small_lists : List (List ℕ)
 small_lists = (0 ∷ 1 ∷ 2 ∷ 3 ∷ 4 ∷ 5 ∷ []) ∷ (0 ∷ 1 ∷ 2 ∷ 3 ∷ 4 ∷ []) ∷ []
 

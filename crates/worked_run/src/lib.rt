@@ -10,7 +10,7 @@
 //! query.sql    SELECT R.X FROM R, S WHERE R.X = S.X
 //! r.csv        X, and the records 1, 1, 1, 2, 2, 3
 //! s.csv        X, and the records 1, 1, 4, 5, 6
-//! rs.stats     what `stats` writes of them
+//! rs.stats     what `stats` writes of both tables
 //! new.csv      X, and the records 1, 4
 //! ```
 //!
