@@ -63,7 +63,7 @@ use Rattle.worked_run.proofs.Verdicts.{asked_run, plan_alone, query_found, schem
 abbrev new_rows : NewRows
 new_rows = record { stats_file = codes "rs.stats"; table = codes "R"; rows_file = codes "new.csv" }
 
--- ---- the words
+-- ---- the words are read
 
 stats_asked : command_stage stats_words ≡ Ok (over_query None (codes "schema.sql") (codes "query.sql") (works.WriteStats 1))
 unfolding command_of reading_of over_files parts_from kind_of number_of
@@ -77,7 +77,7 @@ append_asked : command_stage append_words ≡ Ok (with_rows (codes "schema.sql")
 unfolding command_of reading_of over_files parts_from kind_of number_of
 append_asked = refl
 
--- ---- the file of both tables
+-- ---- the statistics file of both tables
 
 file_found : file_of_query two_tables pair (tables_in small_rows) 1 ≡ small_stats
 file_found = rw (entries_compare op.Eq (column_operand 0 0) (column_operand 1 0), equality_two 0 0 1 0 (λ e. absurd (omega (arith, e)))) refl
@@ -100,7 +100,7 @@ text_is = refl
 pub stats_printed : out_text small_stats_file ≡ Some stats_text
 stats_printed = ap (λ (t : List ℕ). Some t) text_is
 
--- ---- a plan from it
+-- ---- a plan from the statistics file
 
 there : read file_id.Stats most_file (codes "rs.stats") small_files ≡ Ok stats_text
 unfolding stats_text r_stats r_cuts s_stats
@@ -116,7 +116,7 @@ pub plan_printed : seen printed (verdict from_file_words small_files) ≡ Ok (So
 plan_printed =
     ap (seen printed) (asked_run from_file_words (over_query None (codes "schema.sql") (codes "query.sql") (works.PlanFromStats (codes "rs.stats") (terms_by 1000000 false None))) from_file_asked) ∙ alike
 
--- ---- with new rows
+-- ---- the statistics file after new rows are appended
 
 said : DeclaresSchema small_files (codes "schema.sql") two_tables
 said = declares (codes "schema.sql") small_files two_tables schema_found

@@ -1,4 +1,4 @@
--- What one call wrote and another one read, by the law on such calls.
+-- One call wrote a statistics file and another call read it: the law on two such calls, applied to these.
 use Rattle.std.proofs.Common.{◌≡◌, ℕ, false, List, None, Some, Ok, refl, ap, sym, ◌∙◌, subst}
 use Rattle.std.specs.Prelude.{codes}
 use Rattle.base_io.specs.Files.{Files, file_of}
@@ -45,7 +45,7 @@ asks words these command same computed = computed_asked words command (ap comman
 said : DeclaresSchema small_files (codes "schema.sql") two_tables
 said = declares (codes "schema.sql") small_files two_tables schema_found
 
--- the text of the schema, in whatever file
+-- the text of the schema declares only the two tables, whatever file has this text
 said_by_text : IsTheOne (λ s. IsSchemaOf schema_text (Ok s)) two_tables
 said_by_text =
     let here : file_of small_files (codes "schema.sql") ≡ Some schema_text = refl in

@@ -1,4 +1,4 @@
--- A call of `stats` over the small tables, and one of `plan --stats` over other files.
+-- A call of `stats` over the small tables, and a call of `plan --stats` over any files.
 use Rattle.std.specs.Prelude.{codes, false, None}
 use Rattle.base_io.specs.Files.{Files}
 use Rattle.safebound_words.specs.Commands.{terms_by}
