@@ -106,7 +106,6 @@ module _ (query : Query) (db : Database) (accuracy : ℕ) (of : IsDatabaseOf que
       same_ref : (a b c d : ℕ) → a ≡ c → b ≡ d → (let r : ColumnRef = record { from = a; column = b } in r) ≡ record { from = c; column = d }
       same_ref a b c d h k = rw (h, k) refl
 
-  -- each column of an entry's table has lists
   pub columns_have : (entry : ℕ) (cells : Cells) → entry < length query.from → cells ≡ cells_of db entry → (column : ℕ) → column < length cells.kinds → KeysHaveLists db.pool cells accuracy column
   columns_have entry cells low is column exists =
       let named : IsColumnOf db (record { from = entry; column = column }) =
