@@ -1,4 +1,4 @@
--- A file of statistics to which rows were appended keeps the rules of such files.
+-- If a file of statistics keeps the rules of statistics files, it still keeps them after rows were appended.
 use Rattle.std.proofs.Common.{◌≡◌, ◌⊎◌, ℕ, zero, suc, ◌+◌, ◌<◌, ◌≤◌, ◌==◌, Bool, true, false, cond, eqb, List, [], ◌∷◌, length, map, get_or, Some, slice_get, inl, inr, refl, ap, sym, ◌∙◌, subst, arith}
 use Rattle.std.specs.List.{All, AllByRecursion, AllPairs, zip}
 use Rattle.std.specs.Str.{IsUtf8}

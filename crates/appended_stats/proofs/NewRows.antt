@@ -178,7 +178,7 @@ module _ (new : List Row) (k filter_column joined : ℕ) where
       ap (keys_where (λ other. eqb other (first_row filters value))) (numbered_pairs (alone new) 0 filter_column joined)
       ∙ of_rows number joined_number rows (λ row. is_equal (its row) value) (λ other. eqb other (first_row filters value)) (λ row has. number_tells value row (below row has))
 
-  -- ---- domination, for any keys that are equal just where the values of the joined column are equal
+  -- ---- domination, for any keys that are equal exactly if the values of the joined column are equal
 
   module _ (key : ℕ → ℕ) (tells : TellsValues (alone new) 0 joined key) where
     are_alike : AreEqualAlike joined_number key rows

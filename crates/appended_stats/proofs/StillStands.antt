@@ -27,7 +27,7 @@ use Rattle.appended_stats.specs.Grown.{grown_pair}
 use Rattle.appended_stats.proofs.PairKept.{nodes_all}
 use Rattle.appended_stats.proofs.Stands.{count_is, grown_stands, tells_before}
 
--- whether a pair stands for rows doesn't depend on the entry whose rows they are. `alone` makes tables in which every entry has these rows
+-- it doesn't matter to which entry the rows of a pair belong. `alone` makes tables in which every entry has these rows
 pair_moved : (pair : Pair) (tables : Tables) (entry : ℕ) (key : ℕ → ℕ) → PairStandsFor pair (alone (tables entry)) 0 key → PairStandsFor pair tables entry key
 pair_moved pair tables entry key stands = record { rows = stands.rows; whole = stands.whole; value = stands.value; node = stands.node }
 

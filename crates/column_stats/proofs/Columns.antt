@@ -1,5 +1,4 @@
--- The code reads the columns of a pair from cells. It reads the kind and the cells of each column, so the statistics that it makes are those of the
--- columns.
+-- The code reads the columns of a pair from cells. It reads the kind and the cells of each column, so it makes the statistics of these columns.
 use Rattle.std.proofs.Common.{◌≡◌, ℕ, List, [], length, Some, refl, ap, sym, ◌∙◌, subst, arith}
 use Rattle.std.specs.Prelude.{slice_get}
 use Rattle.std.specs.List.{All, zip}

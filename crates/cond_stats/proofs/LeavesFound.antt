@@ -1,4 +1,4 @@
--- The cuts of a column are found from its places in order. Numbers that compare as the values do tell where the leaves begin among these places.
+-- The cuts of a column are found from its places in order. If numbers compare as the values do, they tell where the leaves begin among these places.
 use Rattle.std.proofs.Common.{◌≡◌, ℕ, zero, suc, ◌+◌, ◌*◌, ◌/◌, ◌<◌, ◌≤◌, Bool, cond, not, eqb, ltb, leb, List, [], ◌∷◌, map, length, get_or, refl, ap, sym, ◌∙◌, subst, arith, inl, inr}
 use Rattle.std.specs.List.{range_with_len}
 use Rattle.std.proofs.Math.Nat.{mul-le-mul_left}

@@ -1,4 +1,4 @@
--- The running sums and the sum of a filtered list are computed from those of the lists that it is made of.
+-- A filtered list is made of other lists. Its running sums and its sum are computed from the running sums and the sums of these lists.
 use Rattle.std.proofs.Common.{◌≡◌, ℕ, ◌+◌, ◌<◌, ◌≤◌, min, List, [], length, refl, ◌∙◌, arith}
 use Rattle.std.specs.List.{All, sum}
 use Rattle.degree_sequences.proofs.ByRank.{running_sum-rank_sum, IsFalling-rank_sum, sum-rank_sum}

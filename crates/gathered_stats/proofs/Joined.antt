@@ -1,5 +1,5 @@
--- Statistics are asked for the joined columns of an entry, which are those that equalities name. If an entry has no joined column, they are asked for a
--- column that no table has.
+-- Statistics are asked for the joined columns of an entry, which are the columns that equalities name. If an entry has no joined column, they are asked for
+-- a column that no table has.
 use Rattle.std.proofs.Common.{◌≡◌, ◌⊎◌, ℕ, ◌+◌, ◌<◌, Bool, true, false, not, ◌&&◌, cond, eqb, List, [], ◌∷◌, ◌++◌, map, length, take, get_or, Some, refl, ap, sym, ◌∙◌, subst, inl, inr, arith}
 use Rattle.std.specs.Prelude.{if◌then◌else◌}
 use Rattle.std.specs.List.{All, Contains, filter}
