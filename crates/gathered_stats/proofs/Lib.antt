@@ -14,8 +14,8 @@
 -- - Two clauses of a last call become one record by a lemma over results (`if_both`), so that the call stays the last expression.
 -- - One answer in a whole check of 44 functions took a minute. A test's `requires` (`IsDatabaseOf` of a small database) that `search` found
 --   by itself took minutes; an answer by name (`triangle_fits`, in join_tests) takes seconds.
--- - For the lists that are kept between steps (`rests`), the invariant is that each is the rest list of its own column (`IsRestOf`), and the one
---   function that adds to them says exactly what it leaves (`with_rest`). The clause `is_some result ≡ is_kept ..` says when a search finds
+-- - Lists are kept between steps (`rests`). The invariant is that each list is the rest list of its own column (`IsRestOf`). The one function
+--   that adds a list says exactly what it leaves (`with_rest`). The clause `is_some result ≡ is_kept ..` says when a search finds
 --   a list. This clause was proved without an answer, and so was the loop's invariant that no list so far is of the column. Three facts
 --   needed a proof: one more list is kept (`one_kept`), each kept list stays right (`all_kept`), and a value that isn't frequent has the
 --   rest list (`rest_of_value`).
