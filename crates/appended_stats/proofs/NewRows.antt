@@ -88,7 +88,6 @@ any_dominates k rows values v inside picked apart =
       compressed-above k (cut_at s n) (IsFalling-cut_at s n (falls k rows values)) (length picked),
     )
 
--- if a number passes a test, it is in a column as often as it is among the column's numbers that pass the test
 degree-filtered : (p : ℕ → Bool) (v : ℕ) → p v ≡ true → (column : List ℕ) → degree (filter p column) v ≡ degree column v
 degree-filtered p v passes [] = refl
 degree-filtered p v passes (x ∷ column) = elim (cases_Bool (p x)) [
@@ -112,7 +111,6 @@ others_dominate k rows p v passes = elim (cases_Bool (is_in (different (filter p
       ))
 ]
 
--- if each row fails a test, the filter leaves no row
 none_pass : (test : ℕ → Bool) (rows : List ℕ) → ((row : ℕ) → Contains rows row → test row ≡ false) → filter test rows ≡ []
 none_pass test [] fails = refl
 none_pass test (row ∷ rows) fails =
@@ -152,11 +150,10 @@ module _ (new : List Row) (k filter_column joined : ℕ) where
   below : (row : ℕ) → Contains rows row → row < many
   below row has = omega (arith, (range_within 0 many row has).1)
 
-  -- a test is alike if its results for equal values are equal
+  -- if two values are equal, the test gives the same result for both
   abbrev pub IsAlike : (Value → Bool) → Type 0
   IsAlike test = (a b : Value) → is_equal a b ≡ true → test a ≡ test b
 
-  -- `keys_where` gives the keys of the rows whose value passes a test that is alike
   passing_are : (test : Value → Bool) → IsAlike test → keys_where (λ n. test (of_row n)) pairs ≡ map joined_number (filter (λ row. test (its row)) rows)
   passing_are test alike =
       ap (keys_where (λ n. test (of_row n))) (numbered_pairs (alone new) 0 filter_column joined)
@@ -169,7 +166,7 @@ module _ (new : List Row) (k filter_column joined : ℕ) where
       (omega (arith, length-map filters (first_row filters), length-map keys (first_row keys), height (alone new) 0 filter_column, height (alone new) 0 joined))).1
       ∙ numbers_are (alone new) 0 joined
 
-  -- a row has a value just when it has the value's number, which is the first row with this value
+  -- the number of a value is the first row that has this value
   number_tells : (value : Value) (row : ℕ) → row < many → eqb (number row) (first_row filters value) ≡ is_equal (its row) value
   number_tells value row low = elim (cases_Bool (is_equal (its row) value)) [
     | inl e ↦ eq-eqb (number row) (first_row filters value) (same_first filters (its row) value e) ∙ sym e
@@ -181,7 +178,7 @@ module _ (new : List Row) (k filter_column joined : ℕ) where
       ap (keys_where (λ other. eqb other (first_row filters value))) (numbered_pairs (alone new) 0 filter_column joined)
       ∙ of_rows number joined_number rows (λ row. is_equal (its row) value) (λ other. eqb other (first_row filters value)) (λ row has. number_tells value row (below row has))
 
-  -- ---- domination, for any keys that are equal just where the values of the joined column are equal
+  -- ---- domination, for any keys that are equal exactly if the values of the joined column are equal
 
   module _ (key : ℕ → ℕ) (tells : TellsValues (alone new) 0 joined key) where
     are_alike : AreEqualAlike joined_number key rows
@@ -203,7 +200,6 @@ module _ (new : List Row) (k filter_column joined : ℕ) where
         (passing_dominated made joined_number key rows (λ row. test (its row)) are_alike).0
         (subst (DominatesKeys made) (passing_are test alike) (compressed_dominates k (keys_where (λ n. test (of_row n)) pairs)))
 
-    -- if a value isn't frequent, the list that is added to the rest list dominates the keys of the new rows with this value
     pub rest_dominates : (frequent : List (Datum × List ℕ)) (value : Value) → is_frequent frequent value ≡ false
         → DominatesKeys (list_of_any k pairs (other_values of_row pairs frequent)) (map key (filter (λ row. is_equal (its row) value) rows))
     rest_dominates frequent value rare =

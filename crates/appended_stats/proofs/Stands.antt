@@ -85,7 +85,6 @@ module _ (n m : ℕ) where
       let e : 0 + n ≡ n + 0 = omega arith in
       range_two 0 n m ∙ ap (λ (a : ℕ). old_rows ++ range_with_len a m) e ∙ ap (λ (s : List ℕ). old_rows ++ s) (range_moved 0 n m)
 
-  -- the keys of all rows that pass are the keys of the old rows that pass and then the keys of the new rows that pass
   pub keys_of_both : (test before later : ℕ → Bool) (key : ℕ → ℕ) → ((row : ℕ) → row < n → test row ≡ before row) → ((row : ℕ) → row < m → test (n + row) ≡ later row)
       → map key (filter test (range_with_len 0 (n + m))) ≡ map key (filter before old_rows) ++ map (λ row. key (n + row)) (filter later new_rows)
   keys_of_both test before later key told after =
@@ -140,7 +139,6 @@ get_or-sums (list ∷ lists) [] i same = absurd (omega (arith, same))
 get_or-sums (list ∷ lists) (other ∷ others) zero same = refl
 get_or-sums (list ∷ lists) (other ∷ others) (suc i) same = get_or-sums lists others i (omega (arith, same))
 
--- at the place of a node, `lists_of_nodes` has the list of the rows whose leaf lies in this node
 node_at : (leaf_of : ℕ → ℕ) (k : ℕ) (rows : List (ℕ × ℕ)) (size leaf : ℕ) → IsNodeSize size → leaf < 32
     → get_or (lists_of_nodes leaf_of k rows) (node_place size leaf) [] ≡ list_where k (λ n. in_node size leaf (leaf_of n)) rows
 node_at leaf_of k rows size leaf is low =
@@ -198,8 +196,6 @@ module _ (tables after : Tables) (entry : ℕ) (new : List Row) (are : after ent
         ap (λ (v : Value). is_equal v (value_in_row after entry joined (n + other))) (new_value joined row) ∙ ap (is_equal (value_in_row (alone new) 0 joined row)) (new_value joined other) in
         ((λ e. sym same ∙ both.0 e), (λ e. both.1 (same ∙ e)))
 
-    -- let `s` dominate the keys of the old rows whose value passes `test`, and `t` the keys of the new rows whose value passes. Then the rank-wise
-    -- sum of `s` and `t` dominates the keys of all rows whose value passes
     both_dominated : (column : ℕ) (test : Value → Bool) (s t : List ℕ)
         → DominatesKeys s (map key (filter (λ row. test (value_in_row tables entry column row)) (range_with_len 0 n)))
         → DominatesKeys t (map new_key (filter (λ row. test (value_in_row (alone new) 0 column row)) (range_with_len 0 m)))

@@ -27,7 +27,7 @@ use Rattle.appended_stats.specs.Grown.{grown_pair}
 use Rattle.appended_stats.proofs.PairKept.{nodes_all}
 use Rattle.appended_stats.proofs.Stands.{count_is, grown_stands, tells_before}
 
--- a pair that stands for rows as the only entry's rows stands for them as the rows of any entry, and the other way round
+-- it doesn't matter to which entry the rows of a pair belong. `alone` makes tables in which every entry has these rows
 pair_moved : (pair : Pair) (tables : Tables) (entry : ℕ) (key : ℕ → ℕ) → PairStandsFor pair (alone (tables entry)) 0 key → PairStandsFor pair tables entry key
 pair_moved pair tables entry key stands = record { rows = stands.rows; whole = stands.whole; value = stands.value; node = stands.node }
 
@@ -87,7 +87,7 @@ module _ (file : StatsFile) (table : ℕ) (new : List Row) where
   its_table : (section : TableStats) → (one section).table ≡ section.table
   its_table section = elim (cases_Bool (section.table == table)) [ inl e ↦ rw e refl | inr e ↦ rw e refl ]
 
-  -- the section that is found for a table after the append is the section that was found before, as the append changes it
+  -- `one` is the function that the append applies to each section
   found_before : (sections : List TableStats) (t : ℕ) (section : TableStats) → find (λ (s : TableStats). s.table == t) (map one sections) ≡ Some section
       → (old : TableStats) × (find (λ (s : TableStats). s.table == t) sections ≡ Some old) × (section ≡ one old)
   found_before [] t section none = absurd (cc none)

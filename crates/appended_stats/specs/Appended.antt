@@ -24,7 +24,7 @@ pair_after accuracy before rows pair =
     if before == 0 then pair_in_table (alone rows) accuracy 0 pair.filter pair.joined
     else grown_pair (value_of_row (values_in rows pair.filter)) accuracy (paired (values_in rows pair.filter) (values_in rows pair.joined)) pair
 
--- a section of the table that gets the rows, after the append
+-- the file's section for the table that gets the rows, as it is after the append
 abbrev pub section_after : ℕ → List Row → TableStats → TableStats
 section_after accuracy rows section = record {
   table = section.table;

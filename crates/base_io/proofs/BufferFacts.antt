@@ -1,4 +1,5 @@
--- What a sink has taken after several texts went through a buffer.
+-- Several texts go through a buffer to a sink, one after another. After that the sink has taken all of the texts except the last bytes, which wait in the
+-- buffer.
 use Rattle.std.proofs.Common.{◌≡◌, ℕ, ◌+◌, ◌<◌, List, [], ◌∷◌, ◌++◌, take, length, get_or, Option, ap, sym, ◌∙◌, append_assoc, append-nil}
 use Rattle.std.specs.List.{flat_map}
 use Rattle.std.proofs.lemmas.Grind.{flat_map-append}
@@ -6,8 +7,6 @@ use Rattle.std.proofs.lemmas.List.{take_more}
 use Rattle.base_io.specs.Sinks.{appended, GrewByPrefix, TookBut}
 use Rattle.base_io.proofs.SinkFacts.{appended-appended}
 
--- a sink takes a text except for some last bytes. Then it takes these bytes and more bytes, again except for some last bytes. Together it has taken
--- the text and the further bytes, except for the last ones
 pub took_next : (old mid new : Option (List ℕ)) (first second text more : List ℕ)
     → TookBut old mid first text → TookBut mid new second (first ++ more) → TookBut old new second (text ++ more)
 took_next old mid new first second text more h k = record {
@@ -17,8 +16,6 @@ took_next old mid new first second text more h k = record {
   grew = k.grew ∙ ap (λ t. appended t k.front) h.grew ∙ appended-appended old h.front k.front;
 }
 
--- a sink takes a text except for some last bytes, and then a prefix of these bytes and of more bytes. Together it has taken a prefix of the text and
--- the further bytes
 pub cut_next : (old mid new : Option (List ℕ)) (first text more : List ℕ)
     → TookBut old mid first text → GrewByPrefix mid new (first ++ more) → GrewByPrefix old new (text ++ more)
 cut_next old mid new first text more h k = record {
@@ -29,14 +26,12 @@ cut_next old mid new first text more h k = record {
   grew = k.grew ∙ ap (λ t. appended t k.front) h.grew ∙ appended-appended old h.front k.front;
 }
 
--- the texts of the first i parts and the text of part i are the texts of the first i + 1 parts
 pub parts_more : {X : Type 0} (f : X → List ℕ) (parts : List X) (i : ℕ) (d : X) → i < length parts
     → flat_map f (take i parts) ++ f (get_or parts i d) ≡ flat_map f (take (i + 1) parts)
 parts_more f parts i d lt =
     ap (λ x. flat_map f (take i parts) ++ x) (sym (append-nil (f (get_or parts i d))))
     ∙ sym (flat_map-append f (take i parts) (get_or parts i d ∷ [])) ∙ ap (flat_map f) (sym (take_more parts i d lt))
 
--- if the waiting bytes are handed to the sink, the sink has taken the whole text; if a prefix of them is, it has taken a prefix (`cut_off`)
 pub went_on : (old mid new : Option (List ℕ)) (waiting text : List ℕ) → TookBut old mid waiting text → new ≡ appended mid waiting → new ≡ appended old text
 went_on old mid new waiting text h whole =
     whole ∙ ap (λ t. appended t waiting) h.grew ∙ appended-appended old h.front waiting ∙ ap (appended old) h.whole

@@ -16,7 +16,6 @@ use Rattle.berge_tree.proofs.Steps.{are_same, none_some}
 
 -- ---- if a column is in a class with another column, an equality names it
 
--- the column names its own class, and no other column is in it
 abbrev pub IsAlone : (Place → Place) → Place → Type 0
 IsAlone h u = (h u ≡ u) × ((p : Place) → p ≢ u → h p ≢ u)
 
@@ -35,7 +34,6 @@ merged_alone h l r u alone not_l not_r = (own, other)
       | inr n ↦ alone.1 p ne (sym (merged-no same_place h l r p n) ∙ is)
     ]
 
--- a column that is alone stays so, unless an equality names it
 pub named_or_alone : (es : List Edge) (h : Place → Place) (u : Place) → IsAlone h u → Contains (places_of es) u ⊎ IsAlone (classes_from h es) u
 named_or_alone [] h u alone = inr alone
 named_or_alone (e ∷ es) h u alone = elim (are_same u e.left) [
@@ -68,7 +66,6 @@ member_in (and_member entry column below rest) q k = elim (one_in (place entry c
 ]
 
 module _ (es : List Edge) where
-  -- each column of r's class is in an entry within the members, or in r's entry
   within_class : (r : Place) (ms : Members) → AreItsOthers es r ms → (q : Place) → class_of es r ≡ class_of es q → Contains (entries_within ms) q.entry ⊎ (q.entry ≡ r.entry)
   within_class r ms h q e = elim (are_same q r) [
     | inl is ↦ inr (ap (λ (u : Place). u.entry) is)
@@ -89,7 +86,6 @@ module _ (es : List Edge) where
     ]
   ]
 
-  -- if a column of entry z, other than its column above, is in a class with q', the entry of q' is below z or is z
   at_entry : (z : ℕ) (above : Option ℕ) (below : Classes) → AreItsColumns es z above (class_columns below) → FollowsBelow es z below → (q q' : Place) → q.entry ≡ z → class_of es q ≡ class_of es q'
       → above ≢ Some q.column → Contains (entries_below below) q'.entry ⊎ (q'.entry ≡ z)
   at_entry z above below columns f q q' q_at e off = elim (are_same q q') [

@@ -85,7 +85,6 @@ mapped : (f : Column → ℕ) (n : ℕ) (cs : List Column) → AllByRecursion (�
 mapped f n [] h = tt
 mapped f n (c ∷ cs) h = (h.0, mapped f n cs h.1)
 
--- later columns of one entry have greater numbers
 columns_increase : (y : ℕ) (cs : List Column) → Ascend cs → AllByRecursion (λ c. c.place.entry ≡ y) cs → IsStrictlyIncreasing (map (λ (c : Column). c.place.column) cs)
 columns_increase y [] h at = λ k l. absurd (omega (arith, l))
 columns_increase y (c ∷ cs) h at = rising c.place.column (map (λ (d : Column). d.place.column) cs) (mapped (λ d. d.place.column) c.place.column cs (greater cs h.0 at.1)) (columns_increase y cs h.1 at.1)
@@ -94,7 +93,6 @@ columns_increase y (c ∷ cs) h at = rising c.place.column (map (λ (d : Column)
     greater [] k m = tt
     greater (d ∷ ds) k m = (elim (before_cases c.place d.place k.0) [ inl less ↦ absurd (omega (arith, less, at.0, m.0)) | inr same ↦ same.1 ], greater ds k.1 m.1)
 
--- if no two columns are of one entry, later columns have greater entries
 entries_increase : (cs : List Column) → Ascend cs → ((c d : Column) → Contains cs c → Contains cs d → c.place.entry ≡ d.place.entry → c.place ≡ d.place) → IsStrictlyIncreasing (map (λ (c : Column). c.place.entry) cs)
 entries_increase [] h one = λ k l. absurd (omega (arith, l))
 entries_increase (c ∷ cs) h one =
@@ -303,7 +301,6 @@ not_in y [] h = tt
 not_in y (x ∷ xs) h = (λ is. h (in_front x xs y is), not_in y xs (λ k. h (in_rest x xs y k)))
 
 module _ (es : List Edge) (nc : HasNoCycle (class_of es)) (differ : Differ es) (columns : List Column) (are : AreColumnsOf es columns) (n : ℕ) (small : (p : Place) → Contains (places_of es) p → p.entry < n) where
-  -- one level of the walk: if the classes below each member follow the equalities, the classes below the entry do too
   level : (depth : ℕ) (y : ℕ) (above : Option ℕ)
       → ((c : Column) → Contains columns c → c.place.entry ≡ y → above ≢ Some c.place.column → (d : Column) → Contains columns d → class_of es c.place ≡ class_of es d.place → d.place ≢ c.place
       → AreItsColumns es d.place.entry (Some d.place.column) (class_columns (walked depth columns d.place.entry (Some d.place.column))) × FollowsBelow es d.place.entry (walked depth columns d.place.entry (Some d.place.column)))
@@ -338,7 +335,7 @@ module _ (es : List Edge) (nc : HasNoCycle (class_of es)) (differ : Differ es) (
   less_left : (k depth : ℕ) → n ≤ k + suc depth → n ≤ suc k + depth
   less_left k depth h = omega (arith, h)
 
-  -- the depth is enough, since the entries above are different
+  -- each step down the walk goes to an entry that isn't yet above, so `depth` is never used up
   pub walked_follows : (depth : ℕ) (P : List ℕ) (y : ℕ) (above : Option ℕ) → IsReached (class_of es) P y above → Distinct P → AllByRecursion (λ x. x < n) P → y < n → n ≤ length P + depth
       → AreItsColumns es y above (class_columns (walked depth columns y above)) × FollowsBelow es y (walked depth columns y above)
   walked_follows zero P y above reached d low y_low enough =

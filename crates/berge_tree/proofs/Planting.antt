@@ -1,4 +1,4 @@
--- The loop that makes the trees of a set, one after another.
+-- The loop makes the trees of a set, one after another. After its last step it has all trees of `forest`.
 use Rattle.std.proofs.Common.{◌≡◌, ℕ, suc, ◌+◌, Bool, true, false, eqb, List, [], ◌∷◌, ◌++◌, map, cond, refl, ap, sym, ◌∙◌, subst, inl, inr}
 use Rattle.std.specs.Prelude.{◌||◌}
 use Rattle.std.specs.Int.{bit_at}
@@ -40,7 +40,7 @@ stands_push (u ∷ ts) t x = ap (λ b. is_among (entries u) x || b) (stands_push
 
 -- ---- one step of the loop
 
--- the trees made so far, and the trees that are still to come, are together `whole`
+-- the trees that were made so far and the trees that are still to come are together `whole`
 pub record Planting (columns : List Column) (trees : List Tree) (rest : List ℕ) (whole : List BergeTree) : Type 0 where
   pub done : List ℕ
   pub same : (e : ℕ) → is_among done e ≡ stands_in trees e

@@ -75,7 +75,6 @@ module _ (es : List Edge) (nc : HasNoCycle (class_of es)) where
   others_rest : (r : Place) (entry column : ℕ) (below : Classes) (rest : Members) → AreOthers r (and_member entry column below rest) → AreOthers r rest
   others_rest r entry column below rest h q k = h q (in_rest (place entry column) (member_places rest) q k)
 
-  -- if an entry is reached, the entry of each member of a class below it is reached
   next : (P : List ℕ) (y : ℕ) (above : Option ℕ) → IsReached (class_of es) P y above → (r s : Place) → r.entry ≡ y → above ≢ Some r.column → (class_of es r ≡ class_of es s) × (s ≢ r)
       → IsReached (class_of es) (y ∷ P) s.entry (Some s.column)
   next P y above reached r s r_at r_off h = step (class_of es) nc P y above reached r s r_at r_off h.0 h.1
@@ -203,7 +202,6 @@ module _ (es : List Edge) (nc : HasNoCycle (class_of es)) where
         once_below [] t.root None (root_reached (class_of es) t.root) t.below (AllPairs-from_increasing (class_columns t.below) columns.ascending) off f,
       )
 
-  -- if the columns of each class are on one side, all entries of the tree are on one side
   pub one_side : (t : BergeTree) → AreItsColumns es t.root None (class_columns t.below) → FollowsBelow es t.root t.below
       → (side : ℕ → Bool) → ((u v : Place) → class_of es u ≡ class_of es v → side u.entry ≡ side v.entry) → AllByRecursion (λ e. side e ≡ side t.root) (entries t)
   one_side t columns f side const = (

@@ -1,4 +1,4 @@
--- The fold's result bounds the number of choices.
+-- The number that the fold computes for a tree is never below the number of choices.
 use Rattle.std.proofs.Common.{◌≡◌, ◌⊎◌, ℕ, ◌-◌, ◌^◌, ◌≤◌, List, [], length, refl, sym, subst}
 use Rattle.std.specs.Prelude.{Option, Some, None, IsSome, unwrap_or}
 use Rattle.std.specs.List.{AllByRecursion}
@@ -29,7 +29,6 @@ falls_there : (lists : EntryLists) (entry column : ℕ) (o : Option (List ℕ)) 
 falls_there lists entry column None e h = absurd (cc h)
 falls_there lists entry column (Some list) e h = (lists.sums entry column list e).0
 
--- a list that was added falls, and sums to the row bound of its entry
 pub has_list : (lists : EntryLists) (entry column : ℕ) → IsSome (list_of lists entry column) → HasList (bounds_of lists) entry column
 has_list lists entry column h = record { falls = falls_there lists entry column (list_of lists entry column) refl h; total = listed_total lists entry column h }
 

@@ -1,4 +1,4 @@
--- The bound of a set, tree by tree and turn by turn.
+-- The bound of a set is computed tree by tree and turn by turn. The lemmas are about the steps of both loops.
 use Rattle.std.proofs.Common.{◌≡◌, ◌⊎◌, ℕ, zero, suc, ◌+◌, ◌-◌, ◌*◌, ◌^◌, ◌<◌, ◌≤◌, min, List, [], ◌∷◌, ◌++◌, get_or, length, map, take, refl, ap, sym, ◌∙◌, subst, arith, add-one}
 use Rattle.std.specs.Prelude.{Result, Ok, Err, IfOk}
 use Rattle.std.specs.List.{AllByRecursion}
@@ -24,7 +24,6 @@ use Rattle.bound_fold.proofs.SetTrees.{set_has_lists, turn_listed}
 -- ---- the product over trees
 
 module _ (lists : EntryLists) where
-  -- each tree has its lists
   pub tree_listed : (trees : List Tree) (i : ℕ) (d : Tree) → AllByRecursion (IsListed lists) (map tree_of trees) → i < length trees → IsListed lists (tree_of (get_or trees i d))
   tree_listed [] i d h l = absurd (omega arith)
   tree_listed (tree ∷ trees) zero d h l = h.0

@@ -1,5 +1,5 @@
--- Tests of a set, entry by entry and equality by equality: what is true of each entry whose bit is set is true of the set's entries, and so for
--- equalities.
+-- The code tests each entry number and each equality of the query. The tests of the entries whose bits are set say what is true of the set's entries. The
+-- tests of the equalities within the set say what is true of the set's equalities.
 use Rattle.std.proofs.Common.{Bor, zero, ◌≡◌, ℕ, suc, ◌+◌, ◌<◌, Bool, true, false, eqb, ltb, List, [], ◌∷◌, get_or, length, refl, ap, ◌∙◌, sym, subst, arith, inl, inr}
 use Rattle.std.specs.Prelude.{Option, Some, None, IsSome, IsTrue, MatchBool, ◌↔◌, is_some}
 use Rattle.std.specs.Option.{option_copied}
@@ -32,7 +32,6 @@ module _ (P : ℕ → Type 0) (subset : ℕ) where
       at : (k : ℕ) → (k < 16) × (bit_at subset k ≡ 1) → P k
       at k bits = h k bits.0 (has_it k bits.0 bits.1)
 
--- if P is true of the first i equalities and of equality i, P is true of the first i + 1
 pub edge_more : (P : Edge → Type 0) (es : List Edge) (i : ℕ) (e : Edge) → ((k : ℕ) (d : Edge) → k < i → P (get_or es k d)) → P (get_or es i e) → i < length es
     → (k : ℕ) (d : Edge) → k < i + 1 → P (get_or es k d)
 edge_more P es i e before here inside k d h = elim (cases_lt k i) [
@@ -40,7 +39,6 @@ edge_more P es i e before here inside k d h = elim (cases_lt k i) [
   | inr top ↦ (let same : k ≡ i = omega arith in subst P (get_or_default es i e d inside ∙ ap (λ j. get_or es j d) (sym same)) here)
 ]
 
--- if an equality is within the set, Q is true of both its columns
 abbrev pub AtBoth : (ℕ → ℕ → Type 0) → ℕ → Edge → Type 0
 AtBoth Q subset e = joins_within subset e ≡ true → Q e.left.entry e.left.column × Q e.right.entry e.right.column
 
@@ -54,7 +52,6 @@ each_named Q subset (e ∷ es) h =
       | inr apart ↦ rw apart later
     ]
 
--- if Q is true of every column that the set's equalities name, Q is true of both columns of each equality within the set
 pub named_at : (Q : ℕ → ℕ → Type 0) (subset : ℕ) (es : List Edge) → EachNamedColumn Q (equalities_within subset es) → (k : ℕ) (d : Edge) → k < length es → AtBoth Q subset (get_or es k d)
 named_at Q subset [] h k d low joins = absurd (omega arith)
 named_at Q subset (e ∷ es) h zero d low joins =
@@ -75,7 +72,6 @@ named_at Q subset (e ∷ es) h (suc k) d low joins = named_at Q subset es (later
     later true is = let named : EachNamedColumn Q (e ∷ equalities_within subset es) = subst (EachNamedColumn Q) (kept is) h in named.1.1
     later false is = subst (EachNamedColumn Q) (passed is) h
 
--- if P is true of all entries of the set, P is true of each entry whose bit is set
 pub entry_at : (P : ℕ → Type 0) (subset : ℕ) → AllByRecursion P (entries_of_set subset) → (k : ℕ) → has_entry subset k ≡ true → P k
 entry_at P subset h k has =
     let bits : (ltb k 16 ≡ true) × (eqb (bit_at subset k) 1 ≡ true) = and_parts (ltb k 16) (eqb (bit_at subset k) 1) has in

@@ -47,7 +47,7 @@ weighs_most most bounds (node left right) high =
       ]
     ]
 
--- if no inner node has a bound above the greatest budget, 2^59, the bounds sum to at most 2^59 for each inner node
+-- 2^59 is the greatest budget. A tree over 12 entries has 11 inner nodes, so the sum of its bounds fits into 64 bits
 pub sum_small : (bounds : List ℕ) (tree : PlanTree) → inner_greatest bounds tree ≤ 2 ^ 59 → inner_sum bounds tree ≤ inner_count tree * 2 ^ 59
 sum_small bounds (leaf entry) low = omega arith
 sum_small bounds (node left right) low = omega (arith, sum_small bounds left (omega arith), sum_small bounds right (omega arith))

@@ -1,4 +1,4 @@
--- The least weight of a tree over a set, from the least weights over the set's parts.
+-- The least weight of a tree over a set follows from the least weights over the set's parts.
 use Rattle.std.proofs.Common.{◌≡◌, ℕ, ◌+◌, ◌-◌, ◌^◌, ◌<◌, ◌≤◌, min, List, get_or, refl, ap, sym, ◌∙◌, subst, arith, inl, inr}
 use Rattle.std.specs.Prelude.{◌⊎◌, bit_and}
 use Rattle.std.proofs.lemmas.Bool.{cases_lt, cases_order, le-leb, lt-leb}
@@ -55,7 +55,6 @@ tried_more w bounds table set behind right least through tried some is fits = re
   ];
 }
 
--- over a set of one entry, the lightest tree is a leaf, of weight 0
 pub least_of_one : (w : Weight) (bounds : List ℕ) (set first : ℕ) → IsFirstEntry set first → set - 2 ^ first ≡ 0 → IsLeastWeight w bounds set 0
 least_of_one w bounds set first is_first none = record {
   tree = leaf first;
@@ -64,7 +63,7 @@ least_of_one w bounds set first is_first none = record {
   none_lighter = λ other is_tree. omega arith;
 }
 
--- a lightest tree with this right set, by the table
+-- the tree over `set` weighs what the table gives for this right set
 pub record Through (w : Weight) (bounds table : List ℕ) (set right : ℕ) : Type 0 where
   pub tree : PlanTree
   pub is_tree : IsTreeOver set tree
@@ -88,7 +87,6 @@ tree_through w bounds table set right split left_side right_side =
           ∙ ap (λ k. combined w (get_or bounds set 0) (get_or table (set - right) 0) k) right_side.weighs;
     }
 
--- a tree weighs at least what the table says for the tree's right set
 pub through_is_least : (w : Weight) (bounds table : List ℕ) (set end : ℕ) (left right : PlanTree) → set ≤ end → IsTable w bounds table end → IsTreeOver set (node left right)
     → weight_through w bounds table set (leaf_set right) ≤ weight_of w bounds (node left right)
 through_is_least w bounds table set end left right h is_table is_tree =
@@ -105,7 +103,6 @@ through_is_least w bounds table set end left right h is_table is_tree =
       ap (λ k. combined w (get_or bounds k 0) (weight_of w bounds left) (weight_of w bounds right)) whole,
     )
 
--- the table has the least weights of both sides of a split
 pub left_in_table : (w : Weight) (bounds table : List ℕ) (set end right : ℕ) → set ≤ end → IsTable w bounds table end → IsSplit set (set - right) right
     → IsLeastWeight w bounds (set - right) (get_or table (set - right) 0)
 left_in_table w bounds table set end right h is_table split =

@@ -96,11 +96,11 @@ behind_theirs bounds n set next (node left right) fits h is_tree =
 abbrev times : ℕ → List ℕ → ℕ
 times k xs = count_by (λ other. eqb other k) xs
 
--- 1 if the numbers are equal, otherwise 0
+-- this is 1 if the numbers are equal, otherwise 0
 abbrev one : ℕ → ℕ → ℕ
 one a b = cond (eqb a b) 1 0
 
--- 1 if first <= k < first + count, otherwise 0
+-- this is 1 if first <= k < first + count, otherwise 0
 abbrev inside : ℕ → ℕ → ℕ → ℕ
 inside first count k = cond (leb first k) (cond (ltb k (first + count)) 1 0) 0
 

@@ -1,4 +1,4 @@
--- A test, by computation, that one tree is no worse than another. With it the small examples of best trees are proved.
+-- A test computes whether one tree is no worse than another. With it the small examples of best trees are proved.
 use Rattle.std.proofs.Common.{◌≡◌, ℕ, ◌<◌, Bool, true, false, eqb, cond, List, refl, subst, eq-eqb, arith, inl, inr}
 use Rattle.std.specs.Prelude.{◌⊎◌}
 use Rattle.order_search.proofs.Tested.{both_true, first_test, first_told}
@@ -18,7 +18,7 @@ same_itself : (tree : PlanTree) → same_tree tree tree ≡ true
 same_itself (leaf entry) = eq-eqb entry entry refl
 same_itself (node left right) = rw (same_itself left) (same_itself right)
 
--- false if the first tree comes before the second
+-- this is false if the first tree comes before the second
 abbrev pub not_before : PlanTree → PlanTree → Bool
 not_before (leaf a) other = true
 not_before (node left right) (leaf b) = true

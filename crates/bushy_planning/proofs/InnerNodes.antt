@@ -1,4 +1,4 @@
--- The inner nodes of a best tree's plan: each has an order of a set of entries, and the bound of that set.
+-- Each inner node of a best tree's plan has an order of a set of entries, and the bound of that set.
 use Rattle.std.proofs.Common.{◌≡◌, ℕ, zero, suc, ◌+◌, ◌-◌, ◌^◌, ◌<◌, eqb, List, [], ◌∷◌, length, map, get_or, ap, sym, ◌∙◌, subst, arith}
 use Rattle.std.specs.List.{AllByRecursion, IsDistinct}
 use Rattle.std.proofs.lemmas.List.{get_or-append-add, get_or-map, length-map}

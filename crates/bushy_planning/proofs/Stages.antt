@@ -1,4 +1,4 @@
--- What is true of the chosen tree, over lists of rows.
+-- The tree that was chosen over lists of rows is a plan, and no bound of this plan is too low.
 use Rattle.std.proofs.Common.{◌≡◌, ◌⊎◌, inl, inr, ℕ, suc, ◌<◌, ◌≤◌, List, [], ◌∷◌, length, get_or, Ok, Err, Result, ap, sym, ◌∙◌, subst, arith}
 use Rattle.std.specs.Prelude.{IfOk}
 use Rattle.std.specs.List.{AllByRecursion}

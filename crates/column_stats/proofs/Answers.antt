@@ -1,4 +1,4 @@
--- Which lists statistics give, and what these lists dominate.
+-- These lemmas say which lists the statistics give for values and ranges, and which keys these lists dominate.
 use Rattle.std.proofs.Common.{◌≡◌, ℕ, ◌<◌, ◌≤◌, Bool, eqb, leb, List, [], ◌∷◌, length, Option, None, Some, refl, ap, sym, subst, arith, inl, inr}
 use Rattle.std.specs.Prelude.{◌&&◌, IfSome, unwrap_or}
 use Rattle.std.specs.List.{IsDistinct}
@@ -20,7 +20,6 @@ use Rattle.column_stats.specs.Stats.{AreOfNone, AreOfSome, IsValid, leaf_by_cuts
 use Rattle.column_stats.proofs.FrequentLists.{IsDistinct-frequent, value_is, values-of_lists}
 use Rattle.column_stats.proofs.NodeLists.{node_is, node_size-is, nodes_many}
 
--- each leaf is below 32
 pub leaf_below : (texts : List (List ℕ)) (stats : ColumnStats) (value : Value) → IsValid stats → leaf_by_cuts texts stats value < 32
 leaf_below texts stats value valid =
     let few : length stats.cuts ≤ 32 = elim valid.parts [ inl none ↦ omega (arith, ap (λ (s : List ℕ). length s) none.cuts_are) | inr some ↦ omega (arith, some.cuts_many) ] in
@@ -30,7 +29,7 @@ module _ (texts : List (List ℕ)) (kind : Kind) (k : ℕ) where
   abbrev at_most : ℕ → ℕ → Bool
   at_most = cell_le texts kind
 
-  -- the parts of statistics of no rows, and the parts of statistics of one or more rows
+  -- `of_none` is about statistics of no rows, and `of_some` about statistics of one or more rows
   of_none : AreOfNone (stats_of texts kind k [])
   unfolding rest cuts
   of_none = record { no_rows = refl; whole_is = refl; rest_is = refl; frequent_are = λ i x h. absurd (omega arith); cuts_are = refl; nodes_are = refl }

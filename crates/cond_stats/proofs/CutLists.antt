@@ -1,4 +1,5 @@
--- A falling list cut at a number, element by element; and a list raised to another, rank by rank.
+-- The code cuts a falling list at a number (`cut_at`) element by element, and raises a list to another (`rank_maximum`) rank by rank. The lemmas are about
+-- the steps of both loops.
 use Rattle.std.proofs.Common.{◌≡◌, ℕ, zero, suc, ◌+◌, ◌-◌, ◌<◌, ◌≤◌, max, min, List, [], ◌∷◌, ◌++◌, length, get_or, set, take, length-take, refl, ap, sym, ◌∙◌, arith, inl, inr}
 use Rattle.std.specs.List.{AllByRecursion}
 use Rattle.std.proofs.lemmas.Bool.{cases_lt}
@@ -57,7 +58,6 @@ cut_one_more falling most i left taken list to is some =
       left_over = omega (arith, last, to.left_over, is);
     }
 
--- if nothing more can be taken, the list is the whole cut list
 pub cut_whole : (falling : List ℕ) (most i left : ℕ) (list : List ℕ) → IsFalling falling → IsCutTo falling most i left list → min left (get_or falling i 0) ≡ 0
     → list ≡ cut_at falling most
 cut_whole falling most i left list falls to nothing =
@@ -97,20 +97,17 @@ length-rank_maximum [] t = omega arith
 length-rank_maximum (x ∷ s) [] = omega arith
 length-rank_maximum (x ∷ s) (y ∷ t) = omega (arith, length-rank_maximum s t)
 
--- one more rank, if the list has an element there
 pub raised_within : (s t : List ℕ) (d : ℕ) → length t < length s
     → rank_maximum s (t ++ d ∷ []) ≡ set (rank_maximum s t) (length t) (max (get_or (rank_maximum s t) (length t) 0) d)
 raised_within [] t d within = absurd (omega arith)
 raised_within (x ∷ s) [] d within = ap (λ u. max x d ∷ u) (rank_maximum-nil s)
 raised_within (x ∷ s) (y ∷ t) d within = ap (λ u. max x y ∷ u) (raised_within s t d (omega arith))
 
--- one more rank, past the end of the list
 pub raised_past : (s t : List ℕ) (d : ℕ) → length s ≤ length t → rank_maximum s (t ++ d ∷ []) ≡ rank_maximum s t ++ d ∷ []
 raised_past [] t d past = refl
 raised_past (x ∷ s) [] d past = absurd (omega arith)
 raised_past (x ∷ s) (y ∷ t) d past = ap (λ u. max x y ∷ u) (raised_past s t d (omega arith))
 
--- one step of the loop over the ranks
 pub raised_more : (s t list next : List ℕ) (i : ℕ) → i < length t → list ≡ rank_maximum s (take i t)
     → (i < length list → next ≡ set list i (max (get_or list i 0) (get_or t i 0))) → (length list ≤ i → next ≡ list ++ get_or t i 0 ∷ [])
     → next ≡ rank_maximum s (take (i + 1) t)

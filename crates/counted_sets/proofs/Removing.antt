@@ -1,4 +1,4 @@
--- Removing items: the counts of uses that give a slot stay right, and no consistent set loses an item.
+-- Items are removed one by one. The counts of uses that give a slot stay right, and no consistent set loses an item.
 use Rattle.std.proofs.Common.{◌≡◌, ℕ, zero, suc, ◌+◌, ◌-◌, ◌<◌, ◌≤◌, Bool, true, false, List, [], ◌∷◌, ◌++◌, length, get_or, set, refl, ap, sym, ◌∙◌, subst, arith, inl, inr}
 use Rattle.std.specs.Prelude.{◌⊎◌, ◌==◌, replicate}
 use Rattle.std.specs.List.{Contains}
@@ -35,7 +35,6 @@ taken_none uses item keys at lasts befores before chains low is =
       taken = λ slot h. ap (λ n. get_or before slot 0 + n) (supply_last uses slot item (length uses) ∙ ap (supply (λ i. i == item) uses slot) last);
     }
 
--- a use of `item` that gives `slot` adds 1 to the item's supply of `slot`
 first_left : (uses : List Use) (item slot place : ℕ) → item_at uses place ≡ item → (use_at uses place).gives ≡ slot → supply (λ i. i == item) uses slot (suc place) ≡ 1 + supply (λ i. i == item) uses slot place
 first_left uses item slot place here gives = supply_one (λ i. i == item) uses slot place (eq-eqb (item_at uses place) item here) gives
 
@@ -73,7 +72,7 @@ taken_one uses item (suc place) slot next keys lasts befores before counts chain
           ]);
     }
 
--- each link of a chain leads to a lower place
+-- each link leads to a lower place, so a walk along a chain ends
 pub back_before : (key_of : ℕ → ℕ) (at places next keys : ℕ) (lasts befores : List ℕ) → AreUseChains key_of keys places lasts befores → 0 < at → at ≤ places → next ≡ get_or befores (at - 1) 0 → next < at
 back_before key_of zero places next keys lasts befores chains some within link = absurd (omega arith)
 back_before key_of (suc place) places next keys lasts befores chains some within link =
@@ -99,7 +98,6 @@ removed items slots uses marks counts new_counts work new_work item counted h st
   listed = listed;
 }
 
--- clearing the mark of an item that has no mark changes nothing
 pub not_marked : (marks : List Bool) (item : ℕ) → marked marks item ≡ false → set marks item false ≡ marks
 not_marked marks item gone = ap (set marks item) (sym gone) ∙ set-get_or marks item false
 
@@ -199,7 +197,6 @@ length-all_marked : (n : ℕ) → length (replicate n true) ≡ n
 length-all_marked zero = refl
 length-all_marked (suc n) = ap suc (length-all_marked n)
 
--- if every item is marked, all uses count for the supply
 supply-all : (items n : ℕ) (uses : List Use) (slot : ℕ) → ((k : ℕ) → k < n → item_at uses k < items) → supply (marked (replicate items true)) uses slot n ≡ supply (λ item. true) uses slot n
 supply-all items zero uses slot within = refl
 supply-all items (suc n) uses slot within = rw (all_marked items (item_at uses n) (within n (omega arith)), supply-all items n uses slot (λ k h. within k (omega arith))) refl

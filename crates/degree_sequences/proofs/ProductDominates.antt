@@ -16,17 +16,15 @@ use Rattle.degree_sequences.specs.Domination.{DominatesWeights}
 use Rattle.degree_sequences.specs.Falling.{IsFalling}
 use Rattle.degree_sequences.specs.RunningSums.{running_sum}
 
--- puts a key into keys that are ordered by falling weight
 abbrev pub put_by : (ℕ → ℕ) → ℕ → List ℕ → List ℕ
 put_by w a [] = a ∷ []
 put_by w a (b ∷ bs) = cond (leb (w b) (w a)) (a ∷ (b ∷ bs)) (b ∷ put_by w a bs)
 
--- orders keys by falling weight
+-- `by_weight` puts keys in the order of falling weight
 abbrev pub by_weight : (ℕ → ℕ) → List ℕ → List ℕ
 by_weight w [] = []
 by_weight w (a ∷ A) = put_by w a (by_weight w A)
 
--- putting a key into the keys puts its weight into their weights
 pub map-put_by : (w : ℕ → ℕ) (a : ℕ) (bs : List ℕ) → map w (put_by w a bs) ≡ put_in (w a) (map w bs)
 map-put_by w a [] = refl
 map-put_by w a (b ∷ bs) =
@@ -35,48 +33,40 @@ map-put_by w a (b ∷ bs) =
       | false ↦ ap (λ (s : List ℕ). w b ∷ s) (map-put_by w a bs)
     ]
 
--- the weights of the ordered keys are in falling order
 pub map-by_weight : (w : ℕ → ℕ) (A : List ℕ) → map w (by_weight w A) ≡ in_falling_order (map w A)
 map-by_weight w [] = refl
 map-by_weight w (a ∷ A) = map-put_by w a (by_weight w A) ∙ ap (put_in (w a)) (map-by_weight w A)
 
--- putting a key in adds its value to each sum
 pub sum_by-put_by : (w f : ℕ → ℕ) (a : ℕ) (bs : List ℕ) → sum_by f (put_by w a bs) ≡ f a + sum_by f bs
 sum_by-put_by w f a [] = omega arith
 sum_by-put_by w f a (b ∷ bs) = cond_both (leb (w b) (w a)) (a ∷ (b ∷ bs)) (b ∷ put_by w a bs) (λ s. sum_by f s ≡ f a + sum_by f (b ∷ bs))
     (λ e. sum_by-cons f a (b ∷ bs))
     (λ e. omega (arith, sum_by-cons f b (put_by w a bs), sum_by-cons f b bs, sum_by-put_by w f a bs))
 
--- ordering the keys changes no sum
 pub sum_by-by_weight : (w f : ℕ → ℕ) (A : List ℕ) → sum_by f (by_weight w A) ≡ sum_by f A
 sum_by-by_weight w f [] = refl
 sum_by-by_weight w f (a ∷ A) = omega (arith, sum_by-put_by w f a (by_weight w A), sum_by-cons f a A, sum_by-by_weight w f A)
 
--- putting a key in makes the list longer by one
 pub length-put_by : (w : ℕ → ℕ) (a : ℕ) (bs : List ℕ) → length (put_by w a bs) ≡ suc (length bs)
 length-put_by w a [] = refl
 length-put_by w a (b ∷ bs) = cond_both (leb (w b) (w a)) (a ∷ (b ∷ bs)) (b ∷ put_by w a bs) (λ s. length s ≡ suc (suc (length bs)))
     (λ e. refl)
     (λ e. ap suc (length-put_by w a bs))
 
--- ordering the keys keeps their number
 pub length-by_weight : (w : ℕ → ℕ) (A : List ℕ) → length (by_weight w A) ≡ length A
 length-by_weight w [] = refl
 length-by_weight w (a ∷ A) = length-put_by w a (by_weight w A) ∙ ap suc (length-by_weight w A)
 
--- if Q holds for a key and for other keys, it holds for all of them after the key is put in
 pub All-put_by : (Q : ℕ → Type 0) (w : ℕ → ℕ) (a : ℕ) (bs : List ℕ) → Q a → AllByRecursion Q bs → AllByRecursion Q (put_by w a bs)
 All-put_by Q w a [] q h = (q, tt)
 All-put_by Q w a (b ∷ bs) q h = cond_both (leb (w b) (w a)) (a ∷ (b ∷ bs)) (b ∷ put_by w a bs) (AllByRecursion Q)
     (λ e. (q, h))
     (λ e. (h.0, All-put_by Q w a bs q h.1))
 
--- if Q holds for all keys, it holds for the ordered keys
 pub All-by_weight : (Q : ℕ → Type 0) (w : ℕ → ℕ) (A : List ℕ) → AllByRecursion Q A → AllByRecursion Q (by_weight w A)
 All-by_weight Q w [] h = tt
 All-by_weight Q w (a ∷ A) h = All-put_by Q w a (by_weight w A) h.0 (All-by_weight Q w A h.1)
 
--- putting a new key into different keys leaves them different
 pub IsDistinct-put_by : (w : ℕ → ℕ) (a : ℕ) (bs : List ℕ) → AllByRecursion (λ y. eqb a y ≡ false) bs → IsDistinct eqb bs → IsDistinct eqb (put_by w a bs)
 IsDistinct-put_by w a [] new apart = IsDistinct-cons eqb a [] tt apart
 IsDistinct-put_by w a (b ∷ bs) new apart = cond_both (leb (w b) (w a)) (a ∷ (b ∷ bs)) (b ∷ put_by w a bs) (IsDistinct eqb)
@@ -85,43 +75,36 @@ IsDistinct-put_by w a (b ∷ bs) new apart = cond_both (leb (w b) (w a)) (a ∷ 
     (All-put_by (λ y. eqb b y ≡ false) w a bs (ne_eqb b a (λ same. eqb-false a b new.0 (sym same))) (IsDistinct-head eqb b bs apart))
     (IsDistinct-put_by w a bs new.1 (IsDistinct-tail eqb b bs apart)))
 
--- ordering leaves different keys different
 pub IsDistinct-by_weight : (w : ℕ → ℕ) (A : List ℕ) → IsDistinct eqb A → IsDistinct eqb (by_weight w A)
 IsDistinct-by_weight w [] apart = apart
 IsDistinct-by_weight w (a ∷ A) apart = IsDistinct-put_by w a (by_weight w A)
     (All-by_weight (λ y. eqb a y ≡ false) w A (IsDistinct-head eqb a A apart))
     (IsDistinct-by_weight w A (IsDistinct-tail eqb a A apart))
 
--- if Q holds for all keys, it holds for the first r
 pub All-first : (Q : ℕ → Type 0) (r : ℕ) (A : List ℕ) → AllByRecursion Q A → AllByRecursion Q (take r A)
 All-first Q zero A h = tt
 All-first Q (suc r) [] h = tt
 All-first Q (suc r) (a ∷ A) h = (h.0, All-first Q r A h.1)
 
--- the first r of different keys are different
 pub IsDistinct-first : (r : ℕ) (A : List ℕ) → IsDistinct eqb A → IsDistinct eqb (take r A)
 IsDistinct-first zero A apart = IsDistinct-nil
 IsDistinct-first (suc r) [] apart = apart
 IsDistinct-first (suc r) (a ∷ A) apart = IsDistinct-cons eqb a (take r A)
     (All-first (λ y. eqb a y ≡ false) r A (IsDistinct-head eqb a A apart)) (IsDistinct-first r A (IsDistinct-tail eqb a A apart))
 
--- the running sum of weights at r is the sum of the weights of the first r keys
 pub running_sum-map : (w : ℕ → ℕ) (A : List ℕ) (r : ℕ) → running_sum (map w A) r ≡ sum_by w (take r A)
 running_sum-map w A zero = refl
 running_sum-map w [] (suc r) = refl
 running_sum-map w (a ∷ A) (suc r) = omega (arith, running_sum-map w A r, sum_by-cons w a (take r A))
 
--- the first r keys weigh at most as much as the first r elements of a list that dominates the weights
 pub first-le : (s : List ℕ) (w : ℕ → ℕ) → DominatesWeights s w → (A : List ℕ) → IsDistinct eqb A → (r : ℕ) → running_sum (map w A) r ≤ running_sum s r
 first-le s w dom A apart r =
     omega (arith, running_sum-map w A r, dom (take r A) (IsDistinct-first r A apart), running_sum-mono s (length (take r A)) r (omega (arith, length-take r A)))
 
--- a sum of products of two weights over keys is a sum over the keys' indexes
 pub sum_by-product : (v w : ℕ → ℕ) (A : List ℕ) → sum_by (λ a. v a * w a) A ≡ sum_below (λ r. get_or (map v A) r 0 * get_or (map w A) r 0) (length A)
 sum_by-product v w [] = refl
 sum_by-product v w (a ∷ A) = omega (arith, sum_by-product v w A, sum_by-cons (λ a. v a * w a) a A)
 
--- the product of lists that dominate weights dominates the product of the weights
 pub rank_product_dominates : (s t : List ℕ) (v w : ℕ → ℕ) → IsFalling t → DominatesWeights s v → DominatesWeights t w
     → DominatesWeights (rank_product s t) (λ a. v a * w a)
 rank_product_dominates s t v w fall dom_v dom_w A apart =

@@ -33,7 +33,6 @@ abbrev pub AreRecords : List (List (List ℕ)) → Type 0
 AreRecords [] = Unit {0}
 AreRecords (r ∷ rs) = IsRecord r × AreRecords rs
 
--- in state s, each byte of 48 or more is copied into the field
 abbrev Copies : State → Type 0
 Copies s = (b : ℕ) → 48 ≤ b → step default_config s b ≡ (st.InField, act.Copy)
 

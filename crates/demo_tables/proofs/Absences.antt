@@ -33,7 +33,6 @@ use Rattle.demo_tables.proofs.SchemaRead.{schema_read}
 pub ok_misses : {A : Type 0} (x : A) → MissesNothing (Ok x)
 ok_misses x id e = cc
 
--- if the first step misses nothing, and the second misses nothing after any value of the first, both together miss nothing
 pub then_misses : {A B : Type 0} (r : Result A Refusal) (f : A → Result B Refusal) → MissesNothing r
     → ((x : A) → r ≡ Ok x → MissesNothing (f x)) → MissesNothing (r >>= f)
 then_misses (Ok x) f first next = next x refl

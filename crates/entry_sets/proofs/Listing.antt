@@ -1,4 +1,4 @@
--- The list of a set's entries, from a given entry on.
+-- The list of a set's entries from a given entry on ascends, and it has exactly the entries whose bits are 1.
 use Rattle.std.proofs.Common.{◌≡◌, ℕ, zero, suc, ◌+◌, ◌-◌, ◌^◌, ◌<◌, ◌≤◌, Bool, true, false, eqb, ltb, List, [], ◌∷◌, refl, ap, sym, ◌∙◌, subst, arith, inl, inr}
 use Rattle.std.specs.Prelude.{filter, ◌&&◌, ◌⊎◌, Some}
 use Rattle.std.specs.Iterator.{MakesProgress, item_count}
@@ -120,7 +120,6 @@ set_entries set x k = bit_has set x (set_bits set x k)
 pub set_entries_only : (set x : ℕ) → has_entry set x ≡ true → Contains (entries_of_set set) x
 set_entries_only set x h = set_bits_only set x (has_bit set x h)
 
--- if the number of a set is below 2^n, each entry of the set is below n
 pub entry_below : (n subset entry : ℕ) → subset < 2 ^ n → has_entry subset entry ≡ true → entry < n
 entry_below n subset entry fits has =
     let bit : (entry < 16) × (bit_at subset entry ≡ 1) = has_bit subset entry has in
@@ -145,7 +144,6 @@ step_over set i low out =
     let more : 16 - i ≡ suc (16 - (i + 1)) = omega arith in
     ap (entries_from set i) more ∙ from_skip set i (16 - (i + 1)) (not_there (ltb i 16) (eqb (bit_at set i) 1) (lt-ltb i 16 low) out)
 
--- an iterator that gives the first item of a list makes progress: it leaves fewer items
 pub goes_on : (can : List ℕ → Type 0) → ((xs : List ℕ) → can xs) → (xs rest : List ℕ) (i : ℕ) → xs ≡ i ∷ rest → MakesProgress can (item_count (λ (left : List ℕ). left)) xs (Some i) rest
 goes_on can may xs rest i is = rw is (record { on = λ _. (may rest, tt, omega arith); keeps = may rest; rests = λ _. tt })
 

@@ -1,4 +1,4 @@
--- The running sums and the sum of a filtered list, from those of its lists.
+-- A filtered list is made of other lists. Its running sums and its sum are computed from the running sums and the sums of these lists.
 use Rattle.std.proofs.Common.{◌≡◌, ℕ, ◌+◌, ◌<◌, ◌≤◌, min, List, [], length, refl, ◌∙◌, arith}
 use Rattle.std.specs.List.{All, sum}
 use Rattle.degree_sequences.proofs.ByRank.{running_sum-rank_sum, IsFalling-rank_sum, sum-rank_sum}
@@ -15,7 +15,6 @@ use Rattle.filtered_lists.proofs.Related.{filtered_related}
 
 -- ---- the running sums of a filtered list
 
--- the running sums of all lists at rank r, as numbers of rows
 abbrev pub running_sums : ColumnLists → ℕ → RowCounts
 running_sums lists r = record {
   whole = running_sum lists.whole r;
@@ -23,7 +22,6 @@ running_sums lists r = record {
   range = λ range. running_sum (lists.range range) r;
 }
 
--- the running sum of the filtered list at rank r is the row bound that these running sums give
 pub running_sum-filtered : (lists : ColumnLists) (r entry : ℕ) (conjuncts : List Cond)
     → running_sum (filtered_list lists entry conjuncts) r ≡ row_bound (running_sums lists r) entry conjuncts
 running_sum-filtered lists r =
@@ -38,7 +36,7 @@ running_sum-filtered lists r =
 
 -- ---- the sum of a filtered list
 
--- a rank beyond the ends of three lists
+-- at this rank each of the three running sums has reached the sum of its list
 past : (s t u : List ℕ) → ℕ
 past s t u = length s + length t + length u
 
@@ -62,7 +60,6 @@ sum-filtered lists counts entry conjuncts h =
 
 -- ---- falling lists
 
--- if the lists fall, the filtered list falls
 pub filtered_falls : (lists : ColumnLists) (entry : ℕ) (conjuncts : List Cond) → ListsFall lists → IsFalling (filtered_list lists entry conjuncts)
 filtered_falls lists entry conjuncts h =
     filtered_related (List ℕ) (List ℕ) (λ s t. IsFalling s) (list_answers lists) (list_answers lists) (record {

@@ -1,4 +1,4 @@
--- Comparisons of two values, and values at the ends of ranges.
+-- These are laws about comparing two values, and about values at the ends of ranges.
 use Rattle.std.proofs.Common.{◌≡◌, Bool, true, false, List, [], ◌∷◌, Option, None, Some, refl, ap, sym, ◌∙◌, cond}
 use Rattle.std.specs.List.{AllByRecursion}
 use Rattle.std.specs.Ordering.{is_lt, is_le, is_gt, is_ge, ordering_reverse}
@@ -67,7 +67,6 @@ turned_compares o a b = reversed_compares o (value_cmp b a) ∙ ap (compares o) 
 
 -- ---- the greatest low end and the least high end of ranges
 
--- a value that is at least each of two low ends is at least the greater of them
 from_greater : (value low : Value) (other : Option Value) → is_from (Some low) value ≡ true → is_from other value ≡ true → is_from (Some (greater_of low other)) value ≡ true
 from_greater value low None h k = h
 from_greater value low (Some other) h k = either_end (is_lt (value_cmp low other))

@@ -26,7 +26,7 @@ use Rattle.filtered_lists.specs.Ranges.{Range, from_value, up_to_value, ranges_o
 use Rattle.filtered_lists.specs.Standing.{value_in_row, is_from, is_up_to, has_value, is_in_range}
 use Rattle.filtered_lists.proofs.Ordered.{opposite_compares, turned_compares, from_greatest, up_to_least}
 
--- answers that are tests of an entry's rows
+-- the answers to comparisons are tests of an entry's rows
 abbrev pub row_tests : Tables → ℕ → ComparisonAnswers (ℕ → Bool)
 row_tests tables entry = record {
   whole = λ row. true;
@@ -59,7 +59,6 @@ module _ (tables : Tables) (entry row : ℕ) where
   abbrev Holds : (ℕ → Bool) → Type 0
   Holds test = test row ≡ true
 
-  -- the row is in each range, and passes each other test
   pub record Passes (c : Conjunction (ℕ → Bool)) : Type 0 where
     pub ranges : AllByRecursion IsIn c.ranges
     pub others : AllByRecursion Holds c.others
@@ -140,7 +139,6 @@ module _ (tables : Tables) (entry row : ℕ) where
   all_pass [] h = refl
   all_pass (t ∷ ts) h = and_more_passes t ts h.0 h.1
 
-  -- a row that passes a test passes the test's OR with further tests
   still_passes : (t : ℕ → Bool) (ts : List (ℕ → Bool)) → t row ≡ true → or_more tests t ts row ≡ true
   still_passes t [] h = h
   still_passes t (u ∷ ts) h = still_passes (λ row. t row || u row) ts (or_left (t row) (u row) h)
@@ -187,7 +185,6 @@ module _ (tables : Tables) (entry row : ℕ) where
   comparison_passes op.Gt column literal h = passes_range (from_value column literal) (gt_ge (value_cmp (value column) literal) h)
   comparison_passes op.Ge column literal h = passes_range (from_value column literal) (ge_ge (value_cmp (value column) literal) h)
 
-  -- the value of an operand's column, if the column is a column of this entry
   column_is : (column : ColumnRef) → column.from ≡ entry → column_value tables (λ e. row) column ≡ value column.column
   column_is column same = ap (λ (from : ℕ). column_value tables (λ e. row) (record { from = from; column = column.column })) same
 
@@ -219,7 +216,7 @@ module _ (tables : Tables) (entry row : ℕ) where
   abbrev says : Cond → Bool
   says c = cond_holds tables (λ e. row) c
 
-  -- if the condition names this entry alone, the row passes the tests made of the condition, or of its opposite if the condition doesn't hold
+  -- the induction over conditions proves this: the row passes the tests that are made of the condition, or of its opposite if the condition doesn't hold
   abbrev Says : Cond → Type 0
   Says c = AllByRecursion (λ e. e ≡ entry) (entries_named c) → (holds : Bool) → says c ≡ holds → Passes (conjunction_of tests c holds)
 

@@ -13,7 +13,7 @@ use Rattle.filtered_lists.specs.Comparisons.{Comparison, comparison_of, opposite
 use Rattle.filtered_lists.specs.Filters.{ComparisonAnswers, Conjunction, of_answer, one_conjunction, and_more, all_of, or_more, and_answer, or_answer, of_comparison, of_comparison_or_whole, conjunction_step, conjunction_of, own_conjuncts, filtered}
 use Rattle.filtered_lists.specs.Ranges.{Range, from_value, up_to_value, intersection_for_each_column}
 
--- the answers to each comparison are related, and related answers stay related when they are joined
+-- the answers to each comparison are related, and joining related answers gives related answers
 pub record AreRelated (A B : Type 0) (R : A → B → Type 0) (a : ComparisonAnswers A) (b : ComparisonAnswers B) : Type 0 where
   pub whole : R a.whole b.whole
   pub equal : (column : ℕ) (value : Value) → R (a.equal column value) (b.equal column value)
@@ -23,7 +23,6 @@ pub record AreRelated (A B : Type 0) (R : A → B → Type 0) (a : ComparisonAns
   pub either : (x y : A) (x' y' : B) → R x x' → R y y' → R (a.either x y) (b.either x' y')
 
 module _ (A B : Type 0) (R : A → B → Type 0) (a : ComparisonAnswers A) (b : ComparisonAnswers B) (related : AreRelated A B R a b) where
-  -- two ANDs have the same ranges, and their other answers are related
   pub record Alike (x : Conjunction A) (y : Conjunction B) : Type 0 where
     pub ranges : x.ranges ≡ y.ranges
     pub others : AllZip R x.others y.others

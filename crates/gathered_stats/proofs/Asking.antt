@@ -1,4 +1,4 @@
--- The lists that the code makes for a literal and for a range are those of the keys (`HaveLists`).
+-- The code makes a list for a literal and for a range. It is the list that the keys have for this literal or range (`HaveLists`).
 use Rattle.std.proofs.Common.{◌≡◌, ℕ, ◌+◌, ◌<◌, ◌≤◌, ◌^◌, List, [], ◌∷◌, ◌++◌, map, length, take, get_or, sum, Option, Some, option_map, refl, ap, sym, ◌∙◌, subst, arith}
 use Rattle.std.specs.Prelude.{unwrap_or, slice_get}
 use Rattle.std.specs.List.{All, zip}
@@ -31,7 +31,6 @@ module _ (texts : List (List ℕ)) (cells : Cells) where
   pub as_many : AreCells texts cells → (column : ℕ) → column < length cells.kinds → column < length cells.columns
   as_many are column low = omega (arith, low, columns_long texts cells.rows cells.kinds cells.columns are)
 
-  -- the kind and the cells of a column that the code reads
   module _ (are : AreCells texts cells) (column : ℕ) (low : column < length cells.kinds) (k : Kind) (items read : List ℕ)
       (at : slice_get cells.kinds column ≡ Some k) (there : slice_get cells.columns column ≡ Some items) (same : read ≡ items) where
     kind_is : kind_in cells column ≡ k
@@ -55,7 +54,6 @@ module _ (texts : List (List ℕ)) (cells : Cells) where
         column_is : (k l : Kind) (r s : List ℕ) → k ≡ l → r ≡ s → (let c : CellColumn = record { texts = texts; kind = k; cells = r } in c) ≡ record { texts = texts; kind = l; cells = s }
         column_is k l r s h i = rw (h, i) refl
 
-  -- a column of the table has one cell for each row
   pub heights : AreCells texts cells → (column : ℕ) (sorted : CellColumn) → IsColumnIn texts cells column sorted → length sorted.cells ≡ cells.rows
   heights are column sorted is =
       ap (λ (s : CellColumn). length s.cells) is.is ∙ (column_at texts cells.rows cells.kinds cells.columns are column kind.Int [] is.exists).height

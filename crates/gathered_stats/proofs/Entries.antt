@@ -1,4 +1,4 @@
--- What is gathered for columns and entries, one after another.
+-- Statistics are gathered for the columns of an entry, one after another, and so for all entries. The lemmas are about the steps of both loops.
 use Rattle.std.proofs.Common.{◌≡◌, ℕ, ◌+◌, ◌<◌, ◌≤◌, ◌^◌, List, [], ◌∷◌, ◌++◌, map, length, take, get_or, Some, slice_get, Result, Ok, Err, IfOk, replicate, ap, sym, ◌∙◌, subst, inl, inr, arith}
 use Rattle.std.proofs.lemmas.Bool.{cases_eq}
 use Rattle.std.proofs.lemmas.List.{get_or_append_left, get_or_past, get_or_push, length_push, map-append, take_more}
@@ -26,7 +26,6 @@ use Rattle.gathered_stats.specs.Columns.{HaveLists, keys_in}
 use Rattle.gathered_stats.specs.Asked.{AreGathered, AreStepsOf, AsksWithin, IsGathered, asked_columns}
 use Rattle.gathered_stats.proofs.Known.{steps_within}
 
--- one step of the loop over columns
 pub one_column : (columns : List ℕ) (i : ℕ) (old new : List ColumnSteps) (one : ColumnSteps) → i < length columns → one.column ≡ get_or columns i 0
     → map (λ g. g.column) old ≡ take i columns → new ≡ old ++ one ∷ [] → map (λ g. g.column) new ≡ take (i + 1) columns
 one_column columns i old new one low is before pushed =
@@ -105,7 +104,6 @@ entry_gathered r query db accuracy entry cells es columns columns_read steps rea
       rows = subst (λ (t : Cells). t.rows < 2 ^ 32) is small;
     }) h k
 
--- what was gathered for an entry, with the cells and the steps that the code reads
 pub own_read : (query : Query) (db : Database) (accuracy entry : ℕ) (stats : EntryStats) (cells : Cells) (steps read : List Step) → IsGathered query db accuracy entry stats
     → cells ≡ cells_of db entry → steps ≡ steps_of entry query.conjuncts → read ≡ steps → All (AreStepsOf db.pool cells accuracy read) stats.columns
 own_read query db accuracy entry stats cells steps read own is are same =

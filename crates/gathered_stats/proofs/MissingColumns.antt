@@ -1,4 +1,4 @@
--- A column that a table doesn't have: all rows have the same value in it, and the same key.
+-- In a column that a table doesn't have, all rows have the same value, and so the same key.
 use Rattle.std.proofs.Common.{◌≡◌, ℕ, zero, suc, ◌+◌, ◌<◌, ◌≤◌, pos, List, [], ◌∷◌, map, length, get_or, replicate, refl, ap, sym, subst, ◌∙◌, inl, inr, arith}
 use Rattle.std.specs.List.{All, range_with_len}
 use Rattle.std.proofs.lemmas.List.{get_or_past, length-replicate}

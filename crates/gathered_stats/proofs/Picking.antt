@@ -1,4 +1,4 @@
--- Filter columns with their cells at some rows: they are picked one after another, and then sorted.
+-- Filter columns are picked with their cells at some rows, one column after another, and then sorted.
 use Rattle.std.proofs.Common.{◌≡◌, ℕ, ◌+◌, ◌<◌, true, eqb, List, [], ◌∷◌, ◌++◌, length, map, get_or, take, Option, None, Some, slice_get, refl, ap, sym, ◌∙◌, subst, arith}
 use Rattle.std.specs.Prelude.{IfOk, IfSome, ◌||◌, Bool, Result, Ok, Err}
 use Rattle.std.specs.List.{All, list_any, range_with_len}
@@ -39,7 +39,6 @@ module _ (texts : List (List ℕ)) (cells : Cells) (are : AreCells texts cells) 
   whole_column : (column : ℕ) → column < length cells.kinds → IsColumn texts cells.rows (kind_in cells column) (cells_in cells column)
   whole_column column exists = column_at texts cells.rows cells.kinds cells.columns are column kind.Int [] exists
 
-  -- each row number of the table is an index of each of its columns
   pub rows_read : (column : ℕ) (items read : List ℕ) → column < length cells.kinds → slice_get cells.columns column ≡ Some items → read ≡ items → All (λ row. row < length read) rows
   rows_read column items read exists there same =
       subst (λ (n : ℕ). All (λ row. row < n) rows)
@@ -85,7 +84,6 @@ one_more P old new one all here pushed = subst (All P) (sym pushed) (All-push P 
 
 -- ---- the column of each step is among the picked columns, and then among the sorted columns
 
--- if the column of a step is there already, the step is served
 pub served_already : (columns read : List PickedColumn) (step : Step) (found : Option ℕ) (column : ℕ) → read ≡ columns → found ≡ column_asked step → found ≡ Some column
     → list_any (λ other. eqb other.column column) read ≡ true → ServeColumns columns step
 served_already columns read step found column same asked is there =
@@ -138,13 +136,11 @@ steps_beside texts cells accuracy beside rows steps gathered column items read k
     is : keys ≡ picked rows (cells_in beside gathered.column)
     is = made ∙ ap (picked rows) (same ∙ sym (get_or_from_slice_get beside.columns column items [] there)) ∙ ap (λ (n : ℕ). picked rows (cells_in beside n)) (sym number)
 
--- one step of the test: the number of the next row is its index
 pub row_more : (rows : List ℕ) (at : ℕ) → at < length rows → get_or rows at 0 ≡ at → take at rows ≡ range_with_len 0 at → take (at + 1) rows ≡ range_with_len 0 (at + 1)
 row_more rows at low is before =
     let more : range_with_len 0 (at + 1) ≡ range_with_len 0 at ++ at ∷ [] = simp map-id at (map-range_with_len_more (λ (x : ℕ). x) 0 at at (omega arith)) in
     take_more rows at 0 low ∙ ap (λ (s : List ℕ). s ++ get_or rows at 0 ∷ []) before ∙ ap (λ (n : ℕ). range_with_len 0 at ++ n ∷ []) is ∙ sym more
 
--- picking all rows of a column gives the column's cells
 pub all_picked : (rows read : List ℕ) → rows ≡ range_with_len 0 (length read) → read ≡ picked rows read
 all_picked rows read all =
     fill_by_all (λ (k : ℕ). get_or read k 0) read (length read) 0 refl (λ k low. refl) ∙ ap (λ (s : List ℕ). picked s read) (sym all)

@@ -43,6 +43,5 @@ module _ (k : ℕ) (rows : List (ℕ × ℕ)) where
         as_many,
       )
 
--- two zipped columns have at most as many rows as the second column
 pub zipped_within : (filter keys : List ℕ) (n : ℕ) → length keys ≤ n → length (zip filter keys) ≤ n
 zipped_within filter keys n h = omega (arith, length-zip filter keys, h)

@@ -1,4 +1,4 @@
--- Which cell a literal has in a column.
+-- These lemmas say which cell a literal has in a column. A text's cell is its number in the pool, and a text that isn't in the pool has no cell.
 use Rattle.std.proofs.Common.{◌≡◌, ℕ, zero, suc, ◌+◌, ◌<◌, Bool, false, List, [], ◌∷◌, length, get_or, None, Some, ap, sym, ◌∙◌, inl, inr, arith}
 use Rattle.std.specs.Prelude.{All, position}
 use Rattle.std.specs.Cmp.Lexicographic.{slice_cmp}
@@ -40,7 +40,6 @@ module _ {X : Type 0} (p : X → Bool) (d : X) where
 same_chars : (a b : List ℕ) → is_eq (slice_cmp nat_cmp (chars a) (chars b)) ≡ bytes_eq (chars a) (chars b)
 same_chars a b = is_eq-slice_cmp (chars a) (chars b)
 
--- the cell of a text in the pool is the text's number
 pub found_stands : (texts : List (List ℕ)) (most : ℕ) (text : List ℕ) (cell : ℕ) → position (bytes_eq text) texts ≡ Some cell
     → IsCellFor texts (kind.Text most) (Text text) (Some cell)
 found_stands texts most text cell h =
@@ -48,7 +47,6 @@ found_stands texts most text cell h =
     let is : text ≡ get_or texts cell [] = (bytes_eq-Decides text (get_or texts cell [])).0 at.1 in
     (at.0, same_chars (get_or texts cell []) text ∙ (bytes_eq-Decides (chars (get_or texts cell [])) (chars text)).1 (ap chars (sym is)))
 
--- a text that isn't in the pool has no cell
 pub absent_stands : (texts : List (List ℕ)) (most : ℕ) (text : List ℕ) → All IsUtf8 texts → IsUtf8 text → position (bytes_eq text) texts ≡ None
     → IsCellFor texts (kind.Text most) (Text text) None
 absent_stands texts most text utf8 own h = λ cell low.

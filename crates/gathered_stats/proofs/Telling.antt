@@ -1,4 +1,4 @@
--- The statistics that are gathered for all entries are those of the tables (`statistics_of`).
+-- The statistics that are gathered for all entries are the statistics of the tables (`statistics_of`).
 use Rattle.std.proofs.Common.{◌≡◌, ℕ, zero, suc, ◌<◌, eqb, List, [], ◌∷◌, map, length, get_or, replicate, Some, option_map, slice_get, find, refl, ap, sym, ◌∙◌, subst, inl, inr, arith}
 use Rattle.std.specs.List.{All, AllByRecursion, Contains}
 use Rattle.std.proofs.lemmas.List.{length-map}
@@ -32,7 +32,7 @@ use Rattle.gathered_stats.specs.Statistics.{statistics_of}
 use Rattle.gathered_stats.proofs.Joined.{asked_place, place_asked, place_exists, some_asked}
 use Rattle.gathered_stats.proofs.MissingColumns.{missing_lists}
 
--- ---- the steps that were gathered for a column are found, and so are those of a first column
+-- ---- looking up the steps that were gathered for a column
 
 pub found_one : (P : ColumnSteps → Type 0) (columns : List ColumnSteps) (x : ℕ) → Contains (map (λ g. g.column) columns) x → All P columns
     → (g : ColumnSteps) × (find (λ g. eqb g.column x) columns ≡ Some g) × (g.column ≡ x) × P g
@@ -106,7 +106,6 @@ module _ (query : Query) (db : Database) (accuracy : ℕ) (of : IsDatabaseOf que
       same_ref : (a b c d : ℕ) → a ≡ c → b ≡ d → (let r : ColumnRef = record { from = a; column = b } in r) ≡ record { from = c; column = d }
       same_ref a b c d h k = rw (h, k) refl
 
-  -- each column of an entry's table has lists
   pub columns_have : (entry : ℕ) (cells : Cells) → entry < length query.from → cells ≡ cells_of db entry → (column : ℕ) → column < length cells.kinds → KeysHaveLists db.pool cells accuracy column
   columns_have entry cells low is column exists =
       let named : IsColumnOf db (record { from = entry; column = column }) =
