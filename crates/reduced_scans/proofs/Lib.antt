@@ -3,7 +3,7 @@
 -- - `IsUseFor` names a value by its place in the list of values, so it stays true while values are appended (`use_later`), and no function
 --   from values to slots is needed.
 -- - Recurse with the first item's number and not with a shifted function: no equality of functions arises.
--- - `level` is `over_restricted` of join_steps, since a reduced list is a filter of the table's rows (`same_members`).
+-- - `level` is `over_restricted` of sql_meaning, since a reduced list is a filter of the table's rows (`same_members`).
 -- - A buffer with room for just what comes (`marked_rows`): count first, and keep the invariant "spare and items together are the count".
 --   That there is room for one more is then a fact about the next row (`one_to_come`). So a must-fail edit that pushes another row fails at
 --   the push and not at the clause; make the change earlier, in what is marked.
