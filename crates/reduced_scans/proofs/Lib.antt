@@ -3,7 +3,7 @@
 -- - `IsUseFor` names a value by its place in the list of values. So it stays true when values are appended (`use_later`), and no function
 --   from values to slots is needed.
 -- - Recursion passes the first item's number on, and not a shifted function, so no equality of functions has to be proved.
--- - `level` is `over_restricted` of join_steps, since a reduced list is a filter of the table's rows (`same_members`).
+-- - `level` is `over_restricted` of sql_meaning, since a reduced list is a filter of the table's rows (`same_members`).
 -- - `marked_rows` fills a buffer that has exactly enough room: the rows are counted first, and the loop keeps "spare and items together are
 --   the count". That there is room for one more row is then a fact about the next row (`one_to_come`). So a must-fail edit that pushes
 --   another row fails at the push and not at the clause; make the change earlier, where rows are marked.
