@@ -12,7 +12,7 @@ use Rattle.predicate_bounds.specs.declared.steps.Range.{Range}
 use Rattle.predicate_bounds.specs.declared.steps.Step.{Step}
 use Rattle.predicate_bounds.specs.declared.steps.Step.TheVariants as step
 
--- the code's literals and ranges as values and ranges of the definitions (`_of`), and the other way (`literal_of`, `range_in`)
+-- the code's literals and ranges as values and ranges of the definitions (`value_of`, `range_of`), and the other way (`literal_of`, `range_in`)
 abbrev pub value_of : Literal → Value
 value_of (literal.Int number) = values.Int number
 value_of (literal.Text text) = values.Text text

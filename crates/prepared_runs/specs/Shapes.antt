@@ -1,6 +1,6 @@
 -- The two shapes of a plan: an order, or a join tree. The parts of a plan are the levels of its order, or the inner nodes of its tree. Each
--- part has a bound and a list of rows. Five other files have a case for each shape: Allowed (costs), PreparedQuery (rooms), Kept (joined
--- rows), Commands of safebound_words (budgets) and Promise of safebound_top (plan texts).
+-- part has a bound and a list of rows. Six other files have a case for each shape: Allowed (costs), PreparedQuery (rooms), Kept (joined
+-- rows), Commands of safebound_words (budgets), Promise of safebound_top (plan texts) and FilePlans of safebound_laws (bounds that are near).
 use Rattle.std.specs.Prelude.{ℕ, ◌+◌, ◌-◌, List, length, map, slice_index, Option, Result}
 use Rattle.std.specs.List.{range_with_len}
 use Rattle.order_search.specs.declared.refusal.PlanError.{PlanError}
