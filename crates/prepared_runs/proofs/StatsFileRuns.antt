@@ -37,7 +37,6 @@ use Rattle.prepared_runs.proofs.LimitFacts.{within_so}
 
 -- ---- a file of tables
 
--- the rows of an entry are those of its table
 row_of_entry : (from : List Source) (rows : List (List Row)) (entry : ℕ) → entry < length from
     → tables_in (rows_by_entry from rows) entry ≡ get_or rows (place_of (tables_of_query from) (get_or (numbers_of from) entry 0)) []
 row_of_entry from rows entry low =
@@ -91,7 +90,6 @@ module _ (schema : Schema) (query : Query) (of : IsOf schema query) (stats : Sta
         never_under query stats tables budget plan (names_its_entries schema query of) of.few small (record { schema = schema; keeps = keeps }) stands made))
     planned_so (Err e) made = tt
 
-    -- Q holds for the plan, if Q follows from these two facts: no bound of the plan is too low, and the plan is within its limit
     pub filed_plan_holds : IfOk (stats_file_plan_stage query stats budget memory) Q
     unfolding stats_file_plan_stage
     filed_plan_holds = planned_so (stats_file_plan query stats budget) refl
