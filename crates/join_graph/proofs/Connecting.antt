@@ -89,9 +89,8 @@ kept_joins name (e ∷ es) = elim (cases_Bool (eqb (name e.left.entry) (name e.r
   | inr n ↦ rw (n, n) (kept_joins (joined_parts name e.left.entry e.right.entry) es)
 ]
 
--- ---- apart or connected
+-- ---- two entries are apart or connected
 
--- the name of each entry's part, after the equalities have joined their entries' parts
 abbrev parts_of : List Edge → ℕ → ℕ
 parts_of [] = λ x. x
 parts_of (e ∷ es) = joined_parts (parts_of es) e.left.entry e.right.entry

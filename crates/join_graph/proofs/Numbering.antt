@@ -1,4 +1,4 @@
--- The numbers of the conjuncts in each part.
+-- The test `is_alike` picks the numbers of the conjuncts in each part. They are the numbers that `local_of` and `residual_of` list.
 use Rattle.std.proofs.Common.{◌≡◌, ℕ, suc, ◌+◌, ◌-◌, ◌<◌, Bool, not, ◌&&◌, cond, List, [], ◌∷◌, ◌++◌, map, length, Option, Some, None, is_none, refl, ap, sym, ◌∙◌, arith}
 use Rattle.std.specs.List.{filter_map, range_with_len}
 use Rattle.std.proofs.lemmas.List.{append_assoc}
@@ -17,8 +17,7 @@ use Rattle.join_graph.proofs.NamedEntries.{tells_just, tells_one, just_named, on
 range_front : (entry entries : ℕ) → entry < entries → range_with_len entry (entries - entry) ≡ entry ∷ range_with_len (entry + 1) (entries - (entry + 1))
 range_front entry entries h = let e : entries - entry ≡ suc (entries - (entry + 1)) = omega arith in rw e refl
 
--- a step of the loop over entries: if the lists so far and those of the entries from `entry` on are all the lists, this is still so with the list of
--- `entry` added
+-- this is the step of the loop over entries
 pub entry_more : (f : ℕ → List ℕ) (entry entries : ℕ) (lists longer : List (List ℕ)) (one : List ℕ) → entry < entries → one ≡ f entry → longer ≡ lists ++ one ∷ []
     → lists ++ map f (range_with_len entry (entries - entry)) ≡ map f (range_with_len 0 entries)
     → longer ++ map f (range_with_len (entry + 1) (entries - (entry + 1))) ≡ map f (range_with_len 0 entries)
@@ -26,7 +25,6 @@ entry_more f entry entries lists longer one h is is_longer so_far =
     rw (is_longer, is) (append_assoc lists (f entry ∷ []) (map f (range_with_len (entry + 1) (entries - (entry + 1))))
     ∙ ap (λ es. lists ++ map f es) (sym (range_front entry entries h)) ∙ so_far)
 
--- if `test` passes for f x exactly if `test'` passes for x, the numbers where `test` passes in `map f xs` are those where `test'` passes in `xs`
 pub numbers_where-map : {A B : Type 0} (test : B → Bool) (f : A → B) (test' : A → Bool) → ((x : A) → test (f x) ≡ test' x) → (first : ℕ) (xs : List A)
     → numbers_where test first (map f xs) ≡ numbers_where test' first xs
 numbers_where-map test f test' same first [] = refl

@@ -1,4 +1,5 @@
--- The equalities of a set, in the order of a turn.
+-- A turn goes through the equalities of a set in text order, from one of them on, and around. These lemmas say where it begins, and what is true of
+-- each equality in it.
 use Rattle.std.proofs.Common.{◌≡◌, ℕ, zero, suc, ◌<◌, true, eqb, List, [], ◌∷◌, ◌++◌, length, take, drop, refl, ap, sym, ◌∙◌, inl, inr}
 use Rattle.std.specs.List.{AllByRecursion}
 use Rattle.std.proofs.lemmas.Bool.{cases_Bool, ltb-true, and_parts}
@@ -49,7 +50,6 @@ have_entries subset (e ∷ es) h =
     let k : (has_entry subset e.left.entry ≡ true) × (has_entry subset e.right.entry ≡ true) = and_parts (has_entry subset e.left.entry) (has_entry subset e.right.entry) h.0 in
     rw (k.0, k.1) (have_entries subset es h.1)
 
--- the equalities that a set keeps join its entries
 pub kept_within : (subset turn : ℕ) (es : List Edge) → AreWithin (entries_of_set subset) (kept_of subset turn es)
 kept_within subset turn es =
     let P : Edge → Type 0 = λ e. joins_within subset e ≡ true in

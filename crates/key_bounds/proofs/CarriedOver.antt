@@ -1,4 +1,4 @@
--- What statistics of the widened table tell: the lists that are carried along an equality.
+-- Statistics that are gathered for the rows of the widened table give the lists that are carried along an equality.
 use Rattle.std.proofs.Common.{◌≡◌, ℕ, ◌+◌, ◌-◌, ◌^◌, ◌<◌, ◌≤◌, min, eqb, List, [], ◌∷◌, ◌++◌, length, map, take, get_or, Option, Some, option_map, find, slice_get, sum, refl, ap, sym, ◌∙◌, subst, inl, inr, ◌⊎◌, arith}
 use Rattle.std.specs.Prelude.{slice_index_or}
 use Rattle.std.specs.List.{All, Contains, IsDistinct, filter}
@@ -63,7 +63,6 @@ from_both (f ∷ es) e has = elim (one_in f (exchanged f ∷ both_ways es) e has
   ]
 ]
 
--- if P holds for each equality, and for each equality with its sides exchanged, then P holds for each of `both_ways`
 of_both : (P : Edge → Type 0) (es : List Edge) (e : Edge) → ((f : Edge) → Contains es f → P f × P (exchanged f)) → Contains (both_ways es) e → P e
 of_both P es e each has = elim (from_both es e has) [
   | inl at ↦ subst P (sym at.2) (each at.0 at.1).0
@@ -209,7 +208,6 @@ module _ (query : Query) (db : Database) (of : IsDatabaseOf query db) (e : Edge)
           told made (rows ∙ ap (λ (s : List EntryStats). Some (row_bound_in_stats (of_entries s) 0)) only)
           (subst (λ (s : List EntryStats). All (λ g. list_of made e.left.entry g.column ≡ Some (list_in_stats (of_entries s) 0 g.column)) (columns_of (of_entries s) 0)) only lists)
 
--- if the rows that were found are those of the widened table, statistics gathered for them are statistics of the widened table
 pub as_widened : (query : Query) (db : Database) (accuracy : ℕ) (e : Edge) (others rows : List ℕ) (gathered : EntryStats) → others ≡ referred (tables_of db) e → rows ≡ referring (tables_of db) e
     → IsGatheredBeside query db accuracy e.right.entry others e.left.entry rows gathered
     → IsGatheredBeside query db accuracy e.right.entry (referred (tables_of db) e) e.left.entry (referring (tables_of db) e) gathered

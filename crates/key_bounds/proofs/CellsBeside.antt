@@ -1,4 +1,4 @@
--- Lists can be made of cells at some rows, and of another entry's cells at the rows beside them. They are the lists that are made of the values there.
+-- Lists that are made of cells at some rows, and of another entry's cells at the rows beside them, are the lists that are made of the values there.
 use Rattle.std.proofs.Common.{◌≡◌, ℕ, ◌<◌, List, [], length, map, get_or, pos, Option, ap, sym, ◌∙◌, subst, arith}
 use Rattle.std.specs.Prelude.{slice_index_or}
 use Rattle.std.specs.List.{All, zip}
@@ -58,14 +58,12 @@ module _ (db : Database) (are : AreTables db) (differ : HaveDifferentCharacters 
       many_here : length (map of_cell here) ≡ length rows
       many_here = length-map here of_cell ∙ length-map rows (λ (row : ℕ). get_or (cells_in cells column) row 0)
 
-      -- the values of these cells are the values that `values_at` reads at the rows
       pub values_here : map of_cell here ≡ values_at (tables_of db) entry column rows
       values_here =
           ext_get_or (Int (pos 0)) (map of_cell here) (values_at (tables_of db) entry column rows) (many_here ∙ sym (length-map rows (value_at (tables_of db) entry column))) (λ k within.
           let inside : k < length rows = omega (arith, within, many_here) in
           value_here k inside ∙ sym (get_or-map (value_at (tables_of db) entry column) rows k 0 (Int (pos 0)) inside))
 
-      -- they are also the column's values in tables that have only these rows
       pub values_there : map of_cell here ≡ column_values (tables_at (tables_of db) rows) entry column
       values_there =
           let at : Tables = tables_at (tables_of db) rows in
@@ -75,7 +73,6 @@ module _ (db : Database) (are : AreTables db) (differ : HaveDifferentCharacters 
           let inside : k < length rows = omega (arith, within, many) in
           value_here k inside ∙ sym (ap (λ (r : Row). slice_index_or r column (Int (pos 0))) (get_or-map row_of rows k 0 [] inside)))
 
-      -- tables of cells that have only these rows have these cells in the column
       pub column_at : cells_in (cells_at rows cells) column ≡ here
       column_at = get_or-map (picked rows) cells.columns column [] [] (omega (arith, exists, columns_long db.pool cells.rows cells.kinds cells.columns (cells_are db are differ entry there)))
 

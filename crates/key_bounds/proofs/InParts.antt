@@ -40,7 +40,6 @@ module _ {X : Type 0} (q p r : X → Bool) where
   one_kept x true xs ys same = ap (λ (s : List X). cond (q x) (x ∷ s) s) same
   one_kept x false xs ys same = same
 
-  -- if p and r agree on all items for which q holds, filtering by p and then by q leaves the same items as filtering by r and then by q
   pub same_kept : (xs : List X) → ((x : X) → Contains xs x → q x ≡ true → p x ≡ r x) → filter q (filter p xs) ≡ filter q (filter r xs)
   same_kept [] same = refl
   same_kept (x ∷ xs) same =

@@ -37,7 +37,6 @@ use Rattle.key_bounds.specs.InSets.{HaveKeyLists, CarriesLists, CarriesTo, carri
 use Rattle.key_bounds.proofs.InParts.{looks_at_parts}
 use Rattle.key_bounds.proofs.Made.{is_some}
 
--- if Q holds at each place of a list, Q holds at an entry and column that are among these places
 each_among : (Q : ℕ → ℕ → Type 0) (places : List Place) → AllByRecursion (λ p. Q p.entry p.column) places → (entry column : ℕ) → is_among places entry column ≡ true → Q entry column
 each_among Q [] all entry column among = absurd (false≢true among)
 each_among Q (p ∷ places) all entry column among = elim (or_cases (is_at entry column p) (is_among places entry column) among) [
@@ -128,7 +127,7 @@ module _ (schema : Schema) (query : Query) (tables : Tables) (accuracy : ℕ) (c
   known_is = fun_ext (λ subset. same_bounds (known_by_keys keys subset).rows (bounds_by_keys schema query tables accuracy subset).rows (known_by_keys keys subset).list (bounds_by_keys schema query tables accuracy subset).list
       (fun_ext (rows_same subset)) (fun_ext (λ entry. fun_ext (list_same subset entry))))
 
-  -- ---- what the bounds of all sets require
+  -- ---- what is required of the bounds of all sets
 
   pub are_keyed : (es : List Edge) → es ≡ equalities_of query → EachNamedColumn (λ entry column. entry < length query.from) (equalities_of query) → length query.from ≤ most_entries
       → (subset : ℕ) → subset < 2 ^ length query.from → HaveKeyLists keys es subset

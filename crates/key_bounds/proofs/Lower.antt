@@ -73,7 +73,6 @@ weaker_places P Q more (p ∷ places) all = (more p.entry p.column all.0, weaker
 scaled : (accuracy m n : ℕ) → m ≤ n → accuracy * m ≤ (accuracy + 1) * n
 scaled accuracy m n most = omega (arith, mul-le-mul_left accuracy most)
 
--- `upper` is above `lower` in the row bounds of the set's entries, and in the lists of the columns that the set's equalities name
 pub record SetIsAbove (upper lower : EntryBounds) (es : List Edge) (subset : ℕ) : Type 0 where
   pub rows : AllByRecursion (λ entry. lower.rows entry ≤ upper.rows entry) (entries_of_set subset)
   pub columns : EachNamedColumn (λ entry column. IsAbove (upper.list entry column) (lower.list entry column)) (equalities_within subset es)

@@ -1,4 +1,4 @@
--- The row bounds and lists of entries in a set, while the code puts them together.
+-- The code puts the row bounds and lists of entries in a set together one by one. These lemmas are about what is made so far.
 use Rattle.std.proofs.Common.{◌≡◌, ◌≢◌, ◌⊎◌, inl, inr, ℕ, ◌<◌, ◌≤◌, ◌^◌, Bool, true, false, ◌&&◌, cond, eqb, List, [], ◌∷◌, length, map, min, sum, get_or, Option, None, Some, option_map, refl, ap, sym, ◌∙◌, subst, arith}
 use Rattle.std.specs.Prelude.{All, IsSome, if◌then◌else◌, unwrap_or}
 use Rattle.std.specs.List.{AllByRecursion, filter}
@@ -33,7 +33,6 @@ is_some o x is = subst (λ o. IsSome o) (sym is) refl
 -- ---- the loop over the carried bounds
 
 module _ (subset entry : ℕ) where
-  -- the next carried bound counts for the entry in the set, or is passed over
   next_carried : (c : Carried) (carried : List Carried)
       → carried_to (c ∷ carried) subset entry ≡ cond (is_carried subset entry c) (c ∷ carried_to carried subset entry) (carried_to carried subset entry)
   next_carried c carried = by (joins_within subset c.edge)
@@ -61,7 +60,6 @@ module _ (subset entry : ℕ) where
         by true = refl
         by false = refl
 
-    -- a carried list sums to the carried row bound
     carried_sum : (c : Carried) → IsSome (list_of c.lists entry column) → sum (list_carried entry column c) ≡ rows_carried entry c
     carried_sum c there =
         let found = some_there (list_of c.lists entry column) there in
@@ -121,7 +119,6 @@ module _ (bounds : EntryBounds) where
     ];
   }
 
-  -- each list that `old` has, `new` has too
   pub kept_there : (at in_column : ℕ) (list : List ℕ) (old new : EntryLists) → list_of new at in_column ≡ Some list
       → ((e c : ℕ) → ((e ≢ at) ⊎ (c ≢ in_column)) → list_of new e c ≡ list_of old e c)
       → (e c : ℕ) → IsSome (list_of old e c) → IsSome (list_of new e c)
@@ -180,7 +177,6 @@ module _ (keys : KeyLists) (subset : ℕ) where
     pub list_known : list_within keys.carried subset entry column own ≡ known.list entry column
     list_known = sym (ap (λ (o : Option (List ℕ)). unwrap_or (option_map (list_within keys.carried subset entry column) o) []) there)
 
-    -- the list of a column in a set sums to the entry's row bound in the set
     pub sum_known : (made : EntryLists) (list : List ℕ) → rows_of made entry ≡ Some (known.rows entry) → entry < keys.count
         → All (λ c. c.edge.left.entry ≡ entry → IsSome (list_of c.lists entry column)) keys.carried
         → list ≡ list_within keys.carried subset entry column own → rows_of made entry ≡ Some (sum list)
@@ -200,7 +196,6 @@ small_there lists entry column list is = lists.bounds entry (sum list) (lists.su
 pub lesser_small : (own other made : List ℕ) → made ≡ lesser own other → sum own < 2 ^ 64 → sum made < 2 ^ 64
 lesser_small own other made is small = omega (arith, ap (λ (s : List ℕ). sum s) is, sum-lesser own other, small)
 
--- carried bounds have the lists that both columns of an equality need
 pub carried_at : (es : List Edge) (carried : List Carried) → All (CarriesLists es) carried → (i : ℕ) (d : Edge) → i < length es
     → All (CarriesTo (get_or es i d).left) carried × All (CarriesTo (get_or es i d).right) carried
 carried_at es carried all i d low = (

@@ -1,4 +1,4 @@
--- Bounds of small tables where conjuncts are carried, by computation.
+-- These examples compute the bounds of small tables where conjuncts are carried.
 use Rattle.std.proofs.Common.{◌≡◌, ℕ, zero, suc, true, Option, None, Some, List, [], ◌∷◌, length, map, refl, ap, ◌∙◌, arith}
 use Rattle.std.specs.Prelude.{nat_lt, pos, if◌then◌else◌}
 use Rattle.std.proofs.Math.Path.{fun_ext}
@@ -36,7 +36,6 @@ use Rattle.key_bounds.proofs.SmallShops.{shop_carriers, trade_carriers, undeclar
 
 -- ---- an own conjunct `column = 3`, and what it makes of lists and numbers of rows
 
--- the conjunct that a column is 3, if the entry has an own conjunct
 abbrev own_of : ℕ → Option ℕ → List Cond
 own_of entry None = []
 own_of entry (Some column) = is_number entry column 3 ∷ []
@@ -56,7 +55,6 @@ module _ {A : Type 0} (answers : ComparisonAnswers A) where
       ∙ ap (λ (c : Conjunction A). answers.both (and_answer answers (one_conjunction (c ∷ []))) answers.whole)
       (of_compare answers op.Eq (column_operand entry column) (operand.Int (pos 3)) true)
 
--- if the entry's own conjunct is given, it is this conjunct
 abbrev AsKnown : Query → ℕ → Option (Option ℕ) → Type 0
 AsKnown query entry None = entry ≡ entry
 AsKnown query entry (Some own) = own_conjuncts entry query.conjuncts ≡ own_of entry own
@@ -117,7 +115,7 @@ module _ (query : Query) (es : List Edge) (joins : equalities_of query ≡ es) (
   by_keys schema tables cs are =
       ap (λ (s : List Edge). sets_by tables (length query.from) (equalities_of query) s by_conjuncts list_by_conjuncts) are ∙ parts_are tables cs
 
--- ---- O and C
+-- ---- the example with the entries O and C
 
 abbrev one_edge : List Edge
 one_edge = edge_of 0 1 1 0 ∷ []

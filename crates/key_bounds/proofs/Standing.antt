@@ -46,7 +46,6 @@ use Rattle.key_bounds.specs.Bounds.{bounds_by_keys, least_rows, list_by_keys, ro
 use Rattle.key_bounds.proofs.Least.{least_dominates, least_falls, least_fits, least_sum}
 use Rattle.key_bounds.proofs.Taking.{none_lost, of_scans, refers_to_all, taken_at, takes, taking, taking_at}
 
--- if each row that passes p passes q, at most as many rows pass p as pass q
 fewer_left : (p q : ℕ → Bool) → ((row : ℕ) → p row ≡ true → q row ≡ true) → (rows : List ℕ) → length (filter p rows) ≤ length (filter q rows)
 fewer_left p q more [] = omega arith
 fewer_left p q more (row ∷ rows) =
@@ -111,7 +110,6 @@ module _ (schema : Schema) (query : Query) (tables : Tables) (accuracy subset : 
         let both = and_parts (has_entry subset e.left.entry) (has_entry subset e.right.entry) joins in
         (entry_below (length query.from) subset e.left.entry fits both.0, entry_below (length query.from) subset e.right.entry fits both.1)
 
-    -- if Q holds for each joined column of the set's entries, Q holds for each column that the set's equalities name
     pub at_named : (Q : ℕ → ℕ → Type 0) → ((entry column : ℕ) → entry < length query.from → has_entry subset entry ≡ true → is_among (joined_columns query) entry column ≡ true → Q entry column)
         → EachNamedColumn Q (equalities_within subset (equalities_of query))
     at_named Q each =

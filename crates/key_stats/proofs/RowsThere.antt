@@ -45,7 +45,6 @@ module _ (tables : Tables) (rows : List ℕ) (n : ℕ) (low : n < length rows) w
   cond_there : (cond : Cond) → cond_holds there (λ e. n) cond ≡ cond_holds tables (λ e. row) cond
   cond_there cond = ap (λ (step : Cond-F Bool → Bool). fold-Cond Bool step cond) (fun_ext step_there)
 
-  -- row n passes an entry's own conjuncts exactly if the row that was taken as row n passes them
   pub own_there : (entry : ℕ) (conds : List Cond) → passes_own (map (conjunct_of there) conds) entry n ≡ passes_own (map (conjunct_of tables) conds) entry row
   own_there entry [] = refl
   own_there entry (cond ∷ conds) =

@@ -1,4 +1,4 @@
--- Members of lists that are mapped or filtered.
+-- These lemmas say which elements a list contains after `map`, `filter` and `filter_map`.
 use Rattle.std.proofs.Common.{◌≡◌, ℕ, zero, suc, ◌+◌, ◌<◌, ◌≤◌, Bool, true, eqb, List, [], ◌∷◌, map, refl, ap, sym, ◌∙◌, subst, arith, ◌⊎◌, inl, inr, Option, Some, None}
 use Rattle.std.specs.List.{AllByRecursion, Contains, cons_option, filter, filter_map, list_all, list_any, range_with_len}
 use Rattle.std.proofs.lemmas.Bool.{cases_Bool, cases_eq, eqb-true, eq-eqb, false≢true, and_parts}
@@ -40,7 +40,6 @@ pub map_alike : {Y : Type 0} (f g : ℕ → Y) (xs : List ℕ) → ((x : ℕ) �
 map_alike f g [] h = refl
 map_alike f g (x ∷ xs) h = rw (h x (in_front x xs x refl), map_alike f g xs (λ y k. h y (in_rest x xs y k))) refl
 
--- if mapping f and mapping g over a list give the same, f and g agree on each member
 pub same_at : (f g : ℕ → ℕ) (xs : List ℕ) → map f xs ≡ map g xs → (x : ℕ) → Contains xs x → f x ≡ g x
 same_at f g [] same x k = absurd (in_none x k)
 same_at f g (y ∷ ys) same x k = elim (one_in y ys x k) [
@@ -112,7 +111,6 @@ pub true_for_all : {X : Type 0} (p : X → Bool) (xs : List X) → ((x : X) → 
 true_for_all p [] h = refl
 true_for_all p (x ∷ xs) h = rw (h x (in_front x xs x refl), true_for_all p xs (λ y k. h y (in_rest x xs y k))) refl
 
--- the number is in the list
 abbrev pub is_in : List ℕ → ℕ → Bool
 is_in xs x = list_any (λ e. eqb x e) xs
 

@@ -1,4 +1,4 @@
--- Bounds from compressed lists of whole tables: they hold for unfiltered scans, and they are near the bounds from the degree lists.
+-- Bounds from compressed lists of whole tables hold for unfiltered scans, and they are near the bounds from the degree lists.
 use Rattle.std.proofs.Common.{◌≡◌, ℕ, ◌+◌, ◌*◌, ◌^◌, ◌≤◌, true, List, [], ◌∷◌, length, map, refl, ap, sym, ◌∙◌, subst, arith}
 use Rattle.std.specs.List.{AllByRecursion, Contains, filter, list_all, range_with_len}
 use Rattle.std.proofs.lemmas.List.FromFn.{length-map-range_with_len, length-range_with_len}

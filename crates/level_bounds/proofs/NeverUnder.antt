@@ -33,7 +33,6 @@ module _ (query : Query) (tables : Tables) where
       → AllByRecursion (IsImplied (conjuncts_of query tables) (row_counts tables) key) (equalities_within subset (equalities_of query))
   asked key subset keys = are_asked query tables key (equalities_within subset (equalities_of query)) (λ e there. (from_filter (joins_within subset) (equalities_of query) e there).0) keys
 
-  -- bounds that hold for the scans of a query dominate the tables that have just the scanned rows
   dominates : (key : Keys) (b : EntryBounds) (subset : ℕ) → BoundsScans b query tables key subset → SetDominates b (scanned (query_scan query tables) key) (equalities_of query) subset
   dominates key b subset known = record {
     rows = known.rows;

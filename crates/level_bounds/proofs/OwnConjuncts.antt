@@ -1,4 +1,4 @@
--- The conjuncts that name just one entry, and the scan of the entry.
+-- A row is in the scan of an entry exactly if it passes the conjuncts that name just this entry.
 use Rattle.std.proofs.Common.{◌≡◌, ℕ, zero, suc, ◌+◌, ◌<◌, ◌↔◌, Bool, IsTrue, true, not, ◌&&◌, ◌||◌, List, [], ◌∷◌, length, map, refl, ap, sym, subst, arith, inl, inr}
 use Rattle.std.specs.Prelude.{IsSomeAnd, slice_get, slice_index_or}
 use Rattle.std.specs.List.{Contains, filter, list_all, range_with_len}
@@ -39,7 +39,6 @@ scan_by_own query tables entry =
 -- ---- own conjuncts by their numbers
 
 module _ (own passes : Cond → Bool) where
-  -- each own condition passes
   abbrev EachOwn : List Cond → Type 0
   EachOwn conds = (k : ℕ) → IsSomeAnd (slice_get conds k) (λ cond. IsTrue (own cond)) → IsSomeAnd (slice_get conds k) (λ cond. IsTrue (passes cond))
 
@@ -63,7 +62,6 @@ module _ (own passes : Cond → Bool) where
         | inr n ↦ rw n rest
       ]
 
--- the list of an entry in `local_of` has the numbers of the entry's own conjuncts
 local_at : (query : Query) (entry : ℕ) → entry < length query.from → slice_index_or (local_of query) entry [] ≡ numbers_where (names_just entry) 0 query.conjuncts
 local_at query entry low =
     let start : 0 + entry ≡ entry = omega arith in

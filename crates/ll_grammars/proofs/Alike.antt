@@ -7,11 +7,9 @@ use Rattle.ll_grammars.specs.Language.{Language}
 use Rattle.ll_grammars.specs.Reading.{Parser, Answer, next, ◌>>=◌, starts, give, read_second, read_then, read_made, read_maybe, read_others, read_up_to, read_many}
 use Rattle.ll_grammars.specs.Reads.{FirstAndFollow, Splits, Reads}
 
--- p and q answer the same for each list of which P is true
 abbrev pub AreAlikeOn : {A : Type 0} → (List Lexeme → Type 0) → Parser A → Parser A → Type 0
 AreAlikeOn P p q = (text : List Lexeme) → P text → p text ≡ q text
 
--- if P is true of a list and p reads a value from its front, then P is true of the tokens that are left
 abbrev pub StaysIn : {A : Type 0} → (List Lexeme → Type 0) → Parser A → Type 0
 StaysIn {A} P p = (text : List Lexeme) (value : A) (rest : List Lexeme) → p text ≡ (Some value, rest) → P text → P rest
 
@@ -19,7 +17,6 @@ module _ (P : List Lexeme → Type 0) where
   pub itself_alike : {A : Type 0} (p : Parser A) → AreAlikeOn P p p
   itself_alike p text holds = refl
 
-  -- p stays in P if this is so: whenever P is true of a text of the language with some tokens after it, P is true of these tokens alone
   pub stays : {A : Type 0} {L : Language A} {s : FirstAndFollow} {p : Parser A} → Reads L s p → ((front rest : List Lexeme) (value : A) → L front value → P (front ++ rest) → P rest) → StaysIn P p
   stays {A = A} {L = L} {p = p} reads h text value rest e holds = at (p text).0 (p text).1 e (reads.splits text) where
     at : (o : Option A) (r : List Lexeme) → ◌≡◌ {A = Answer A} (o, r) (Some value, rest) → Splits L text o r → P rest

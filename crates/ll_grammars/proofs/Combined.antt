@@ -1,4 +1,4 @@
--- The lemmas of the theory without the arguments that can be inferred, and forms of rules that grammars share.
+-- These are the lemmas of the theory without the arguments that can be inferred, and lemmas for forms of rules that grammars share.
 use Rattle.std.proofs.Common.{◌≡◌, false, true, inl, inr, Option, Some, None, List, [], ◌∷◌, ◌++◌, refl}
 use Rattle.ll_grammars.specs.declared.lexeme.Lexeme.{Lexeme}
 use Rattle.ll_grammars.specs.declared.terminal.Terminal.{Terminal}
@@ -42,11 +42,9 @@ parentheses_shape s = then_shape (word_shape terminal.Open) (then_shape s (word_
 pub inside : {A : Type 0} {L : Language A} {s : FirstAndFollow} {p : Parser A} → Reads L s p → apart s.more (terminal.Close ∷ []) ≡ true → Reads (in_parentheses L) (parentheses_shape s) (read_in_parentheses p)
 inside reads h = value middle (row (a_word terminal.Open refl) (row reads (a_word terminal.Close refl) h) refl)
 
--- what LL(1) needs to know (`FirstAndFollow`) of an item after a separator
 abbrev pub next_shape : Terminal → FirstAndFollow → FirstAndFollow
 next_shape separator s = then_shape (word_shape separator) s
 
--- what LL(1) needs to know of items with separators between them
 abbrev pub listed_shape : Terminal → FirstAndFollow → FirstAndFollow
 listed_shape separator s = then_shape s (many_shape (next_shape separator s))
 

@@ -5,7 +5,6 @@ use Rattle.ll_grammars.specs.declared.terminal.Terminal.{Terminal}
 use Rattle.ll_grammars.specs.Language.{Language, ◌▸◌, made, ◌∪◌, many}
 use Rattle.ll_grammars.specs.Rules.{all, second, listed, in_parentheses}
 
--- each text of L is a text of M, with the same value
 abbrev pub IsIn : {A : Type 0} → Language A → Language A → Type 0
 IsIn {A} L M = (text : List Lexeme) (value : A) → L text value → M text value
 

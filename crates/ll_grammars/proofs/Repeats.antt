@@ -159,7 +159,6 @@ module _ {A : Type 0} (L : Language A) (s : FirstAndFollow) (p : Parser A) (read
       let all : suc (length text) ≡ length split.front + length r = ap length split.whole ∙ length-append split.front r in
       rw (up_same (length text) (length r) r (omega arith) (omega arith)) refl
 
-  -- the two cases in a turn of a loop: another item follows, or no item follows
   pub many_step : (text : List Lexeme) → starts s.first text ≡ true → read_many s.first p text ≡ (p text >>= read_others (read_many s.first p))
   unfolding read_many
   many_step [] h = absurd cc

@@ -26,7 +26,6 @@ fails_at L s p reads front (t ∷ rest) stop no_value = λ viable.
     let done' : p (front ++ t ∷ viable.more) ≡ (Some viable.value, []) = rw append-nil at done in
     not_empty t viable.more (p (front ++ t ∷ rest)).0 (Some viable.value) (sym whole ∙ done')
 
--- if no value is found for the whole list, the list goes wrong where the parser stopped
 pub goes_wrong : {A : Type 0} (L : Language A) (s : FirstAndFollow) (p : Parser A) → Reads L s p → (text : List Lexeme)
     → ((value : A) → p text ≡ (Some value, []) → ⊥) → GoesWrong L text (p text).1
 goes_wrong L s p reads text no_value =
@@ -39,7 +38,6 @@ goes_wrong L s p reads text no_value =
       fails = fails_at L s p reads split.front (p text).1 stop (λ value e. no_value value (ap p split.whole ∙ e));
     }
 
--- if a value is found for the whole list, the list spells this value
 pub spells : {A : Type 0} (L : Language A) (s : FirstAndFollow) (p : Parser A) → Reads L s p → (text : List Lexeme) (value : A) → p text ≡ (Some value, []) → L text value
 spells L s p reads text value e =
     let split = reads.splits text in
@@ -49,11 +47,9 @@ spells L s p reads text value e =
     let l : Spelled L split.front (Some value) = subst (λ o. Spelled L split.front o) (ap (λ x. x.0) e) split.spelled in
     subst (λ x. L x value) here l
 
--- if a list spells a value, this value is found
 pub found : {A : Type 0} (L : Language A) (s : FirstAndFollow) (p : Parser A) → Reads L s p → (text : List Lexeme) (value : A) → L text value → p text ≡ (Some value, [])
 found L s p reads text value l = let done : p (text ++ []) ≡ (Some value, []) = reads.complete text [] value l tt in rw append-nil at done
 
--- a text spells one value at most
 pub one_value : {A : Type 0} (L : Language A) (s : FirstAndFollow) (p : Parser A) → Reads L s p → (text : List Lexeme) (a b : A) → L text a → L text b → a ≡ b
 one_value L s p reads text a b la lb =
     let e = sym (found L s p reads text a la) ∙ found L s p reads text b lb in

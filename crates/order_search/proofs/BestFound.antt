@@ -10,7 +10,6 @@ use Rattle.order_search.proofs.WholeWays.{order_from_way, way_from_order}
 use Rattle.order_search.proofs.Prefixes.{total-small}
 use Rattle.order_search.proofs.Weights.{weighs_cost, weighs_most, weighs_total}
 
--- the number of the set of all entries is the last index of the table
 last_place : (bounds : List ℕ) (n : ℕ) → length bounds ≡ 2 ^ n → length bounds - 1 ≡ 2 ^ n - 1
 last_place bounds n size = omega arith
 
@@ -35,7 +34,7 @@ least_cost_from bounds table n least size is_table is =
 abbrev sum_weight : ℕ → List ℕ → ℕ → List ℕ → ℕ
 sum_weight least bounds n order = weight_of (weight.SumWithin least) bounds (2 ^ n - 1) (2 ^ n - 1) order
 
--- an order of cost at most `least` weighs the sum of its bounds, which is below 2 ^ 63 and so isn't the greatest weight
+-- the sum of the order's bounds is below 2 ^ 63, so it isn't the greatest weight
 weighs_sum : (bounds : List ℕ) (n least : ℕ) (order : List ℕ) → n ≤ 12 → least ≤ 2 ^ 59 → IsOrder n order → cost bounds order ≤ least
     → (sum_weight least bounds n order ≡ total bounds order) × (total bounds order < 2 ^ 63)
 weighs_sum bounds n least order few small is_order low =

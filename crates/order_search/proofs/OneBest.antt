@@ -32,13 +32,11 @@ one_least bounds n a b p q = omega (arith, p.none_cheaper q.order q.is_order, q.
 
 -- ---- refusals, whatever `IsLeast` says of the least cost
 
--- if the least cost is at most `cost`, and `cost` is within the budget, then only the refusal NoMemory has a cause
 pub none_refused : (IsLeast : ℕ → Type 0) (budget cost : ℕ) (e : PlanError) → budget ≤ 2 ^ 59 → cost ≤ budget → ((least : ℕ) → IsLeast least → least ≤ cost) → IsCauseOf IsLeast budget e → e ≡ error.NoMemory
 none_refused IsLeast budget cost (error.Budget least) few within below cause = absurd (omega (arith, below least cause.0))
 none_refused IsLeast budget cost error.PastBits few within below cause = absurd (omega (arith, below cause.0 cause.1))
 none_refused IsLeast budget cost error.NoMemory few within below cause = refl
 
--- at most one refusal other than NoMemory has a cause
 pub one_refusal : (IsLeast : ℕ → Type 0) (budget : ℕ) (e f : PlanError) → ((a b : ℕ) → IsLeast a → IsLeast b → a ≡ b) → IsCauseOf IsLeast budget e → IsCauseOf IsLeast budget f → (e ≡ error.NoMemory) ⊎ ((f ≡ error.NoMemory) ⊎ (e ≡ f))
 one_refusal IsLeast budget error.NoMemory f one p q = inl refl
 one_refusal IsLeast budget (error.Budget a) error.NoMemory one p q = inr (inl refl)

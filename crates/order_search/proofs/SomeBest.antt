@@ -19,7 +19,6 @@ record Best (bounds front : List ℕ) (left : ℕ) : Type 0 where
   is_way : IsWay left way
   none_better : (other : List ℕ) → IsWay left other → NoWorse bounds (front ++ way) (front ++ other)
 
--- the best of the ways that begin with an entry below `end`
 record BestBelow (bounds front : List ℕ) (left end : ℕ) : Type 0 where
   way : List ℕ
   is_way : IsWay left way
@@ -28,7 +27,6 @@ record BestBelow (bounds front : List ℕ) (left end : ℕ) : Type 0 where
 abbrev NoneBelow : ℕ → ℕ → Type 0
 NoneBelow left end = (entry : ℕ) → entry < end → bit_at left entry ≡ 1 → ⊥
 
--- an entry, followed by the best way through the other entries, is the best way that begins with the entry
 through : (bounds front : List ℕ) (left entry : ℕ) → bit_at left entry ≡ 1 → Best bounds (front ++ entry ∷ []) (left - 2 ^ entry)
     → (way : List ℕ) × IsWay left way × ((entries : List ℕ) → IsWay left (entry ∷ entries) → NoWorse bounds (front ++ way) (front ++ (entry ∷ entries)))
 through bounds front left entry has best = (
@@ -114,7 +112,6 @@ best_below bounds front left (suc end) behind = elim (cases_eq (bit_at left end)
       none_better = λ entry entries h way. more.none_better entry entries (omega arith) way;
     }
 
--- every way has a first entry below n
 from_all : (bounds : List ℕ) (n left : ℕ) (front : List ℕ) → left < 2 ^ n → 0 < size_below n left → NoneBelow left n ⊎ BestBelow bounds front left n → Best bounds front left
 from_all bounds n left front fits some so_far = elim so_far [
   | inl none ↦ (let any : (entry : ℕ) × (bit_at left entry ≡ 1) = some_entry n left some in absurd (none any.0 (entry_below n left any.0 fits any.1) any.1))

@@ -1,4 +1,4 @@
--- A test of all orders that the prover can compute. It proves small examples of a best order.
+-- A test goes through all orders, and the prover can compute it. It proves small examples of a best order.
 use Rattle.std.proofs.Common.{◌≡◌, ℕ, zero, suc, ◌-◌, ◌^◌, ◌<◌, Bool, true, false, eqb, leb, cond, List, [], ◌∷◌, ◌++◌, refl, ap, sym, ◌∙◌, subst, eq-eqb, arith, inl, inr}
 use Rattle.std.specs.Prelude.{◌⊎◌}
 use Rattle.std.specs.Int.{bit_at}
@@ -51,7 +51,6 @@ at_way (suc size) n test left front (entry ∷ entries) fits some h is_way =
 
 -- ---- a test that one order is no worse than another
 
--- m is smaller than n, or they are equal and the test `behind` passes
 abbrev pub first_test : ℕ → ℕ → Bool → Bool
 first_test m n behind = cond (leb n m) (cond (leb m n) behind false) true
 

@@ -14,7 +14,6 @@ below_power (suc room) (suc n) h =
     let q : ℕ = suc n / 2 in
     omega (arith, below_power room q (omega arith), pow-suc 2 (digits_within room q))
 
--- n is below 2 to the number of its digits
 pub digits_hold : (n : ℕ) → n < 2 ^ binary_digits n
 digits_hold n = below_power n n (omega arith)
 
@@ -34,7 +33,6 @@ half_above (suc room) (suc n) h pos =
     none_of zero = refl
     none_of (suc room) = refl
 
--- with one digit fewer, n doesn't fit: 2 to the number of digits is at most 2 n + 1
 digits_needed : (n : ℕ) → 2 ^ binary_digits n ≤ 2 * n + 1
 digits_needed zero = omega (arith, pow-zero 2)
 digits_needed (suc n) = omega (arith, half_above (suc n) (suc n) (omega arith) (omega arith))
@@ -45,7 +43,6 @@ fewer n a b above within = elim (cases_lt a b) [
   | inr h ↦ h
 ]
 
--- the number of digits of n and the number of its leading zeros make 64
 pub digits_counted : (n leading : ℕ) → n < 2 ^ 64 → leading ≡ leading_zeros w64 n → binary_digits n + leading ≡ 64
 digits_counted n leading fits same =
     let counted = leading_length 64 n fits in

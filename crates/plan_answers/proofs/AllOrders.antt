@@ -72,7 +72,6 @@ still_in test (x ∷ xs) y k t = elim (one_in x xs y k) [
 
 -- ---- orders of some entries
 
--- the order has `count` different entries, and P is true of each of them
 record AreArranged (P : ℕ → Type 0) (count : ℕ) (order : List ℕ) : Type 0 where
   entries : Each P order
   once : IsDistinct eqb order
@@ -100,7 +99,6 @@ arranged P (suc count) entries h =
     (arranged (λ entry. P entry × (eqb first entry ≡ false)) count (others first entries) (kept P first entries h))))
     entries h)
 
--- what is true of each order of the list is true of each order of `count` different entries
 at_arranged : (Q : List ℕ → Type 0) (count : ℕ) (entries order : List ℕ) → Each Q (orders_of count entries) → AreArranged (Contains entries) count order → Q order
 at_arranged Q zero entries [] h is = h.0
 at_arranged Q zero entries (x ∷ xs) h is = absurd (omega (arith, is.all))
@@ -153,7 +151,6 @@ ascend-kept test (x ∷ xs) h = elim (cases_Bool (test x)) [
   | inr n ↦ rw n (ascend-kept test xs h.1)
 ]
 
--- lists that begin with an entry come before those that begin with a greater one
 in_order-firsts : (behind : ℕ → List (List ℕ)) → ((first : ℕ) → InOrder (behind first)) → (firsts : List ℕ) → Ascend firsts → InOrder (flat_map (λ first. map (λ rest. first ∷ rest) (behind first)) firsts)
 in_order-firsts behind h [] a = tt
 in_order-firsts behind h (x ∷ xs) a =

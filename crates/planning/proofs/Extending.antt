@@ -34,7 +34,6 @@ pub still_connected : (es : List Edge) (a b : ℕ) → AreConnected es a b → A
 still_connected es a b connected side all = connected side (all_come (λ e. side e.left.entry ≡ side e.right.entry) [] es all).1
 
 module _ (equal : Edge → ℕ → ℕ → Bool) (family : List (List ℕ)) where
-  -- each row of both lists has a partner along the equality
   abbrev pub Meet : Edge → Type 0
   Meet e = HavePartners (equal e) (list_at family e.left.entry) (list_at family e.right.entry)
       × HavePartners (λ right left. equal e left right) (list_at family e.right.entry) (list_at family e.left.entry)
@@ -109,7 +108,6 @@ module _ (equal : Edge → ℕ → ℕ → Bool) (family : List (List ℕ)) wher
       ];
     }
 
-  -- if each listed row extends along the other equalities, it extends along one more equality too
   one_more : (e : Edge) (es : List Edge) → AreApart es e.left.entry e.right.entry → Meet e → ((entry row : ℕ) → Contains (list_at family entry) row → Extends es entry row)
       → (entry row : ℕ) → Contains (list_at family entry) row → Extends (e ∷ es) entry row
   one_more e es none have rest entry row listed = elim (cases_eq (component es entry) (component es e.left.entry)) [

@@ -1,4 +1,5 @@
--- Plans from bounds of sets and of scans. If these bounds come from bounds of entries that stand for lists of rows, no bound in the plan is too low.
+-- These lemmas are about plans that are made from bounds of sets and of scans. If these bounds come from bounds of entries that stand for lists of
+-- rows, no bound in the plan is too low.
 use Rattle.std.proofs.Common.{◌≡◌, ◌⊎◌, inl, inr, ℕ, ◌+◌, ◌<◌, ◌≤◌, ◌^◌, Bool, true, List, [], ◌∷◌, Ok, Result, min, length, take, get_or, refl, ap, sym, ◌∙◌, subst, arith}
 use Rattle.std.specs.List.{AllByRecursion, filter}
 use Rattle.std.proofs.lemmas.Bool.{and_parts, cases_Bool, cases_lt}
@@ -56,7 +57,6 @@ module _ (sets scans : List ℕ) (count budget : ℕ) (one_each : length scans �
   pub level_bound : (k : ℕ) → k < count → get_or plan.levels k 0 ≡ get_or sets (set_of (take (k + 1) plan.order)) 0
   level_bound k low = ap (λ (s : List ℕ). get_or s k 0) promised.levels ∙ level_at sets plan.order k (omega (arith, is_best_from.is_order.all))
 
--- if no given bound is too low for the lists, no bound in the plan is too low
 module _ (query : Query) (tables : Tables) (lists : List (List ℕ)) (sets scans : List ℕ) (bound_sets : BoundLevels query tables lists sets) (bound : BoundLists query tables lists scans)
     (budget : ℕ) (plan : Plan) (few : length query.from ≤ most_entries) (small : budget ≤ most_budget) (made : plan_answer sets scans budget ≡ Ok plan) where
   abbrev n : ℕ
@@ -83,7 +83,6 @@ module _ (query : Query) (tables : Tables) (lists : List (List ℕ)) (sets scans
 
 -- ---- the bounds of sets, from bounds of entries that stand for lists
 
--- a bound that isn't too low is still not too low when it is cut to 128 bits, or it is the top bound
 capped : (rows bound told : ℕ) → rows ≤ bound → told ≡ min bound top_bound → (rows ≤ told) ⊎ (told ≡ top_bound)
 capped rows bound told fits is = elim (cases_lt bound top_bound) [
   | inl below ↦ inl (omega arith)
@@ -111,7 +110,6 @@ levels_bound query tables lists key bounds stand subset order fits o =
 
 -- ---- bounds of entries that are the same in every set
 
--- both entries of an equality are below n, if it joins entries of a set of the first n entries
 both_below : (n subset : ℕ) (e : Edge) → subset < 2 ^ n → joins_within subset e ≡ true → (e.left.entry < n) × (e.right.entry < n)
 both_below n subset e fits joins =
     let both = and_parts (has_entry subset e.left.entry) (has_entry subset e.right.entry) joins in

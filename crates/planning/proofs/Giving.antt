@@ -1,4 +1,4 @@
--- From row bounds and lists of a query's entries to the bounds of its scans and of all sets.
+-- Row bounds and lists of a query's entries give the bounds of its scans and of all sets.
 use Rattle.std.proofs.Common.{◌≡◌, ℕ, ◌^◌, ◌<◌, Bool, true, List, [], Option, Some, length, map, get_or, sum, ap, sym, ◌∙◌, subst, arith}
 use Rattle.std.specs.Prelude.{All, if◌then◌else◌, unwrap_or}
 use Rattle.std.specs.List.{range_with_len}
@@ -50,7 +50,6 @@ told_scans query stats lists are =
     ∙ same_below (entry_bounds query stats).rows (scan_rows query stats) (length query.from)
     (λ k low. ap (λ (t : Bool). if t then scan_rows query stats k else 0) (lt-ltb k (length query.from) low))
 
--- a known list of a column falls, and it sums to the row bound of its entry
 list_there : (lists : EntryLists) (entry column : ℕ) (list : List ℕ) → list_of lists entry column ≡ Some list → HasList (bounds_of lists) entry column
 list_there lists entry column list is = record {
   falls = subst (λ (o : Option (List ℕ)). IsFalling (unwrap_or o [])) (sym is) (lists.sums entry column list is).0;
@@ -78,7 +77,6 @@ module _ (query : Query) (es : List Edge) (split : es ≡ equalities_of query) (
   pub one_each : length scans ≡ length query.from
   one_each = ap (λ (s : List ℕ). length s) are ∙ length-map-range_with_len (bounds_of lists).rows 0 count ∙ all
 
-  -- for every set all lists are known that its bound needs
   pub each_listed : SetIsListed lists (equalities_of query) (first_entries (length query.from)) → (subset : ℕ) → subset < 2 ^ length scans → SetIsListed lists es subset
   each_listed whole subset fits =
       subst (λ (s : List Edge). SetIsListed lists s subset) (sym split)
@@ -110,7 +108,6 @@ module _ (query : Query) (es : List Edge) (split : es ≡ equalities_of query) (
 
 -- ---- the number of bounds
 
--- there are as many bounds of scans as entries, and as many bounds of sets as sets of entries
 module _ (query : Query) (bounds : ℕ → EntryBounds) (scans : List ℕ) (known : Known) (gives : HasBounds (bounds_in_sets bounds (equalities_of query) (length query.from)) scans known)
     (one_scan : length scans ≡ length query.from) where
   pub known_long : length known.scans ≡ length query.from

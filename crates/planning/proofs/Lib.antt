@@ -2,15 +2,15 @@
 --
 -- Plans from any source
 --
--- Everything here composes: no induction but three over lists, and all goals but one closed at the first check.
+-- Everything here composes. There are only three inductions, over lists, and all goals but one closed at the first check.
 --
 -- - One law for every source, in two halves (`FromLists`): from bounds of all sets and of scans to the plan (`plan_over_lists`), wherever these
 --   bounds come from; and from bounds of entries in a set to the bound of the set (`levels_bound`). For a new source only `StandForLists` and
 --   `BoundLists` have to be shown, for a new shape of plan only the first half. If the bounds of entries are the same in every set, facts on single
 --   columns are enough (`stand_in_every_set`): statistics of tables (`ScanBounds`, `NeverUnder`) and degree lists of listed rows (`ListBounds`) are
 --   instances of a few lines.
--- - A constant function of sets computes: `bounds_of_sets b` is `bounds_in_sets (in_every_set b)`, both `abbrev`s, so laws of the one
---   serve the other without a lemma.
+-- - A constant function of sets computes: `bounds_of_sets b` is `bounds_in_sets (in_every_set b)`, and both are `abbrev`s. So the laws about
+--   `bounds_in_sets` hold for `bounds_of_sets` without a lemma.
 -- - The laws "never too low" are over `entry_bounds`, not over the code's lists (`stand_for_scans` in ScanBounds): what statistics know
 --   is a function, so the laws speak of tables alone, and not of a database, a cell or `EntryLists`. That entries and columns exist
 --   follows from the set: its entries are below n, and both columns of an equality are among the joined ones. So no premise is needed
@@ -36,9 +36,9 @@
 --   (table_stats' `FirstRows`), and relabelling_laws carries domination over to keys that all tables share.
 -- - Each reduced row takes part (`Components`, `Extending`): connection is defined in join_graph, and is proved with a number for each
 --   component, by one induction on the equalities in their order, like `ClosesNoCycleAfter`: the earlier ones come after the rest, in
---   reverse order (`onto` of set_bounds), so no lemma reverses the list. One more equality joins a component with another (a partner,
---   extended there, and the two choices combined by the number of the component), or touches neither. The three cases need
---   `merged_cases` alone.
+--   reverse order (`onto` of set_bounds), so no lemma reverses the list. One more equality may join the row's component with another one.
+--   Then the row's partner is extended to a choice there, and the two choices are combined by the number of the component. Or the equality
+--   joins no entry of the row's component. The three cases need `merged_cases` alone.
 -- - Examples: compute the rounds over literal equalities and scans by `refl`, and join by `ap` (`reduced_from`, `plan_computed`). An answer is
 --   `filter_agree` with one test for all conjuncts (`answer_by`), and then computes. Where an own conjunct asks for the row, `filter_agree` serves
 --   too.
@@ -48,7 +48,7 @@
 -- - Sound and complete are two facts (`IsKnown`, `HaveLists`): each list that is known is the one of the definition, and each joined column has a
 --   list. So adding a list says nothing of the other columns, and the loop's invariant is two facts.
 -- - Bounds are a function of what equalities name (`SameBounds`): `entry_bounds_over` has a list for every column, and the code has lists for joined
---   columns alone. That both give all sets the same bounds is one induction over trees, with `named_in_turn` and `tree_columns` of tree_bounds.
+--   columns alone. One induction over trees shows that both give all sets the same bounds, with `named_in_turn` and `tree_columns` of tree_bounds.
 -- - Cells and values (`SameDegrees`): two rows have equal cells exactly if the first rows with their values are equal, so relabelling_laws gives the
 --   same degree list for both.
 -- - A list in file order of rows below n has at most n rows (`short`), so `AreListsOf` follows from being a family of the scans, and

@@ -1,4 +1,4 @@
--- The choices of a level over lists of scanned rows: they are different, their rows are listed, and along each equality their rows have the same key.
+-- The choices of a level over lists of scanned rows are different, and their rows are listed. Along each equality their rows have the same key.
 use Rattle.std.proofs.Common.{◌≡◌, ℕ, ◌<◌, ◌≤◌, Bool, true, eqb, List, [], ◌∷◌, length, map, get_or, ap, sym, subst, arith, inl, inr}
 use Rattle.std.specs.Prelude.{◌≢◌, AllPairs}
 use Rattle.std.specs.List.{AllByRecursion, Contains, filter}
@@ -28,7 +28,6 @@ use Rattle.join_steps.specs.Lists.{list_at, AreOfScans}
 use Rattle.reduced_scans.proofs.Bridge.{has, has-contains}
 use Rattle.reduced_scans.proofs.FamilyRows.{family_level}
 
--- if all rows of a choice pass a test, the row of each entry passes it
 pass_at : (test : ℕ → ℕ → Bool) (rows : ℕ → ℕ) (order choice : List ℕ) → IsChoiceOf rows order choice → all_pass test order choice ≡ true
     → (entry : ℕ) → is_in order entry ≡ true → test entry (row_in order choice entry) ≡ true
 pass_at test rows [] choice is all entry here = absurd (false≢true here)
@@ -63,7 +62,6 @@ module _ (query : Query) (tables : Tables) (lists : List (List ℕ)) (are : AreO
   abbrev listed : ℕ → ℕ → Bool
   listed entry row = has row (list_at lists entry)
 
-  -- the choices over whole tables whose rows are all listed
   abbrev kept : List (List ℕ)
   kept = filter (all_pass listed order) (query_level query tables order)
 

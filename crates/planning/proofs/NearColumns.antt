@@ -23,7 +23,7 @@ use Rattle.planning.specs.Bounds.{set_bounds_of, whole_columns}
 use Rattle.planning.proofs.Facts.{each_column}
 
 module _ (tables : Tables) where
-  -- a row's value in a column, as a number
+  -- a row's number in its column serves as its key
   abbrev row_number : ℕ → ℕ → ℕ → ℕ
   row_number entry column row = get_or (numbered (column_values tables entry column)) row 0
 

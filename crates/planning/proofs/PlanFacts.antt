@@ -56,7 +56,6 @@ module _ (query : Query) (tables : Tables) (accuracy budget : ℕ) where
     unfolding planned
     level_within k = level_within_budget sets scans (length query.from) budget (one_scan_each query tables accuracy) plan made k
 
-    -- the plan is a plan over the scans, taken as lists
     pub is_plan_of : length query.from ≤ most_entries → budget ≤ most_budget → IsPlanOf query tables (scans_of query tables) plan
     unfolding planned
     is_plan_of few small =

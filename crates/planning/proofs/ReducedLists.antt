@@ -16,7 +16,6 @@ use Rattle.reduced_scans.proofs.Members.{all_has, behind, in_front}
 use Rattle.join_steps.proofs.WholeScans.{length-lists_of, count_of, scan_at}
 use Rattle.reduced_scans.proofs.QueryScans.{scanned_low}
 
--- an ascending list of rows that are at least `from` and below n has at most n - from rows
 short : (rows : List ℕ) (from n : ℕ) → from ≤ n → IsAscending rows → ((row : ℕ) → Contains rows row → (from ≤ row) × (row < n)) → from + length rows ≤ n
 short [] from n fits ascend within = omega (arith, fits)
 short (row ∷ rows) from n fits ascend within =

@@ -24,7 +24,6 @@ use Rattle.query_bounds.proofs.Levels.{scan_fits}
 use Rattle.query_bounds.proofs.Sets.{both_among}
 use Rattle.planning.specs.Standing.{ColumnStands, EntriesStand, JoinedHaveLists}
 
--- if Q holds for both columns of each equality, Q holds for every column that equalities name
 pub named_all : (Q : ℕ → ℕ → Type 0) (es : List Edge)
     → ((k : ℕ) (d : Edge) → k < length es → Q (get_or es k d).left.entry (get_or es k d).left.column × Q (get_or es k d).right.entry (get_or es k d).right.column)
     → EachNamedColumn Q es
@@ -84,7 +83,6 @@ module _ (query : Query) (known : Statistics) where
           ));
     }
 
-  -- if lists of joined columns fall and sum to the numbers of rows, each joined column has its list
   pub have_lists : EachNamedColumn (λ entry column. ListsFall (known.lists entry column) × SumTo (known.lists entry column) (known.counts entry)) (equalities_of query)
       → JoinedHaveLists query (entry_bounds query known)
   have_lists named =

@@ -1,4 +1,4 @@
--- Reduced scans and plans of small tables, by computation.
+-- These examples compute reduced scans and plans of small tables.
 use Rattle.std.proofs.Common.{◌≡◌, ℕ, ◌+◌, true, not, ◌&&◌, ◌||◌, List, [], ◌∷◌, Ok, refl, ap, ◌∙◌, arith}
 use Rattle.std.specs.Prelude.{pos}
 use Rattle.std.specs.List.{list_all, range_with_len}
@@ -82,7 +82,6 @@ pair_plan = plan_computed pair small_tables ((0 ∷ 1 ∷ 2 ∷ []) ∷ (0 ∷ 1
 region_joined : equalities_of by_region ≡ edge_of 0 1 1 0 ∷ []
 region_joined = rw (equality_two 0 1 1 0 (λ e. absurd (omega (arith, e))), equality_literal (column_operand 1 1) (operand.Int (pos 3)) refl) refl
 
--- a row of C passes the own conjunct of C exactly if its REG is 3
 in_region : (row : ℕ) → list_all (λ c. not (names_just c 1) || c.holds (λ e. row)) (conjuncts_of by_region region_tables)
     ≡ (comparison_says region_tables (λ e. row) op.Eq (column_operand 1 1) (operand.Int (pos 3)) && true)
 in_region row =

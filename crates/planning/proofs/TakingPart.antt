@@ -36,7 +36,6 @@ not_none [] x has = absurd (not_in_none x has)
 not_none (y ∷ named) x has = refl
 
 module _ (query : Query) (tables : Tables) (family : List (List ℕ)) (are : AreConsistentScans query tables family) where
-  -- a listed row is a row of its entry's scan
   scanned : (entry row : ℕ) → Contains (list_at family entry) row → Contains (query_scan query tables entry) row
   scanned entry row listed =
       let there : Contains (list_at (scans_of query tables) entry) row = are.is_family.scanned entry row listed in
@@ -52,7 +51,6 @@ module _ (query : Query) (tables : Tables) (family : List (List ℕ)) (are : Are
     connected_to : (other : ℕ) → AreConnected (equalities_of query) entry other → component es other ≡ component es entry
     connected_to other connected = connected_same es entry other (still_connected (equalities_of query) entry other connected)
 
-    -- an equality that names a connected entry holds
     equality_met : (cond : Cond) (other : ℕ) (edge : Edge) → Contains query.conjuncts cond → equality_of cond ≡ Some edge → Contains (entries_named cond) other
         → component es other ≡ component es entry → cond_holds tables e.row_of cond ≡ true
     equality_met cond other edge there is named same =
@@ -67,7 +65,6 @@ module _ (query : Query) (tables : Tables) (family : List (List ℕ)) (are : Are
           ]
         ])
 
-    -- a conjunct that names only a connected entry holds
     own_met : (cond : Cond) (other : ℕ) → Contains query.conjuncts cond → are_within (entries_named cond) (other ∷ []) ≡ true → Contains (entries_named cond) other
         → component es other ≡ component es entry → cond_holds tables e.row_of cond ≡ true
     own_met cond other there alone named same =

@@ -1,4 +1,4 @@
--- The steps of an AND and of an OR, added member by member: after each member the new steps are those of the definition.
+-- The steps of an AND and of an OR are added member by member. After each member the new steps are those of the definition.
 use Rattle.std.proofs.Common.{◌≡◌, ℕ, ◌+◌, ◌<◌, Bool, true, false, ◌||◌, List, [], ◌∷◌, ◌++◌, map, length, take, get_or, refl, ap, sym, ◌∙◌, subst, append_assoc}
 use Rattle.std.proofs.lemmas.List.{take_more, map-append}
 use Rattle.std.proofs.Math.Bool.{or-true, or-false}
@@ -41,7 +41,7 @@ pub last_true : (ys : List (List Step)) → last_steps true ys ≡ more_steps tr
 last_true [] = refl
 last_true (y ∷ ys) = refl
 
--- the steps of an AND are the steps of the members `xs`, and then the steps that end the AND with the members `ys` (those of its ranges)
+-- `ys` has the steps of the AND's ranges, which come last
 all_steps : (xs ys : List (List Step)) → all_of step_answers (xs ++ ys) ≡ more_steps false xs ++ last_steps (is_some_of xs) ys
 all_steps [] [] = refl
 all_steps [] (y ∷ ys) = and_more_steps y ys
@@ -55,7 +55,6 @@ pub or_assoc : (a b c : Bool) → ((a || b) || c) ≡ (a || (b || c))
 or_assoc true b c = refl
 or_assoc false b c = refl
 
--- the members of two conjunctions as one conjunction
 abbrev pub two : Conjunction (List Step) → Conjunction (List Step) → Conjunction (List Step)
 two x y = record { ranges = x.ranges ++ y.ranges; others = x.others ++ y.others }
 
@@ -84,7 +83,6 @@ joined_more (d ∷ cs) c =
     (ap (λ (s : List ranges.Range). record { ranges = s; others = d.others ++ ((one_conjunction cs).others ++ c.others) }) (sym (append_assoc d.ranges (one_conjunction cs).ranges c.ranges))
     ∙ ap (λ (s : List (List Step)). record { ranges = (d.ranges ++ (one_conjunction cs).ranges) ++ c.ranges; others = s }) (sym (append_assoc d.others (one_conjunction cs).others c.others)))
 
--- if the members of the first i conditions were added, and then those of the next condition, the members of i + 1 conditions were added
 pub each_more : (f : Cond → Conjunction (List Step)) (conds : List Cond) (i : ℕ) (cond : Cond) (before between after : Members) (old mid new : List Step)
     → i < length conds → cond ≡ get_or conds i cond
     → IsConjunctionAdded before old between mid (one_conjunction (map f (take i conds))) → IsConjunctionAdded between mid after new (f cond) → IsConjunctionAdded before old after new (one_conjunction (map f (take (i + 1) conds)))
@@ -94,7 +92,6 @@ each_more f conds i cond before between after old mid new low is h k =
     (sym (joined_more (map f (take i conds)) (f cond)) ∙ ap one_conjunction (sym (map-append f (take i conds) (cond ∷ [])) ∙ ap (map f) (sym front)))
     (both_added before between after old mid new (one_conjunction (map f (take i conds))) (f cond) h k)
 
--- if steps `x` and then the steps of `closing` were added, the member with the answer `x` was added
 pub answer_added : (before after : Members) (old mid new x : List Step) → mid ≡ old ++ x → new ≡ mid ++ closing before.some → after.some ≡ true → after.ranges ≡ before.ranges
     → IsConjunctionAdded before old after new (of_answer x)
 answer_added before after old mid new x is closed some same = record {
@@ -123,7 +120,6 @@ answer_steps none after old mid new c fresh empty h closed =
 
 -- ---- the steps of an OR: Nothing, and then for each member its steps and Or
 
--- for each answer its steps and then the step Or
 abbrev pub or_steps : List (List Step) → List Step
 or_steps [] = []
 or_steps (x ∷ xs) = x ++ (step.Or ∷ or_steps xs)
@@ -139,7 +135,6 @@ or_steps_more [] x = refl
 or_steps_more (y ∷ xs) x =
     rw (or_steps_more xs x) (sym (append_assoc y (step.Or ∷ or_steps xs) (x ++ step.Or ∷ [])))
 
--- if the steps of the first i conditions were added, and then those of the next condition and Or, the steps of i + 1 conditions were added
 pub any_more : (f : Cond → List Step) (conds : List Cond) (i : ℕ) (cond : Cond) (old mid next new : List Step) → i < length conds → cond ≡ get_or conds i cond
     → mid ≡ old ++ or_steps (map f (take i conds)) → next ≡ mid ++ f cond → new ≡ next ++ step.Or ∷ [] → new ≡ old ++ or_steps (map f (take (i + 1) conds))
 any_more f conds i cond old mid next new low is so_far more last =

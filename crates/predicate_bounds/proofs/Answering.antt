@@ -14,7 +14,6 @@ use Rattle.predicate_bounds.specs.Runs.{after_step, after_steps}
 use Rattle.predicate_bounds.specs.Steps.{step_answers, steps_of}
 use Rattle.predicate_bounds.proofs.Literals.{value_again, range_of_in}
 
--- running the steps puts the answer on the stack, whatever is on the stack and whatever steps come after
 abbrev Puts : (A : Type 0) → ComparisonAnswers A → List Step → A → Type 0
 Puts A answers steps answer = (rest : List Step) (stack : List A) → after_steps answers (steps ++ rest) stack ≡ after_steps answers rest (answer ∷ stack)
 

@@ -1,4 +1,4 @@
--- The loop of `Members::finish`, which adds the steps of an AND's ranges, one for each column.
+-- `Members::finish` adds the steps of an AND's ranges, one for each column. These lemmas are about its loop.
 use Rattle.std.proofs.Common.{◌≡◌, ℕ, ◌+◌, ◌<◌, Bool, true, false, ◌||◌, eqb, List, [], ◌∷◌, ◌++◌, map, length, take, get_or, ap, sym, ◌∙◌, append_assoc, arith}
 use Rattle.std.specs.List.{list_any}
 use Rattle.std.proofs.lemmas.List.{append-nil}

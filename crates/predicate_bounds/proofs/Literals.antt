@@ -1,4 +1,4 @@
--- A literal made of a value has that value again, and so have ranges.
+-- Values and ranges are as they were after they were turned into literals and back.
 use Rattle.std.proofs.Common.{◌≡◌, List, [], ◌∷◌, map, Option, None, Some, option_map, refl, ap, ◌∙◌}
 use Rattle.csv_tables.specs.Values as values
 use Rattle.csv_tables.specs.Values.{Value}

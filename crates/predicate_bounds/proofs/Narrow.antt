@@ -93,7 +93,6 @@ different_old (y ∷ xs) x h = elim (cases_Bool (list_any (λ c. eqb c x) xs)) [
 abbrev pub columns : List Range → List ℕ
 columns rs = map (λ range. range.column) (map range_of rs)
 
--- the steps for the columns of the first i ranges: for each different column, the intersection of all its ranges
 abbrev pub first_steps : List Range → ℕ → List (List Step)
 first_steps rs i = map step_answers.range (map (intersection_of (map range_of rs)) (different (take i (columns rs))))
 
@@ -112,14 +111,12 @@ is_there rs i column =
     ap (list_any (λ c. eqb c column)) (take-map (λ (range : ranges.Range). range.column) i (map range_of rs) ∙ ap (map (λ (range : ranges.Range). range.column)) (take-map range_of i rs))
     ∙ any_of_columns (take i rs) column
 
--- if an earlier range has the column of range i, then range i adds no step
 pub old_column : (rs : List Range) (i : ℕ) (r : Range) → i < length rs → r ≡ get_or rs i r → list_any (λ range. eqb range.column r.column) (take i rs) ≡ true
     → first_steps rs (i + 1) ≡ first_steps rs i
 old_column rs i r low is there =
     ap (λ (cs : List ℕ). map step_answers.range (map (intersection_of (map range_of rs)) cs))
     (ap different (next_column rs i r low is) ∙ different_old (take i (columns rs)) r.column (is_there rs i r.column ∙ there))
 
--- if range i is the first of its column, it adds the step of the intersection of all ranges of the column
 pub new_column : (rs : List Range) (i : ℕ) (r : Range) → i < length rs → r ≡ get_or rs i r → list_any (λ range. eqb range.column r.column) (take i rs) ≡ false
     → first_steps rs (i + 1) ≡ first_steps rs i ++ step_answers.range (intersection_of (map range_of rs) r.column) ∷ []
 new_column rs i r low is there =

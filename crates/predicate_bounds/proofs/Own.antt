@@ -82,7 +82,8 @@ one_read conds numbers i n c before now after old mid new low at is h k =
     map_more [] = refl
     map_more (x ∷ s) = ap (λ (t : List (Conjunction (List Step))). read x true ∷ t) (map_more s)
 
--- if all own conjuncts were read and the AND was ended, then with the steps Whole and And at the end the steps are those of the definition
+-- Suppose that all own conjuncts were read, that the AND was ended, and that the steps `Whole` and `And` were appended. Then the steps are those of
+-- the definition.
 pub all_read : (from : ℕ) (conds : List Cond) (numbers : List ℕ) (i : ℕ) (before now : Members) (old mid ended whole last : List Step) → numbers ≡ numbers_where (names_just from) 0 conds → length numbers ≤ i
     → before.some ≡ false → before.ranges ≡ [] → old ≡ [] → AreRead conds (take i numbers) before old now mid → ended ≡ mid ++ ending now.some now.ranges
     → whole ≡ ended ++ step.Whole ∷ [] → last ≡ whole ++ step.And ∷ [] → last ≡ steps_of from conds

@@ -54,7 +54,6 @@ pub list_answer : {E : Type 0} (query : Query) (stats : QueryStats) (from column
 list_answer query stats from column lists steps r here tells h =
     told_list query from lists steps r (some_one steps (asked_lists query from lists) (column_steps stats from column) here tells) h
 
--- the list that a column's steps leave is `list_in_stats`
 pub list_here : {E : Type 0} (stats : QueryStats) (from column : ℕ) (steps : List ListStep) (r : Result (List ℕ) E) → column_steps stats from column ≡ Some steps
     → IfOk r (λ list. list ≡ top_of (after_list_steps steps [])) → IfOk r (λ list. list ≡ list_in_stats stats from column)
 list_here stats from column steps r here h =

@@ -1,4 +1,4 @@
--- What a reader of a text returns: the one answer that the text has, or NoMemory.
+-- A reader of a text returns the one answer that the text has, or NoMemory.
 use Rattle.std.proofs.Common.{◌≡◌, ◌⊎◌, ℕ, List, Option, Result, Ok, Err, inl, inr, ap, sym, ◌∙◌, subst}
 use Rattle.schema_types.specs.Texts.{IsSchemaOf}
 use Rattle.schema_types.specs.declared.errors.SchemaError.{SchemaError}
@@ -29,7 +29,6 @@ use Rattle.prepared_runs.specs.declared.shapes.AnyPlan.{AnyPlan}
 use Rattle.safebound_words.specs.declared.command.PlanWork.{PlanWork}
 use Rattle.prepared_runs.proofs.LimitFacts.{kept, stops}
 
--- a value that was read is the value of the text's answer
 pub same_value : {A E : Type 0} (memory : E) (answer : Result A E) (x : A) → (Ok x ≡ Err memory) ⊎ (Ok x ≡ answer) → answer ≡ Ok x
 same_value memory answer x (inl e) = cc
 same_value memory answer x (inr e) = sym e
@@ -70,7 +69,6 @@ query_told s text e is = query_tells (query_answer s text) e (queries.only s tex
 
 -- ---- plans
 
--- a plan that was made is the one of the definition
 pub was_made : (answer : Result AnyPlan PlanError) (p : AnyPlan) → (Ok p ≡ Err plan.NoMemory) ⊎ (Ok p ≡ answer) → answer ≡ Ok p
 was_made answer p h = same_value plan.NoMemory answer p h
 
@@ -108,7 +106,6 @@ module _ (limit : Option ℕ) (outcome : AnyPlan → RunOutcome) (answer : Resul
   planned_told e h = plan_tells limited answer e h
 
 module _ (task : PlanWork) (schema : Schema) (query : Query) (rows : List (List Row)) (t : Tables) (same : tables_in rows ≡ t) where
-  -- the plan over the rows is the plan over the tables of the database
   over_rows : plan_asked task schema query (tables_in rows) ≡ plan_asked task schema query t
   over_rows = ap (plan_asked task schema query) same
 

@@ -22,7 +22,6 @@ use Rattle.prepared_runs.specs.StatsFiles.{stats_stage}
 use Rattle.prepared_runs.specs.RunOutcome.{Appended, AppendedRows, NoBoundIsTooLow, RunOutcome, StandsForMore}
 use Rattle.prepared_runs.proofs.StatsFileRuns.{stats_keep}
 
--- if P holds for the first step's value, and with it Q for the second step's value, then Q holds for the value of both steps in a row
 pub then_ok : {A B : Type 0} (P : A → Type 0) (Q : B → Type 0) (r : Result A Refusal) (f : A → Result B Refusal) → IfOk r P → ((x : A) → P x → IfOk (f x) Q) → IfOk (r >>= f) Q
 then_ok P Q (Ok x) f first next = next x first
 then_ok P Q (Err s) f first next = tt

@@ -1,4 +1,4 @@
--- The stages of `append`: each function does what its stage of the verdict says.
+-- Each function of `append` does what its stage of the verdict says.
 use Rattle.std.proofs.Common.{◌≡◌, ℕ, ◌+◌, ◌<◌, ◌≤◌, Bool, true, false, if◌then◌else◌, inl, inr, List, [], length, get_or, Option, None, Some, Result, Ok, Err, refl, ap, sym, ◌∙◌, subst, arith}
 use Rattle.std.specs.Prelude.{IfErr, IfOk, IsOkAnd, find, nat_le}
 use Rattle.std.specs.List.{All}
@@ -138,7 +138,6 @@ module _ {store : Reading} (name : List ℕ) (schema : Schema) (stats : StatsFil
 
 -- ---- the section, and then the new rows
 
--- a step that reads nothing satisfies `Reads`, if it stops as its stage does
 unread : {A : Type 0} (store : Reading) (stage : Files → Result A Refusal) (C : Files → FileId → Type 0) (e : Ending) → ((files : Files) → StopsBy (stage files) e)
     → store.misses_after ≡ store.misses_before → store.faults_before ≤ store.faults_after → store.files_after ≡ store.files → Reads store stage C (Err e)
 unread store stage C (ending.Refused r) tells misses later same = record {

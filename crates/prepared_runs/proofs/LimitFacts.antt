@@ -1,4 +1,4 @@
--- Which plans a limit of memory lets through, and which it refuses.
+-- A limit of memory lets a plan through if the plan's bytes are within the limit, and refuses it otherwise.
 use Rattle.std.proofs.Common.{◌≡◌, ◌≤◌, ℕ, Bool, true, false, Option, None, Some, Result, Ok, Err, refl, ap, ◌∙◌, arith}
 use Rattle.std.specs.Prelude.{nat_le, if◌then◌else◌, IfOk}
 use Rattle.std.proofs.lemmas.Bool.Decides.{nat_tests}
@@ -49,19 +49,16 @@ most_if most n is = grind (arith, nat_tests)
 -- ---- a value that is let through or refused by a limit, if there is one
 
 module _ {A : Type 0} where
-  -- if a value was let through, it is unchanged, and `bytes` is within the limit
   pub within_ok : (limit : Option ℕ) (bytes : ℕ) (x y : A) → within_limit limit bytes x ≡ Ok y → (x ≡ y) × IsWithinLimit limit bytes
   unfolding tested
   within_ok None bytes x y e = (cc, tt)
   within_ok (Some limit) bytes x y e = let its = test_ok (nat_le bytes limit) bytes x y e in (its.1, most_if limit bytes its.0)
 
-  -- if P holds for a value whose bytes are within the limit, then P holds for a value that is let through
   pub within_so : (P : A → Type 0) (limit : Option ℕ) (bytes : ℕ) (x : A) → (IsWithinLimit limit bytes → P x) → IfOk (within_limit limit bytes x) P
   unfolding tested
   within_so P None bytes x h = h tt
   within_so P (Some limit) bytes x h = test_so P (nat_le bytes limit) bytes x (λ is. h (most_if limit bytes is))
 
-  -- if the test of the bytes passes, every value is let through
   pub kept : (limit : Option ℕ) (bytes : ℕ) (x : A) → limit_test limit bytes ≡ Ok tt → within_limit limit bytes x ≡ Ok x
   unfolding tested
   kept None bytes x e = refl

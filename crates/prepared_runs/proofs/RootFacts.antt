@@ -35,7 +35,6 @@ and_false : (b : Bool) → (b && false) ≡ false
 and_false true = refl
 and_false false = refl
 
--- the root isn't a leaf of a tree with several leaves
 root_alone : (n : ℕ) (plan : BushyPlan) → IsTreePlan n plan → is_joined_leaf plan (node_count plan - 1) ≡ false
 root_alone n plan is = elim (cases_lt 1 (length plan.scans)) [
   | inl several ↦ ap (λ (b : Bool). b && ltb 1 (length plan.scans)) (le-ltb (node_count plan - 1) (length plan.scans) (omega (arith, several, is.scans, is.joins)))

@@ -60,7 +60,6 @@ is_ok : {A : Type 0} (r : Result A Refusal) → IfOk r (λ x. r ≡ Ok x)
 is_ok (Ok x) = refl
 is_ok (Err s) = tt
 
--- if P holds for the value of an answer, then P still holds after the answer's error was turned into a refusal
 ok_so : {A E : Type 0} (P : A → Type 0) (f : E → Refusal) (r : Result A E) → ((x : A) → r ≡ Ok x → P x) → IfOk (told f r) P
 ok_so P f (Ok x) h = h x refl
 ok_so P f (Err e) h = tt
@@ -77,7 +76,6 @@ schema_ok name files =
     any_ok IsValid (read file.Schema 1048576 name files) schema_of_text
     (λ text. ok_so IsValid schema_refusal (schema_answer text) (λ schema e. schemas.valid text schema e))
 
--- a run whose query names its own entries alone, with the rows and the plan that its source gives
 pub record IsRun (run : AcceptedQuery) : Type 0 where
   pub own : NamesItsEntries run.query
   pub lists : run.lists ≡ lists_by run.source run.query (tables run)
@@ -86,7 +84,6 @@ pub record IsRun (run : AcceptedQuery) : Type 0 where
   pub limit : IsWithinLimit run.memory (shape_bytes run.plan)
   pub scans : (accuracy : ℕ) × ((entry : ℕ) → get_or (scan_bounds run.plan) entry 0 ≡ get_or (scans_by run.source run.query (tables run) accuracy) entry 0)
 
--- the outcome is sound: a planned run satisfies `IsRun`, and for the other outcomes the promises hold themselves
 abbrev IsSound : RunOutcome → Type 0
 IsSound (Planned run) = IsRun run
 IsSound (StatsMade made_stats) = NoBoundIsTooLow (StatsMade made_stats)

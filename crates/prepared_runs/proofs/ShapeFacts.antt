@@ -1,4 +1,4 @@
--- A plan of either shape, by the bounds that a source gives: its bounds hold, and it joins each entry once.
+-- A plan of either shape is made by the bounds that a source gives. Its bounds hold, and it joins each entry once.
 use Rattle.std.proofs.Common.{◌≡◌, ℕ, ◌+◌, ◌-◌, ◌<◌, ◌≤◌, List, Result, Ok, Err, eqb, length, get_or, refl, ap, sym, ◌∙◌, subst, arith}
 use Rattle.std.specs.Prelude.{◌≢◌}
 use Rattle.std.specs.List.{AllByRecursion, IsDistinct}
@@ -69,7 +69,6 @@ pub never_wants_memory : (shape : Shape) (given : Sourced) (accuracy budget : �
 unfolding planned_by
 never_wants_memory shape given accuracy budget = no_want shape (given.sets accuracy) (given.scans accuracy) budget
 
--- if the code has the bounds that a source gives, then the best plan by them is that of the definition
 pub planned_known : (shape : Shape) (given : Sourced) (accuracy budget : ℕ) (known : Known) → HasBounds (given.sets accuracy) (given.scans accuracy) known
     → answer_of shape known.sets known.scans budget ≡ planned_by shape given accuracy budget
 unfolding planned_by
@@ -90,7 +89,6 @@ answer_is_plan shapes.Tree sets scans n budget long some few plan made =
 
 -- ---- a plan by the bounds that a source gives
 
--- the plan is for the query's entries, and no list and no part has more rows than the plan says
 pub record Fits (query : Query) (tables : Tables) (lists : List (List ℕ)) (made : AnyPlan) : Type 0 where
   pub plan : IsShapedPlan (length query.from) made
   pub scans : (entry : ℕ) → entry < length query.from → rows_listed lists entry ≤ get_or (scan_bounds made) entry 0
@@ -174,7 +172,6 @@ module _ (query : Query) (tables : Tables) (given : Sourced) (is : IsSource quer
     unfolding planned_by
     scan_is_given entry = answer_keeps shape plan made entry
 
--- if a plan's bounds fit some lists, no list and no part over them has more rows than its bound
 pub over_fits : (query : Query) (tables : Tables) (lists : List (List ℕ)) (plan : AnyPlan) → IsPlanOver query tables lists plan
     → IsShapedPlan (length query.from) plan × (length (scan_bounds plan) ≡ length query.from)
     × ((entry : ℕ) → entry < length query.from → rows_listed lists entry ≤ get_or (scan_bounds plan) entry 0)

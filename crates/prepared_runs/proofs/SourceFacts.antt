@@ -1,4 +1,4 @@
--- The bounds and lists that each source gives: the lists lose no row of the answer, and no bound is too low.
+-- The lists that each source gives lose no row of the answer, and no bound that a source gives is too low.
 use Rattle.std.proofs.Common.{◌≡◌, ℕ, ◌^◌, List, length, None, ap, sym, ◌∙◌}
 use Rattle.std.proofs.lemmas.List.FromFn.{length-map-range_with_len}
 use Rattle.std.proofs.Math.Seq.{take-length}
@@ -55,7 +55,6 @@ module _ (query : Query) (tables : Tables) where
         ∙ sym (ap (λ (placed : List ℕ). level_of (conjuncts_of query tables) (row_counts tables) placed) (take-length order));
   }
 
-  -- no row of the answer is lost by the rows that are joined, whatever the tables are
   pub rows_kept : (source : ListSource) → LoseNoRow query tables (lists_by source query tables)
   unfolding lists_by
   rows_kept sources.Columns = whole_rows
@@ -63,7 +62,6 @@ module _ (query : Query) (tables : Tables) where
   rows_kept sources.Reduced = reduced_rows
   rows_kept sources.Counted = reduced_rows
 
-  -- no scan has more rows than its bound
   pub scans_bound : (source : ListSource) (accuracy : ℕ) → BoundLists query tables (lists_by source query tables) (scans_by source query tables accuracy)
   unfolding lists_by scans_by
   scans_bound sources.Columns accuracy = told_bound query tables accuracy
@@ -84,7 +82,6 @@ module _ (query : Query) (tables : Tables) where
       length-map-range_with_len (counted_bound (counted_of query tables (reduced_of query tables)) query tables (reduced_of query tables)) 0 (2 ^ length query.from)
 
   module _ (schema : Schema) where
-    -- if the tables have what the source needs, no level has more rows than the bound of its set
     levels_bound : (source : ListSource) → Needs source schema query tables → (accuracy : ℕ)
         → BoundLevels query tables (lists_by source query tables) (sets_by source schema query tables accuracy)
     unfolding sets_by lists_by
@@ -94,7 +91,6 @@ module _ (query : Query) (tables : Tables) where
         λ subset order fits o. level_never_under_over query tables (reduced_of query tables) accuracy subset order (reduced_of_scans query tables) fits o
     levels_bound sources.Counted needs accuracy = counted_levels
 
-    -- each set has its bound
     pub all_sets : (source : ListSource) (accuracy : ℕ) → length (sets_by source schema query tables accuracy) ≡ 2 ^ length query.from
     unfolding sets_by
     all_sets sources.Columns accuracy = many (in_every_set (entry_bounds query (statistics_of tables accuracy)))

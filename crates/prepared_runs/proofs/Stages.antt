@@ -1,4 +1,4 @@
--- The stages of the verdict: each function does what its stage says.
+-- Each function does what its stage of the verdict says.
 use Rattle.std.proofs.Common.{◌≡◌, ℕ, ◌⊎◌, inl, inr, List, Result, Ok, Err, ap, sym, ◌∙◌, subst}
 use Rattle.std.specs.Prelude.{IfOk, IfErr, IsOkAnd}
 use Rattle.base_io.specs.Files.{Files}
@@ -81,7 +81,6 @@ module _ {store : Reading} (task : PlanWork) (schema : Schema) (query : Query) (
   tables_ran rows (Ok p) is tells h = then_gives store (tables_stage schema query.from) (plan_stage task schema query) C C rows (planned_outcome p) is h
   tables_ran rows (Err e) is tells h = then_tells store (tables_stage schema query.from) (plan_stage task schema query) C C rows e tells h
 
--- if the work is the one that is asked for, then a function that does the work does what is asked
 pub work_done : {store : Reading} (asked work : Work) (schema : Schema) (query : Query) (answer : Result RunOutcome Ending) → asked ≡ work
     → Reads store (work_run work schema query) (IsWorkFile work schema query) answer
     → Reads store (work_run asked schema query) (IsWorkFile asked schema query) answer
@@ -108,7 +107,6 @@ module _ (name : List ℕ) (work : Work) (schema : Schema) where
       AtQueryOrFile query answer meets
       (λ files id is at'. inr (subst (λ (r : Result Query Refusal). IsOkAnd r (λ q. IsWorkFile work schema q files id)) (sym is) at')) h k
 
--- if the aim is the one that is asked for, then a function that does the aim does what is asked
 pub aim_done : {store : Reading} (asked aim : Aim) (schema : Schema) (answer : Result RunOutcome Ending) → asked ≡ aim
     → Reads store (aim_run aim schema) (IsAimFile aim schema) answer → Reads store (aim_run asked schema) (IsAimFile asked schema) answer
 aim_done {store} asked aim schema answer is h =

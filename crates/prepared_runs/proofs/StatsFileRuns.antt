@@ -44,7 +44,6 @@ use Rattle.prepared_runs.proofs.SourceFacts.{file_is_source}
 
 -- ---- a file of tables
 
--- the rows of an entry are those of its table
 row_of_entry : (from : List Source) (rows : List (List Row)) (entry : ℕ) → entry < length from
     → tables_in (rows_by_entry from rows) entry ≡ get_or rows (place_of (tables_of_query from) (get_or (numbers_of from) entry 0)) []
 row_of_entry from rows entry low =
@@ -112,7 +111,6 @@ module _ (schema : Schema) (query : Query) (of : IsOf schema query) (stats : Sta
     there_so None none = planned_so none (plan_from_file_asked terms query stats) refl
     there_so (Some from) is = tt
 
-    -- Q holds for the plan, if Q follows from these two facts: no bound of the plan is too low, and the plan is within its limit
     pub filed_plan_holds : IfOk (stats_file_plan_stage terms query stats) Q
     unfolding stats_file_plan_stage
     filed_plan_holds = there_so (first_missing query stats) refl

@@ -1,4 +1,4 @@
--- The stages of statistics files: each function does what its stage says.
+-- Each function on statistics files does what its stage of the verdict says.
 use Rattle.std.proofs.Common.{◌≡◌, ◌⊎◌, ℕ, inl, inr, List, Option, None, Result, Ok, Err, ap, sym, ◌∙◌, subst}
 use Rattle.std.specs.Prelude.{IfErr, IfOk}
 use Rattle.base_io.specs.Files.{Files}

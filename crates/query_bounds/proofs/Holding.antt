@@ -79,7 +79,6 @@ rows_more query known i rows old new held is set others lists = record {
         ap (rows_of new) same ∙ set ∙ ap Some (is ∙ ap (scan_rows query known) (sym same))
         ∙ choose true (ltb entry (i + 1)) (scan_rows query known entry) (sym (lt-ltb entry (i + 1) (omega arith)))
 
--- the row bound that a call returns is the known one, and the call is allowed
 pub rows_told : (query : Query) (stats : QueryStats) (known : Statistics) (entry rows : ℕ) → Tells query stats known → entry < length query.from
     → ((q : Query) (lists : ColumnLists) (counts : RowCounts) → HasRowLists q stats entry lists → SumTo lists counts → rows ≡ row_bound counts entry q.conjuncts)
     → rows ≡ scan_rows query known entry
@@ -94,7 +93,6 @@ has_first query stats known entry tells low =
 
 -- ---- adding the list of one column
 
--- `is_among` for places and one more place: the column is among the places, or at the one more place
 among_more : (places : List Place) (place : Place) (entry column : ℕ) → is_among (places ++ place ∷ []) entry column ≡ (is_among places entry column || (is_at entry column place || false))
 among_more places place entry column = list_any-append (is_at entry column) places (place ∷ [])
 
@@ -176,7 +174,6 @@ pub pair_told : (query : Query) (stats : QueryStats) (known : Statistics) (items
 pair_told query stats known items tells is i d low =
     pair_at (TellsColumn query stats known) items (subst (EachNamedColumn (TellsColumn query stats known)) (sym is) tells.columns) i d low
 
--- after a call has added the list of one column, `lists` holds this column too
 pub added : (query : Query) (stats : QueryStats) (known : Statistics) (n : ℕ) (places : List Place) (place : Place) (old new : EntryLists) → TellsColumn query stats known place.entry place.column
     → HoldsKnown query known n places old
     → ((q : Query) (lists : ColumnLists) → HasLists q stats place.entry place.column lists
@@ -186,7 +183,7 @@ pub added : (query : Query) (stats : QueryStats) (known : Statistics) (n : ℕ) 
 added query stats known n places place old new told held set others rows =
     list_more query known n places place old new held (set query (known.lists place.entry place.column) told.lists) others rows
 
--- a value for indexes past the last equality
+-- `no_edge` is the default for reading past the last equality
 abbrev pub no_edge : Edge
 no_edge = record { left = record { entry = 0; column = 0 }; right = record { entry = 0; column = 0 } }
 

@@ -30,7 +30,6 @@ use Rattle.query_bounds.specs.Statistics.{AreWhole, Statistics}
 use Rattle.query_bounds.proofs.Holding.{pair_at}
 use Rattle.query_bounds.proofs.Sets.{both_among}
 
--- if all elements of a falling list are above 0, so are those of its compressed list
 from_positive : (k : ℕ) (f : List ℕ) → IsFalling f → All (λ x. 0 < x) f → (n m : ℕ) → AllByRecursion (λ x. 0 < x) (compressed_from k f n m)
 from_positive k f falls positive zero m = tt
 from_positive k f falls positive (suc n) m =

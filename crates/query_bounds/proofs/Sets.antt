@@ -45,7 +45,6 @@ next_or : (a b c : Bool) → b ≡ true → (a || (b || c)) ≡ true
 next_or true b c h = refl
 next_or false b c h = rw h refl
 
--- both columns of an equality are among those that equalities join
 pub both_among : (es : List Edge) (k : ℕ) (d : Edge) → k < length es
     → (is_among (places_of es) (get_or es k d).left.entry (get_or es k d).left.column ≡ true) × (is_among (places_of es) (get_or es k d).right.entry (get_or es k d).right.column ≡ true)
 both_among [] k d low = absurd (omega arith)
@@ -61,7 +60,6 @@ both_among (e ∷ es) (suc k) d low =
       or_more (is_at r.entry r.column e.left) (is_at r.entry r.column e.right) (is_among (places_of es) r.entry r.column) later.1,
     )
 
--- so every set has the row bounds and the lists that its bound needs
 pub all_listed : (query : Query) (known : Statistics) (n : ℕ) (es : List Edge) (lists : EntryLists) → HoldsKnown query known n (places_of es) lists → SetIsListed lists es (2 ^ n - 1)
 all_listed query known n es lists held = record {
   rows = each_in_set (λ k. IsSome (rows_of lists k)) (2 ^ n - 1) (λ k low has. is_some_of (rows_of lists k) (scan_rows query known k)

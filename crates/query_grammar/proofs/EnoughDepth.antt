@@ -89,7 +89,6 @@ inside_alike n limit c c' stay same x rest h within =
     then_alike (Within (suc n) limit) c c' (read_word terminal.Close) (read_word terminal.Close) stay same (itself_alike (Within (suc n) limit) (read_word terminal.Close)) rest deeper in
     rw h (ap (λ (y : Answer (CondNode × Lexeme)). (y >>= λ b. give (x, b)) >>= λ parts. give (middle parts)) e)
 
--- if two readers of tests are alike inside one more parenthesis, the readers with one more depth are alike
 deeper_alike : (a b n limit : ℕ) → AreAlikeOn (Within (suc n) limit) (read_test a) (read_test b) → (text : List Lexeme) → Within n limit text → (opens : Bool) → starts (terminal.Open ∷ []) text ≡ opens → read_test (suc a) text ≡ read_test (suc b) text
 deeper_alike a b n limit same text within false e = test_flat (suc a) text e ∙ sym (test_flat (suc b) text e)
 deeper_alike a b n limit same [] within true e = absurd cc
@@ -98,7 +97,6 @@ deeper_alike a b n limit same (x ∷ rest) within true e =
     let stay = stays_within (suc n) limit (reads_cond (reads_test a)) (conds_balanced (tests_balanced a)) in
     opened a x rest e ∙ inside_alike n limit (read_cond (read_test a)) (read_cond (read_test b)) stay alike x rest e within ∙ sym (opened b x rest e)
 
--- if n parentheses are open, and both depths are enough for `limit` parentheses, the readers of tests are alike
 pub test_alike : (a b n limit : ℕ) → limit ≤ n + a → limit ≤ n + b → AreAlikeOn (Within n limit) (read_test a) (read_test b)
 test_alike zero b n limit le le' text within = let h = none_opens n limit text (omega arith) within in test_flat zero text h ∙ sym (test_flat b text h)
 test_alike (suc a) zero n limit le le' text within = let h = none_opens n limit text (omega arith) within in test_flat (suc a) text h ∙ sym (test_flat zero text h)

@@ -101,7 +101,6 @@ module _ (P : Lexeme → Type 0) where
       keeps_union (keeps_made everything (IsOutListOf P) (keeps_word P terminal.Star) (λ star q. tt))
       (keeps_made these_outs (IsOutListOf P) (keeps_listed terminal.Comma out_of) (λ list q. q))
 
-  -- if every token of the text has P, then every token of its tree has P
   pub query_of : Keeps P QuerySpecification (IsQueryOf P)
   unfolding QuerySpecification IsQueryOf
   query_of =

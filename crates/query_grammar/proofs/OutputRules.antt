@@ -68,7 +68,6 @@ to_outs text v l = at l.2.second where
     },
   )
 
--- an output that is a column with an optional new name, as its first name and what follows
 from_column : (text front rest : List Lexeme) (c : ColumnNode) (new : Option Lexeme) (v : OutNode) → one_column (c, new) ≡ v → text ≡ front ++ rest → NewName rest new
     → (name : Lexeme) (other : Option Lexeme) → column (name, other) ≡ c → Then Name (maybe (made second (word terminal.Dot ▸ Name))) front (name, other) → Factored text v
 from_column text front rest c new v e whole l name None made_ t = (

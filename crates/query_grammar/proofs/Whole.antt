@@ -1,4 +1,4 @@
--- What the parser returns for a whole list of tokens that is nested no deeper than the limit.
+-- These lemmas say what the parser returns for a whole list of tokens that is nested no deeper than the limit.
 use Rattle.std.proofs.Common.{◌≡◌, ℕ, ◌≤◌, true, false, List, [], ◌∷◌, Some, None, refl, sym, ◌∙◌, arith}
 use Rattle.ll_grammars.specs.declared.lexeme.Lexeme.{Lexeme}
 use Rattle.ll_grammars.specs.declared.terminal.Terminal.TheVariants as terminal

@@ -39,7 +39,6 @@ use Rattle.query_names.proofs.LookSteps.{looked_of_equal, then_looked, flat_map_
 -- ---- one operand
 
 module _ (binder : Binder) (scope : Scope) where
-  -- if a reference stands for a column, an operand made of this column is bound
   pub bound_column : (reference : ColumnNode) (column : EntryColumn) (to : ColumnRef) {o : OperandNode} {text : Bool} {begins : Lexeme}
       → o ≡ operand.Column reference → Some column ≡ resolved_by binder scope reference → (column.from < 256 → to ≡ resolved_column (Some column))
       → text ≡ is_text column.kind → begins ≡ head_of reference
@@ -100,7 +99,6 @@ module _ {binder : Binder} {scope : Scope} where
   unfolding compared_by operand_by
   value_is {left} {right} {l} {r} how lb rb few = ap (λ v. cond.Compare how v r.value) (lb.value few) ∙ ap (λ v. cond.Compare how (operand_by binder scope left) v) (rb.value few)
 
-  -- what is bound is the left operand of the test
   bound_left : (t : TestNode) {o left : OperandNode} {l : BoundOperand} → o ≡ left_of t → left_of t ≡ left → IsBound binder scope o l → IsBound binder scope left l
   bound_left t {l = l} from is bound = subst (λ o. IsBound binder scope o l) (from ∙ is) bound
 
@@ -183,7 +181,6 @@ in_looked {binder} {scope} {t} {o} {left} negated {values} {items} {l} {held} {m
           ∙ equal_values binder scope left values)
           (then_looked (noted list) looked)
 
--- if the equalities with the first i values were added, and then that with the next value, those with i + 1 values were added
 pub equality_more : {binder : Binder} (l : BoundOperand) (values : List LiteralNode) {i : ℕ} (d : LiteralNode) {other : BoundOperand} {held mid held' : HeldOffences} {found between found' : List Cond}
     → i < length values
     → Looked binder [] (flat_map (wrong_literal l.is_text) (take i values)) [] held mid found between (map (equal_to binder.text.now l.value) (take i values))

@@ -20,11 +20,9 @@ use Rattle.query_names.proofs.TestFacts.{tests_chain, tests_not, tests_test}
 use Rattle.query_names.proofs.Meanings.{value_and, value_or, value_not, members_or, members_not}
 use Rattle.query_names.proofs.LookSteps.{looked_of_equal, looked_wrapped}
 
--- a condition that is a test has this test alone
 pub alone : (f : TestNode → List ℕ) (t : TestNode) {c : CondNode} → c ≡ text.Test t → f t ≡ flat_map f (tests c)
 alone f t is = sym (append-nil (f t)) ∙ ap (flat_map f) (sym (ap tests is ∙ tests_test t))
 
--- the tests of an AND, or of an OR, are the tests of its members
 pub of_and : {c : CondNode} {members items : List CondNode} → c ≡ text.And members → items ≡ members → flat_map tests items ≡ tests c
 of_and {c} {members} is same = ap (flat_map tests) same ∙ sym (tests_chain c members (inl is))
 

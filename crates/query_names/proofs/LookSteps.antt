@@ -1,4 +1,5 @@
--- How `Looked` facts (the state after some tests were checked) compose: from one part of a condition and the next part to both together.
+-- `Looked` is the state after some tests were checked. These lemmas go from the states of one part of a condition and the next part to the state of
+-- both together.
 use Rattle.std.proofs.Common.{◌≡◌, ℕ, ◌+◌, ◌<◌, ◌≤◌, List, [], ◌∷◌, ◌++◌, length, take, drop, get_or, None, ap, subst, sym, ◌∙◌, refl}
 use Rattle.std.proofs.lemmas.List.{append_assoc, append-nil, take_more, take_all, take-append-drop, flat_map_more}
 use Rattle.std.proofs.lemmas.Grind.{flat_map-append}
@@ -16,7 +17,6 @@ use Rattle.query_names.specs.Binding.{from_of, test_offences_of}
 use Rattle.query_names.specs.Looking.{Looked, LookedAt}
 use Rattle.query_names.proofs.Walk.{left_at, or_first_append, or_first-nil, none_before, error_behind, name_error_append}
 
--- in a `Looked` fact, lists may be replaced by equal lists
 pub looked_of_equal : {binder : Binder} {names names' kinds kinds' lists lists' : List ℕ} {held held' : HeldOffences} {found found' more more' : List Cond}
     → names ≡ names' → kinds ≡ kinds' → lists ≡ lists' → (length (from_of binder) ≤ 12 → more ≡ more')
     → Looked binder names kinds lists held held' found found' more → Looked binder names' kinds' lists' held held' found found' more'
@@ -69,7 +69,6 @@ module _ (binder : Binder) (scope : Scope) where
       → LookedAt binder scope (flat_map tests cs) held held' found found' (more cs)
   looked_all cs {i} {held} {held'} {found} {found'} more done l = subst (λ taken. LookedAt binder scope (flat_map tests taken) held held' found found' (more taken)) (take_all i cs done) l
 
-  -- if no condition before place i has a wrong name, the name error of condition i is that of the whole list
   pub wrong_in : (cs : List CondNode) {i : ℕ} (d : CondNode) (e : QueryError)
       → i < length cs → flat_map (test_offences_of binder scope) (flat_map tests (take i cs)) ≡ []
       → IsNameError (flat_map (test_offences_of binder scope) (tests (get_or cs i d))) e → IsNameError (flat_map (test_offences_of binder scope) (flat_map tests cs)) e

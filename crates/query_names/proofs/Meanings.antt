@@ -1,4 +1,4 @@
--- The meaning of a condition of a text, from the meanings of its parts.
+-- The meaning of a condition of a text follows from the meanings of its parts.
 use Rattle.std.proofs.Common.{◌≡◌, ℕ, zero, suc, ◌<◌, ◌≤◌, List, [], ◌∷◌, ◌++◌, length, map, Some, ap, subst, sym, ◌∙◌, refl, arith}
 use Rattle.std.specs.Prelude.{slice_get, true, false}
 use Rattle.query_grammar.specs.declared.tree.ColumnNode.{ColumnNode}

@@ -16,13 +16,11 @@ use Rattle.schema_types.specs.Names.{place_of}
 use Rattle.query_names.specs.Names.{column_in, column_named, column_at, column_names, aliases}
 use Rattle.query_names.specs.Scopes.{only, in_scope, numbered, is_in, entry_at, entry_named, column_alone, resolved, resolve}
 
--- `entry` has the number and the table of a FROM entry of the query
 pub record IsEntry (from : List Source) (entry : Entry) : Type 0 where
   pub source : Source
   pub there : slice_get from entry.number ≡ Some source
   pub same : source.table ≡ entry.table
 
--- the column that was found is one of a FROM entry's table
 pub record Stands (schema : Schema) (from : List Source) (found : EntryColumn) : Type 0 where
   pub source : Source
   pub entry : slice_get from found.from ≡ Some source

@@ -42,7 +42,7 @@ abbrev pub as_list : {A : Type 0} → Option A → List A
 as_list None = []
 as_list (Some x) = x ∷ []
 
--- ---- a third entry of a table changes no first two columns
+-- ---- a third entry of a table doesn't change the first two columns
 
 abbrev found_at : ℕ → ℕ → Kind → EntryColumn
 found_at from number kind = record { from = from; column = number; kind = kind }
@@ -57,7 +57,6 @@ column_named_alike a b table name = at (place_of (column_names table) name) wher
   at None = refl
   at (Some n) = there (slice_get table.columns n) n
 
--- whether an entry's table has a column of a name depends on the table alone
 column_alike : (schema : Schema) (name : List ℕ) (a b : Entry) → a.table ≡ b.table → is_some (column_in schema name a) ≡ is_some (column_in schema name b)
 unfolding column_in
 column_alike schema name a b same = at (slice_get schema.tables a.table) (slice_get schema.tables b.table) (ap (slice_get schema.tables) same) where
@@ -67,7 +66,6 @@ column_alike schema name a b same = at (slice_get schema.tables a.table) (slice_
   at (Some s) None same = cc
   at (Some s) (Some t) same = column_named_alike a.number b.number s name ∙ ap (λ o. is_some (option_and_then (λ table. column_named b.number table name) o)) same
 
--- if an entry's table has a column of a name, then `brief` has at most as many entries of this table as columns of this name
 pub table_columns : (schema : Schema) (name : List ℕ) (entry : Entry) (brief : List Entry) → is_some (column_in schema name entry) ≡ true
     → count_by (λ e. e.table == entry.table) brief ≤ length (columns_in schema name brief)
 table_columns schema name entry [] has = omega arith
@@ -164,7 +162,6 @@ third_not_shown binder old new d shows begins ends next two kept = record {
       ∙ shown_more binder old new d name shows begins ends next;
 }
 
--- the same facts with the values of the code
 abbrev next_of : Visible → Visible → Visible
 next_of old v = record { scope = record { first = v.scope.first; end = old.scope.end + 1 }; brief = v.brief }
 

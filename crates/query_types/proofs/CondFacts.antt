@@ -1,5 +1,5 @@
--- Facts about a condition from its parts: the entries that it names, and properties of every layer. A layer is an operator of the condition
--- with its operands.
+-- These lemmas give facts about a condition from its parts: the entries that it names, and properties of every layer. A layer is an operator of the
+-- condition with its operands.
 use Rattle.std.proofs.Common.{◌≡◌, ℕ, Bool, List, [], ◌∷◌, ◌++◌, map, ap, sym, ◌∙◌, subst}
 use Rattle.std.specs.List.{flat_map, All, AllByRecursion}
 use Rattle.std.proofs.lemmas.List.Elements.{All-from_recursion}
@@ -84,7 +84,6 @@ pub both_parts : (P : ℕ → Type 0) (a b : List ℕ) → AllByRecursion P a �
 both_parts P [] b h k = k
 both_parts P (x ∷ a) b h k = (h.0, both_parts P a b h.1 k)
 
--- if the entries of each comparison have P, then all entries that the condition names have P
 module _ (Q : Cond-F Cond → Type 0) (P : ℕ → Type 0) (one : (op : Op) (left right : Operand) → Q (layer.Compare op left right) → AllByRecursion P (entries_of_operand left ++ entries_of_operand right)) where
   abbrev Named : Cond → Type 0
   Named c = every-Cond Q c → AllByRecursion P (entries_named c)
@@ -104,7 +103,6 @@ module _ (Q : Cond-F Cond → Type 0) (P : ℕ → Type 0) (one : (op : Op) (lef
       let inner : Cond-F Cond = map-Cond ((c : Cond) × Named c) Cond (λ e. e.0) y in
       subst (AllByRecursion P) (sym (fold-roll-Cond (List ℕ) entries_step inner)) (layers y h)))
 
--- if the entry of each column has P, then all entries that a typed condition names have P
 module _ (IsColumn : ColumnRef → Bool → Type 0) (P : ℕ → Type 0) (column_entry : (column : ColumnRef) (text : Bool) → IsColumn column text → P column.from) where
   operand_entry : (o : Operand) (text : Bool) → IsOfKind IsColumn o text → AllByRecursion P (entries_of_operand o)
   operand_entry (operand.Column column) text h = (column_entry column text h, tt)

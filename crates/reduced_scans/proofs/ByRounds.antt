@@ -102,7 +102,6 @@ module _ (scans : List (List ℕ)) (es : List Edge) (equal : Edge → ℕ → �
       ap (λ (s : List ℕ). s ∷ round_from es equal family (suc first) lists) (filter_stays (finds_all es equal family first) list (omega (arith, same, some, rest)))
       ∙ ap (λ (s : List (List ℕ)). list ∷ s) (round_stays family lists (suc first) (omega (arith, same, some, rest)))
 
-  -- if a round changes nothing, no further round changes anything
   settled : (count : ℕ) (family : List (List ℕ)) → round family ≡ family → after_rounds es equal count family ≡ family
   settled zero family same = refl
   settled (suc count) family same = ap (λ (f : List (List ℕ)). after_rounds es equal count f) same ∙ settled count family same
@@ -128,7 +127,6 @@ module _ (scans : List (List ℕ)) (es : List Edge) (equal : Edge → ℕ → �
 
   -- ---- rounds keep that the lists are a family, and that they contain every consistent family
 
-  -- `family` contains the rows of every consistent family
   abbrev Contained : List (List ℕ) → Type 0
   Contained family = (other : List (List ℕ)) → IsConsistent scans es equal other → (entry row : ℕ) → Contains (list_at other entry) row → Contains (list_at family entry) row
 

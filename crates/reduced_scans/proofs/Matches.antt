@@ -27,7 +27,6 @@ in_one x row has = elim (in_cases row x [] has) [
   | inr there ↦ absurd (not_in_none row there)
 ]
 
--- the list of an entry has the choice's row of this entry alone
 kept_is : (choice : List ℕ) (e row : ℕ) → Contains (list_at (singles choice) e) row → (e < length choice) × (get_or choice e 0 ≡ row)
 kept_is choice e row has = elim (cases_lt e (length choice)) [
   | inl within ↦ (within, in_one (get_or choice e 0) row (subst (λ l. Contains l row) (single_at choice e within) has))

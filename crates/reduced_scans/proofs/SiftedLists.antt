@@ -1,4 +1,4 @@
--- Semi-joins of lists that are kept in buffers.
+-- These lemmas are about semi-joins of lists that are kept in buffers.
 use Rattle.std.proofs.Common.{◌≡◌, ℕ, ◌<◌, ◌≤◌, true, List, [], ◌∷◌, Some, length, set, refl, ap, sym, ◌∙◌, subst, arith, inl, inr}
 use Rattle.std.specs.Prelude.{All, slice_get}
 use Rattle.std.proofs.lemmas.Bool.{cases_eq}
@@ -20,7 +20,6 @@ use Rattle.join_steps.proofs.WholeScans.{length-lists_of}
 use Rattle.level_bounds.proofs.NearWhole.{all_kept}
 use Rattle.reduced_scans.proofs.OfQuery.{read_list}
 
--- the list that the code gets from the buffers is that of the definition
 pub got_list : (lists : List (Rows ℕ)) (entry : ℕ) (list : Rows ℕ) → slice_get lists entry ≡ Some list → list.items ≡ list_at (lists_of lists) entry
 got_list lists entry list got = read_list lists entry list (slice_get_within lists entry list got) (sym (get_or_from_slice_get lists entry list list got))
 

@@ -54,7 +54,6 @@ module _ (scans : List (List ℕ)) (equalities : List Edge) (equal : Edge → �
 
 module _ (scans : List (List ℕ)) (equalities : List Edge) (key : Keys) (equal : Edge → ℕ → ℕ → Bool) (tells : TellsByKey scans equalities key equal)
     (old new : List (List ℕ)) (e : Edge) (on : Bool) (there : Contains equalities e) (joined : IsJoinedAt key (near e on) (near e (opposite on)) old new) (sifted : IsSifted scans equalities equal old) where
-  -- a row of the new list was in the old list
   was_there : (entry row : ℕ) → Contains (list_at new entry) row → Contains (list_at old entry) row
   was_there entry row has = elim (cases_eq entry (near e on).entry) [
     | inl same ↦ (let here : Contains (list_at new (near e on).entry) row = subst (λ (k : ℕ). Contains (list_at new k) row) same has in
@@ -70,7 +69,7 @@ module _ (scans : List (List ℕ)) (equalities : List Edge) (key : Keys) (equal 
     | inr other ↦ subst IsAscending (sym (joined.elsewhere entry other)) (sifted.is_family.ascending entry)
   ]
 
-  -- a row of a consistent family stays: it has a partner in the family, and this partner is in the list of the other side and has the row's key
+  -- A row of a consistent family stays. It has a partner in the family, and this partner is in the list of the other side and has the row's key.
   stays : (family : List (List ℕ)) → IsConsistent scans equalities equal family → (row : ℕ) → Contains (list_at family (near e on).entry) row → Contains (list_at new (near e on).entry) row
   stays family consistent row has =
       let partner : HasPartner (equal_from equal e on) (list_at family (near e (opposite on)).entry) row = partners scans equalities key equal tells family e on consistent there row has in

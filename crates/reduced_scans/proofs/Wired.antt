@@ -1,4 +1,4 @@
--- Uses that are added row by row, side by side and equality by equality.
+-- Uses are added row by row, side by side and equality by equality. These lemmas say which uses and values there are after each step.
 use Rattle.std.proofs.Common.{◌≡◌, ℕ, zero, suc, ◌+◌, ◌*◌, ◌<◌, ◌≤◌, Bool, true, false, List, [], ◌∷◌, ◌++◌, Some, length, get_or, refl, ap, sym, ◌∙◌, subst, arith, inl, inr, append-nil, append_assoc, length-append}
 use Rattle.std.specs.Prelude.{◌⊎◌, All, slice_get, slice_index}
 use Rattle.std.specs.List.{Contains}
@@ -92,7 +92,6 @@ adds_one equality on first cells list count old mid new old_uses mid_uses new_us
 -- ---- the uses of one more equality
 
 module _ (scans : List (List ℕ)) (equalities : List Edge) (key : Keys) (number : ℕ) (e : Edge) (numbered : IsNumbered equalities number e) where
-  -- the uses of all rows on one side of the equality were added
   abbrev AddsSide : Bool → List ℕ → Classes → Classes → List Use → List Use → Type 0
   AddsSide on cells old new old_uses new_uses =
       AddsUses number on (first_item scans (near e on).entry) cells (list_at scans (near e on).entry) (length (list_at scans (near e on).entry)) old new old_uses new_uses
@@ -112,7 +111,6 @@ module _ (scans : List (List ℕ)) (equalities : List Edge) (key : Keys) (number
     is_use = use_later old new is.number is.on (key_on key (near is.edge is.on) (row_at scans (near is.edge is.on).entry is.place)) (first_item scans (near is.edge is.on).entry + is.place) u begins is.is_use;
   }
 
-  -- a use that was added for a side is the use of a row on this side
   side_sound : (on : Bool) (cells : List ℕ) (old new last : Classes) (old_uses new_uses : List Use) → AreKeysOf on cells → AddsSide on cells old new old_uses new_uses → ValuesBeginWith new last
       → (u : Use) → Contains new_uses u → Contains old_uses u ⊎ IsUseForRow scans equalities key last (number + 1) u
   side_sound on cells old new last old_uses new_uses keys adds begins u has = elim (adds.sound u has) [

@@ -22,7 +22,6 @@ at_within m [] i each = omega arith
 at_within m (n ∷ ns) zero each = All-head (λ n. n ≤ m) n ns each
 at_within m (n ∷ ns) (suc i) each = at_within m ns i (All-tail (λ n. n ≤ m) n ns each)
 
--- if each list has at most most_rows rows, the chains of each entry take at most 64,000,000 bytes
 chains_within : (lists entries : List ℕ) → All (λ rows. rows ≤ most_rows) lists → sum (map row_chain_bytes (map (λ entry. get_or lists entry 0) entries)) ≤ length entries * 64000000
 chains_within lists entries each =
     let whole = sum-map row_chain_bytes (map (λ entry. get_or lists entry 0) entries) in

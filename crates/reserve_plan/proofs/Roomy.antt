@@ -32,7 +32,6 @@ zip_each [] (m ∷ ms) long each = absurd (omega arith)
 zip_each (n ∷ ns) [] long each = absurd (omega arith)
 zip_each (n ∷ ns) (m ∷ ms) long each = (each 0 (omega arith), zip_each ns ms (omega arith) (λ i low. each (suc i) (omega arith)))
 
--- if the relation holds for a number and also for every lower number, the first list may be replaced by a list of lower numbers
 zip_less : {B : Type 0} (R : ℕ → B → Type 0) → ((n m : ℕ) (y : B) → n ≤ m → R m y → R n y) → (ns ms : List ℕ) (ys : List B) → AllZip ◌≤◌ ns ms → AllZip R ms ys → AllZip R ns ys
 zip_less R less [] [] ys low all = all
 zip_less R less [] (m ∷ ms) ys low all = absurd low

@@ -57,7 +57,6 @@ found_at entry column (x ∷ lists) P each l e = by (is_of entry column x) refl 
     by false is h rest = rest h
 
 module _ (rows : List ℕ) (equalities : List Equality) (lists : List ColumnList) (runs : List Run) (right : IsRight rows equalities lists runs) where
-  -- a column with a list has runs that are right
   given_right : (entry column : ℕ) → list_any (is_of entry column) lists ≡ true → (l : ColumnList) × (find (is_of entry column) lists ≡ Some l) × AreRight (runs_of runs l)
   given_right entry column any = by (find (is_of entry column) lists) refl (found entry column lists any)
     where
@@ -87,7 +86,6 @@ module _ (rows : List ℕ) (equalities : List Equality) (lists : List ColumnList
         h (equality_at equalities k).right_entry (equality_at equalities k).right_column (right.equalities_right.each k here).right (right.listed k here).right,
       )
 
-  -- every set has the row bounds and lists that its bound needs
   pub all_listed : (held : EntryLists) → HoldsListed rows (length rows) lists runs held → SetIsListed held (edges_of equalities) (2 ^ length rows - 1)
   all_listed held h = record {
     rows = each_in_set (λ k. IsSome (rows_of held k)) (2 ^ length rows - 1) (λ k low has.
@@ -103,7 +101,6 @@ module _ (rows : List ℕ) (equalities : List Equality) (lists : List ColumnList
           some_of (list_held held entry column) (fitted (get_or rows entry 0) (list_of (runs_of runs l.0)))
           (h.columns entry column ∙ ap (λ (o : Option ColumnList). option_map (fitted (get_or rows entry 0)) (list_if runs o)) l.1)
 
-  -- the list of a column is its own list, fitted to the entry's rows
   known_list : (entry column : ℕ) (l : ColumnList) → find (is_of entry column) lists ≡ Some l → (known rows lists runs).list entry column ≡ fitted (get_or rows entry 0) (list_of (runs_of runs l))
   known_list entry column l is = ap (λ (o : Option ColumnList). fitted_if (get_or rows entry 0) (list_if runs o)) is
 
@@ -138,25 +135,21 @@ narrowed_again (x ∷ xs) f =
     let same : in_64_bits (saturated (f x)) ≡ in_64_bits (f x) = omega arith in
     ap (λ y. y ∷ map in_64_bits (map (λ x. saturated (f x)) xs)) same ∙ ap (λ (ys : List ℕ). in_64_bits (f x) ∷ ys) (narrowed_again xs f)
 
--- the bounds of the code, cut off at 64 bits, are those of the definition
 pub told_narrowed : (b : ℕ → EntryBounds) (es fs : List Edge) (n : ℕ) (bounds : List ℕ) → es ≡ fs → bounds ≡ bounds_in_sets b es n → map in_64_bits bounds ≡ all_bounds b fs n
 told_narrowed b es fs n bounds like is =
     ap (map in_64_bits) is
     ∙ narrowed_again (range_with_len 0 (2 ^ n)) (λ subset. bound_of_set (b subset) es subset)
     ∙ ap (λ (x : List Edge). all_bounds b x n) like
 
--- the number of bounds
 pub how_many : (b : ℕ → EntryBounds) (es : List Edge) (n : ℕ) (bounds : List ℕ) → bounds ≡ bounds_in_sets b es n → length bounds ≡ 2 ^ n
 how_many b es n bounds is = ap length is ∙ length-map-range_with_len (λ (subset : ℕ). bound_told (b subset) es subset) 0 (2 ^ n)
 
--- if the room is filled with the bounds of the code, it is filled with those of the definition
 pub whole_filled : (b : ℕ → EntryBounds) (es fs : List Edge) (n : ℕ) (told bounds old new : List ℕ) (count : ℕ) → es ≡ fs → told ≡ bounds_in_sets b es n → bounds ≡ told
     → count ≡ length told → IsFilled (map in_64_bits bounds) old new (length bounds) → IsFilled (all_bounds b fs n) old new count
 whole_filled b es fs n told bounds old new count like is same counted filled =
     subst (λ (s : List ℕ). IsFilled s old new count) (ap (map in_64_bits) same ∙ told_narrowed b es fs n told like is)
     (subst (IsFilled (map in_64_bits bounds) old new) (ap length same ∙ sym counted) filled)
 
--- one bound of the code, cut off at 64 bits, is that of the definition
 pub one_narrowed : (b : ℕ → EntryBounds) (es fs : List Edge) (subset bound result : ℕ) → es ≡ fs → bound ≡ bound_told (b subset) es subset → result ≡ in_64_bits bound
     → result ≡ bound_in b fs subset
 one_narrowed b es fs subset bound result like is told =
@@ -169,7 +162,6 @@ either_told n bound told low is = elim (cases_lt bound (2 ^ 64 - 1)) [
   | inr large ↦ inr (omega (arith, is, large))
 ]
 
--- a filled room has the bound of a set at the set's index
 pub told_in_room : (b : ℕ → EntryBounds) (es : List Edge) (n : ℕ) (old new : List ℕ) (count : ℕ) → IsFilled (all_bounds b es n) old new count → (subset : ℕ) → subset < 2 ^ n
     → get_or new subset 0 ≡ bound_in b es subset
 told_in_room b es n old new count filled subset fits =
@@ -213,7 +205,6 @@ module _ (rows : List ℕ) (equalities : List Equality) (lists : List ColumnList
 
 module _ (rows : List ℕ) (equalities : List Equality) (lists : List ColumnList) (runs : List Run) (right : IsRight rows equalities lists runs)
     (full : (i : ℕ) → i < length lists → IsFull rows runs (list_at lists i)) where
-  -- in a column with a list, each row has a value
   column_full : (entry column : ℕ) → list_any (is_of entry column) lists ≡ true → get_or rows entry 0 ≤ rows_with_value lists runs (record { entry = entry; column = column })
   column_full entry column any =
       let l = given_right rows equalities lists runs right entry column any in

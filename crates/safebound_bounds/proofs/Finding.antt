@@ -1,4 +1,4 @@
--- Facts for loops: the first item that passes a test, small numbers, and the images of the first items.
+-- These lemmas are for loops. They are about the first item that passes a test, about small numbers, and about the images of the first items.
 use Rattle.std.proofs.Common.{◌≡◌, ℕ, zero, suc, ◌+◌, ◌<◌, ◌≤◌, Bool, true, false, cond, List, [], ◌∷◌, ◌++◌, length, take, drop, get_or, map, Some, None, find, refl, ap, sym, ◌∙◌, add-one, arith}
 use Rattle.std.proofs.lemmas.List.{take_more}
 

@@ -1,4 +1,4 @@
--- Lists fitted to a number of rows: they fall, their elements are positive, and their sum is the number of rows.
+-- A list that is fitted to a number of rows falls, its elements are positive, and its sum is the number of rows.
 use Rattle.std.proofs.Common.{◌≡◌, ℕ, zero, suc, ◌+◌, ◌-◌, ◌<◌, ◌≤◌, min, List, [], ◌∷◌, ◌++◌, length, take, get_or, replicate, ap, sym, ◌∙◌, subst, sum, arith}
 use Rattle.std.specs.List.{AllByRecursion}
 use Rattle.std.proofs.lemmas.List.{append-nil, take_all, take_more}
@@ -74,7 +74,7 @@ fitted_falls rows s fall = falls_on (cut_at s rows) 1 (rows - sum (cut_at s rows
 
 -- ---- the fitted list as the code makes it
 
--- a list of positive elements is no longer than its sum, so there is room for as many ones as rows are left
+-- A list of positive elements is no longer than its sum. So there is room for as many ones as rows are left.
 pub no_longer : (s : List ℕ) → AllByRecursion (λ x. 0 < x) s → length s ≤ sum s
 no_longer s all = no_more_than_sum s (one_or_more s all)
 

@@ -25,7 +25,6 @@ use Rattle.safebound_bounds.proofs.InParts.{looks_at_parts}
 use Rattle.safebound_bounds.proofs.MetRows.{in_set_counted, right_in_set}
 
 module _ (rows : List ℕ) (equalities : List Equality) (lists : List ColumnList) (runs : List Run) (right : IsRight rows equalities lists runs) where
-  -- all sets have the row bounds and lists that their bounds need
   pub whole_listed : (held : EntryLists) (es : List Edge) → es ≡ edges_of equalities → HoldsListed rows (length rows) lists runs held → SetIsListed held es (2 ^ length rows - 1)
   whole_listed held es same holds =
       subst (λ (fs : List Edge). SetIsListed held fs (2 ^ length rows - 1)) (sym same) (all_listed rows equalities lists runs right held holds)
@@ -33,7 +32,6 @@ module _ (rows : List ℕ) (equalities : List Equality) (lists : List ColumnList
   pub looks : (es : List Edge) → es ≡ edges_of equalities → LooksAtParts (known_in rows lists runs (edges_of equalities)) es
   looks es same = subst (λ (fs : List Edge). LooksAtParts (known_in rows lists runs (edges_of equalities)) fs) (sym same) (looks_at_parts rows lists runs (edges_of equalities))
 
-  -- if the sum of every list is at least its entry's row bound, the bounds that are made with one `EntryLists` for all sets are those of `known_in`
   pub full_told : {E : Type 0} (held : EntryLists) (es : List Edge) → HoldsListed rows (length rows) lists runs held → ((i : ℕ) → i < length lists → IsFull rows runs (list_at lists i))
       → (r : Result (List ℕ) E) → IfOk r (λ bounds. bounds ≡ bounds_of_sets (bounds_of held) es (length rows))
       → IfOk r (λ bounds. bounds ≡ bounds_in_sets (known_in rows lists runs (edges_of equalities)) es (length rows))

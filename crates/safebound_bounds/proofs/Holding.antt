@@ -49,7 +49,6 @@ rows_more rows i bound old new held is set others lists = record {
 pub rows_there : (rows : List ℕ) (n : ℕ) (lists : List ColumnList) (runs : List Run) (held : EntryLists) → HoldsListed rows n lists runs held → (entry : ℕ) → entry < n → rows_of held entry ≡ Some (get_or rows entry 0)
 rows_there rows n lists runs held h entry low = h.entries entry ∙ choose (ltb entry n) true (get_or rows entry 0) (lt-ltb entry n low)
 
--- without lists the runs don't matter
 pub without_lists : (rows : List ℕ) (n : ℕ) (runs : List Run) (held : EntryLists) → HoldsListed rows n [] [] held → HoldsListed rows n [] runs held
 without_lists rows n runs held h = record { entries = h.entries; columns = h.columns }
 

@@ -22,7 +22,6 @@ use Rattle.safebound_bounds.proofs.SameBounds.{HaveOneBound, HaveOneList, same_b
 -- ---- the row bound of an entry of a part
 
 module _ (lists : List ColumnList) (runs : List Run) (subset part : ℕ) (within : IsWithin part subset) (entry : ℕ) (has : has_entry part entry ≡ true) where
-  -- both entries of the equality are in the part, or both are outside
   abbrev OnOneSide : Edge → Type 0
   OnOneSide e = has_entry part e.left.entry ≡ has_entry part e.right.entry
 

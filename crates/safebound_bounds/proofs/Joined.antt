@@ -1,5 +1,5 @@
--- A choice that satisfies the equalities of a set takes rows that have values in the columns of these equalities. So it is a choice of such
--- rows, and the row bounds and lists of the set fit these rows.
+-- A choice that satisfies the equalities of a set takes rows that have values in the columns of these equalities. So the row bounds and lists of the
+-- set have to fit these rows alone, and they do.
 use Rattle.std.proofs.Common.{◌≡◌, ℕ, ◌<◌, ◌≤◌, Bool, true, false, ◌&&◌, eqb, List, [], ◌∷◌, length, map, get_or, Option, Some, None, refl, sym, subst, arith, inl, inr}
 use Rattle.std.specs.Prelude.{if◌then◌else◌, is_some, unwrap_or}
 use Rattle.std.specs.List.{AllByRecursion, Contains, filter, range_with_len}
@@ -42,11 +42,9 @@ module _ (tables : ValuedTables) where
   abbrev with_values : List Edge → ℕ → List ℕ
   with_values es entry = filter (has_values entry es) (range_with_len 0 (tables.rows entry))
 
-  -- the key of a row with a value
   abbrev key : ℕ → ℕ → ℕ → ℕ
   key entry column row = unwrap_or (value_at entry column row) 0
 
-  -- a row that passes has a value in each joined column of its entry
   module _ (entry row : ℕ) where
     at_one : (p : Place) → has_value entry row p ≡ true → p.entry ≡ entry → value_at p.entry p.column row ≡ Some (key p.entry p.column row)
     at_one p has here = by (eqb p.entry entry) refl has
@@ -132,8 +130,8 @@ module _ (tables : ValuedTables) where
     abbrev tested : ℕ → List ℕ
     tested = with_values own
 
-    -- let a column be one that the set's equalities name. A key is at most as frequent among the rows with values as in the column, and these
-    -- rows are at most as many as the column's values
+    -- Let a column be one that the set's equalities name. A key is at most as frequent among the rows with values as in the column, and these rows
+    -- are at most as many as the column's values.
     few_keys : (p : Place) → Contains (places_of own) p
         → ((a : ℕ) → degree (map (key p.entry p.column) (tested p.entry)) a ≤ degree (present (tables.values p.entry p.column)) a)
         × (length (tested p.entry) ≤ length (present (tables.values p.entry p.column)))

@@ -1,5 +1,5 @@
--- How many rows of an entry the equalities of a set can join (`rows_met`). This number is at most the entry's row bound. It is at least the
--- number of rows that have values in all the columns.
+-- `rows_met` is how many rows of an entry the equalities of a set can join. This number is at most the entry's row bound. It is at least the number
+-- of rows that have values in all the columns.
 use Rattle.std.proofs.Common.{◌≡◌, ℕ, suc, ◌+◌, ◌<◌, ◌≤◌, min, Bool, true, false, cond, eqb, List, [], ◌∷◌, length, map, get_or, refl, sym, subst, inl, inr, arith}
 use Rattle.std.specs.Prelude.{if◌then◌else◌}
 use Rattle.std.specs.List.{AllByRecursion, range_with_len}
@@ -32,7 +32,6 @@ module _ (lists : List ColumnList) (runs : List Run) (entry : ℕ) where
       let left : ℕ = fewer_at lists runs entry e.left n in
       omega (arith, met_at_most es (fewer_at lists runs entry e.right left), fewer_at_most e.right left, fewer_at_most e.left n)
 
-  -- at least m rows have a value in the column, if the column is the entry's
   abbrev pub HasAtLeast : ℕ → Place → Type 0
   HasAtLeast m p = p.entry ≡ entry → m ≤ rows_with_value lists runs p
 
@@ -49,7 +48,6 @@ module _ (lists : List ColumnList) (runs : List Run) (entry : ℕ) where
       met_at_least es m (fewer_at lists runs entry e.right (fewer_at lists runs entry e.left n))
       (fewer_at_least e.right m (fewer_at lists runs entry e.left n) (fewer_at_least e.left m n low has.0) has.1.0) has.1.1
 
-  -- the number by one equality and then the others is the number by all of them
   pub met_one : (subset : ℕ) (e : Edge) (es : List Edge) (n : ℕ)
       → rows_met lists runs entry (equalities_within subset es) (rows_met lists runs entry (equalities_within subset (e ∷ [])) n)
       ≡ rows_met lists runs entry (equalities_within subset (e ∷ es)) n
@@ -81,7 +79,6 @@ module _ (rows : List ℕ) (lists : List ColumnList) (runs : List Run) (es : Lis
     | inr past ↦ omega (arith, in_set_past entry past)
   ]
 
-  -- the lowered row bounds are right, since the row bounds are right
   pub right_in_set : (equalities : List Equality) → IsRight rows equalities lists runs → IsRight (rows_in_set rows lists runs es subset) equalities lists runs
   right_in_set equalities right = record {
     rows_right = record {
@@ -101,6 +98,5 @@ module _ (rows : List ℕ) (lists : List ColumnList) (runs : List Run) (es : Lis
       let here : f i ≡ x = subst (λ (k : ℕ). f k ≡ x) (omega arith) (same 0 (omega arith)) in
       rw (here, same_list_of f xs (i + 1) (λ k low. subst (λ (n : ℕ). f n ≡ get_or xs k 0) (omega arith) (same (suc k) (omega arith)))) refl
 
-  -- if the number of each entry is its row bound, the row bounds stay as they are
   pub all_rows : ((entry : ℕ) → entry < length rows → met_of entry ≡ get_or rows entry 0) → rows_in_set rows lists runs es subset ≡ rows
   all_rows same = same_list_of met_of rows 0 (λ k low. subst (λ (n : ℕ). met_of n ≡ get_or rows k 0) (omega arith) (same k low))

@@ -1,5 +1,5 @@
--- The rows that have a value in each joined column. A key is at most as frequent among these rows as among the values of the column. So a
--- list that dominates the values, cut at the number of these rows, dominates their keys.
+-- These lemmas are about the rows that have a value in each joined column. A key is at most as frequent among these rows as among the values of the
+-- column. So a list that dominates the values, cut at the number of these rows, dominates their keys.
 use Rattle.std.proofs.Common.{◌≡◌, ℕ, zero, suc, ◌+◌, ◌-◌, ◌<◌, ◌≤◌, Bool, true, false, cond, eqb, List, [], ◌∷◌, ◌++◌, length, map, get_or, replicate, Option, Some, None, refl, sym, subst, sum, arith, inl, inr}
 use Rattle.std.specs.Prelude.{unwrap_or}
 use Rattle.std.specs.List.{Contains, IsDistinct, filter, range_with_len, sum_by}
@@ -44,7 +44,6 @@ few_pass t n = no_more_pass t 0 n
 degree-cons : (key : ℕ) (keys : List ℕ) (a : ℕ) → degree (key ∷ keys) a ≡ cond (eqb key a) 1 0 + degree keys a
 degree-cons key keys a = sum_by-cons (λ (k : ℕ). cond (eqb k a) 1 0) key keys
 
--- each row that passes the test has a value, and this value is its key
 module _ (t : ℕ → Bool) (key : ℕ → ℕ) where
   abbrev HaveKeys : ℕ → List (Option ℕ) → Type 0
   HaveKeys i values = (k : ℕ) → k < length values → t (i + k) ≡ true → get_or values k None ≡ Some (key (i + k))
@@ -91,8 +90,6 @@ module _ (t : ℕ → Bool) (key : ℕ → ℕ) where
       by false is None first rest = rest
       by false is (Some x) first rest = omega (arith, rest)
 
-  -- let each row that passes the test have its value as its key. Then a key is at most as frequent among these rows as among the values, and
-  -- there are at most as many of these rows as values
   pub keys_are_values : (values : List (Option ℕ)) → ((k : ℕ) → k < length values → t k ≡ true → get_or values k None ≡ Some (key k))
       → ((a : ℕ) → degree (passing 0 (length values)) a ≤ degree (present values) a) × (length (filter t (range_with_len 0 (length values))) ≤ length (present values))
   keys_are_values values have =
@@ -103,7 +100,6 @@ module _ (t : ℕ → Bool) (key : ℕ → ℕ) where
 
 -- ---- lists that dominate
 
--- different picked keys occur together at most as often as there are keys
 weighs_within : (keys picked : List ℕ) → IsDistinct eqb picked → sum_by (degree keys) picked ≤ length keys
 weighs_within keys picked distinct =
     omega (
@@ -122,8 +118,6 @@ module _ (keys others : List ℕ) (fewer : (a : ℕ) → degree keys a ≤ degre
   weighs_less : (picked : List ℕ) → sum_by (degree keys) picked ≤ sum_by (degree others) picked
   weighs_less picked = sum_by-le-sum_by (degree keys) (degree others) picked fewer
 
-  -- a list that dominates all values also dominates keys that occur at most as often. This is still so if the list is cut at a number of rows
-  -- that is at least the number of keys
   pub cut_dominates : (rows : ℕ) → length keys ≤ rows → (o : Option (List ℕ)) → DominatesKeys (unwrap_or o []) others → DominatesKeys (fitted_if rows o) keys
   cut_dominates rows within None dominates = keys_dominated [] keys (λ picked distinct. omega (arith, weighs_less picked, degrees_dominated [] others dominates picked distinct))
   cut_dominates rows within (Some list) dominates =

@@ -35,12 +35,10 @@ pub done_so : (P : Type 0) (answer : Result ℕ Refusal) (status : ℕ) → stat
 done_so P (Ok count) status is zero h = h
 done_so P (Err why) status is zero h = absurd (refused_so why (sym is ∙ zero))
 
--- a fact that holds in any case also holds after a refusal
 pub kept_always : (P : Type 0) (answer : Result ℕ Refusal) → P → OnErr answer P
 kept_always P (Ok count) held = tt
 kept_always P (Err why) held = held
 
--- if the status is 0, the number in `*detail` is the number that the call computes
 pub done_at : (P : ℕ → Type 0) (answer : Result ℕ Refusal) (status told old : ℕ) → status ≡ status_of answer → told ≡ detail_of answer old → status ≡ 0 → IfOk answer P → P told
 done_at P (Ok count) status told old is tells zero h = subst P (sym tells) h
 done_at P (Err why) status told old is tells zero h = absurd (refused_so why (sym is ∙ zero))

@@ -1,5 +1,5 @@
--- In these proofs a stream's text begins with a number, the name of its room, and then has the bytes. What is proved about such streams is
--- also true of the streams of the bytes alone.
+-- In these proofs a stream's text begins with a number, the name of its room, and then has the bytes. What is proved about these streams is also true
+-- of the streams of the bytes alone.
 use Rattle.std.proofs.Common.{◌≡◌, ℕ, List, [], ◌∷◌, ◌++◌, Option, None, Some, Result, Ok, Err, refl, ap, sym, ◌∙◌, subst}
 use Rattle.std.specs.Prelude.{IsOkAnd, codes}
 use Rattle.base_io.specs.Devices.{Growth, Reading}
@@ -12,13 +12,11 @@ use Rattle.prepared_runs.specs.RunOutcome.{RunOutcome}
 use Rattle.safebound_top.specs.OutcomeTexts.{notes_text, out_text}
 use Rattle.prepared_runs.specs.Verdict.{verdict}
 
--- the bytes after the name
 abbrev pub behind : Option (List ℕ) → Option (List ℕ)
 behind None = None
 behind (Some []) = Some []
 behind (Some (name ∷ text)) = Some text
 
--- a stream whose text begins with this name and these bytes, and then a stream that begins with the bytes alone
 abbrev pub with_name : ℕ → List ℕ → Option (List ℕ) → ℕ → ℕ → Growth
 with_name name before after faults faults_after = record {
   taken_before = Some (name ∷ before);
@@ -85,13 +83,11 @@ was_cut_and_told_behind : (name : ℕ) (before : List ℕ) (after : Option (List
 was_cut_and_told_behind name before after f f' None line h = h
 was_cut_and_told_behind name before after f f' (Some text) line h = cut_behind name before after text line h
 
--- a line that was written after an optional text
 told_after_behind : (name : ℕ) (before : List ℕ) (after : Option (List ℕ)) (f f' : ℕ) (text : Option (List ℕ)) (line : List ℕ)
     → GrewOrWasCut (grown (Some (name ∷ before)) text) after f f' line → GrewOrWasCut (grown (Some before) text) (behind after) f f' line
 told_after_behind name before after f f' None line h = tells_behind name before after f f' line h
 told_after_behind name before after f f' (Some text) line h = tells_behind name (before ++ text) after f f' line h
 
--- if P implies Q, and P holds for the value of a result, then Q holds for it
 and_more : {A E : Type 0} (P Q : A → Type 0) (r : Result A E) → ((x : A) → P x → Q x) → IsOkAnd r P → IsOkAnd r Q
 and_more P Q (Ok x) more h = more x h
 and_more P Q (Err e) more h = h
@@ -110,7 +106,6 @@ LeftByCutOut out notes line outcome = WasCut out (out_text outcome)
 
 -- ---- the headline
 
--- the call with streams that begin with names, and the call with streams of the bytes alone
 module _ (words : List (List ℕ)) (status : Status) (store : Reading)
     (out_name : ℕ) (out_before : List ℕ) (out_after : Option (List ℕ)) (o o' : ℕ)
     (notes_name : ℕ) (notes_before : List ℕ) (notes_after : Option (List ℕ)) (n n' : ℕ) where

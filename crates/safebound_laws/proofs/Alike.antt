@@ -55,7 +55,6 @@ test_alike : (test : Bool) (r : Refusal) (x y : RunOutcome) → printed x ≡ pr
 test_alike true r x y same = ap (λ (p : Option (List ℕ) × Option (List ℕ)). Ok p) same
 test_alike false r x y same = refl
 
--- if two outcomes print the same, they print the same under a limit of memory
 limits_alike : (memory : Option ℕ) (bytes : ℕ) (x y : RunOutcome) → printed x ≡ printed y
     → seen printed (within_limit memory bytes x) ≡ seen printed (within_limit memory bytes y)
 limits_alike None bytes x y same = ap (λ (p : Option (List ℕ) × Option (List ℕ)). Ok p) same
@@ -64,7 +63,6 @@ limits_alike (Some limit) bytes x y same = test_alike (nat_le bytes limit) (refu
 -- ---- the stages after the query
 
 module _ (query : Query) (file : StatsFile) (rows : List (List Row)) (terms : PlanTerms) (accuracy : ℕ) where
-  -- the outcome of a plan from the file, and then that of a plan from the tables
   by_file : Result AnyPlan PlanError → Result RunOutcome Refusal
   by_file answer = planned_within terms.memory (made_from_file terms query file) answer
 
@@ -132,7 +130,6 @@ module _ (schema_file query_file : List ℕ) (files : Files) (schema : Schema) (
 
 -- ---- the file that `stats` writes
 
--- the schema, the query and the rows from which a statistics file is made
 pub record FileMade (schema_file query_file : List ℕ) (accuracy : ℕ) (files : Files) (written : RunOutcome) : Type 0 where
   pub schema : Schema
   pub schema_is : schema_stage schema_file files ≡ Ok schema

@@ -45,7 +45,6 @@ no_texts : IsPool []
 unfolding IsDistinct
 no_texts = record { utf8 = All-nil IsUtf8; once = tt }
 
--- if `or_missing` gives a section, this section was found
 found_section : (found : Option TableStats) (section : TableStats) → or_missing found ≡ Ok section → found ≡ Some section
 found_section None section is = absurd (cc)
 found_section (Some s) section is = (let same : s ≡ section = cc in ap Some same)
@@ -137,7 +136,6 @@ module _ (file : StatsFile) (table : ℕ) (new : List Row) where
         (rest.0, rw e rest.1))
   ]
 
-  -- a table that has a section after the append had one before
   pub section_before : (t : ℕ) (section : TableStats) → find (λ (s : TableStats). s.table == t) (file_after file table new).tables ≡ Some section
       → (old : TableStats) × (find (λ (s : TableStats). s.table == t) file.tables ≡ Some old)
   section_before t section found = found_before file.tables t section found

@@ -34,7 +34,6 @@ use Rattle.safebound_laws.proofs.TableCells.{IsPool, TableFound, table_found}
 
 -- ---- the cells of tables, one table after another
 
--- cells of tables with these rows; their texts are in a pool that began with the old texts
 record EachFound (schema : Schema) (numbers : List ℕ) (rows : List (List Row)) (old : List (List ℕ)) : Type 0 where
   new : List (List ℕ)
   cells : List Cells
@@ -44,7 +43,6 @@ record EachFound (schema : Schema) (numbers : List ℕ) (rows : List (List Row))
   same : rows_of_tables new cells ≡ rows
   few : AllByRecursion HasFewRows cells
 
--- the cells of one more table, and then those of the others
 more_found : (schema : Schema) (number : ℕ) (numbers bytes : List ℕ) (rows : List Row) (others : List (List Row)) (old : List (List ℕ))
     → rows_of_file (table_at schema number) bytes ≡ Ok rows → (one : TableFound (table_at schema number) rows old) → EachFound schema numbers others one.new
     → EachFound schema (number ∷ numbers) (rows ∷ others) old
@@ -85,7 +83,6 @@ no_texts : IsPool []
 unfolding IsDistinct
 no_texts = record { utf8 = All-nil IsUtf8; once = tt }
 
--- a database of the query over its schema, in which each entry has its rows in `rows`
 pub record DatabaseFound (schema : Schema) (query : Query) (rows : List (List Row)) : Type 0 where
   pub database : Database
   pub rows_are : rows ≡ entry_rows database

@@ -36,7 +36,6 @@ use Rattle.safebound_words.specs.declared.command.Shape.TheVariants as shapes
 use Rattle.safebound_top.proofs.Promises.{Stages, query_of_schema, stages}
 use Rattle.safebound_laws.specs.FilePlans.{PartsAreNear}
 
--- if the answer is an order, the search for an order found it; and if the answer is a tree, the search for a tree found it
 seen_along : (r : Result Plan PlanError) (plan : Plan) → seen (λ p. shaped.OrderPlan p) r ≡ Ok (shaped.OrderPlan plan) → r ≡ Ok plan
 seen_along (Ok p) plan e = (let same : p ≡ plan = cc in ap Ok same)
 seen_along (Err s) plan e = cc
@@ -63,7 +62,6 @@ tree_is_answer : (shape : Shape) (sets scans : List ℕ) (budget : ℕ) (plan : 
 tree_is_answer shapes.Tree sets scans budget plan e = seen_over (tree_answer sets scans budget) plan e
 tree_is_answer shapes.Order sets scans budget plan e = absurd (no_tree (plan_answer sets scans budget) plan e)
 
--- an order from whole columns is the plan that `planned` gives
 order_planned : (shape : Shape) (schema : Schema) (query : Query) (ts : Tables) (accuracy budget : ℕ) (plan : Plan)
     → planned_by shape (sourced sources.Columns schema query ts) accuracy budget ≡ Ok (shaped.OrderPlan plan)
     → planned query ts accuracy budget ≡ Ok plan

@@ -12,7 +12,6 @@ use Rattle.stats_file.specs.declared.types.StatsFile.{StatsFile}
 use Rattle.stats_file.specs.declared.types.TableStats.{TableStats}
 use Rattle.safebound_laws.specs.OtherQueries.{HaveSameRows, IsOfTables}
 
--- the statistics of a pair of columns stand for an entry's rows if and only if they stand for these rows as the table of a database's only entry
 pair_alone : (pair : Pair) (tables : Tables) (entry : ℕ) (key : ℕ → ℕ) → PairStandsFor pair tables entry key → PairStandsFor pair (alone (tables entry)) 0 key
 pair_alone pair tables entry key stands = record { rows = stands.rows; whole = stands.whole; value = stands.value; node = stands.node }
 

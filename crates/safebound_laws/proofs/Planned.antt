@@ -120,13 +120,11 @@ module _ (query : Query) (tables : Tables) (share : ShareRows query tables) (oth
           let its = first_is query (table_of other place) first is in
           share entry first low its.0 (same ∙ sym its.1) ∙ ap (λ (o : Option ℕ). tables (unwrap_or o 0)) (sym is)
 
--- two queries still have the same rows after the same rows are added to the tables of both
 added_same : (query : Query) (tables : Tables) (other : Query) (also : Tables) (added : List Added) → HaveSameRows query tables other also
     → HaveSameRows query (with_added query tables added) other (with_added other also added)
 added_same query tables other also added have entry place low within same =
     ap (λ (rows : List Row). rows ++ added_rows (table_of query entry) added) (have entry place low within same) ∙ ap (λ (t : ℕ). also place ++ added_rows t added) same
 
--- the rows that were read for an entry are in the file of its table
 in_file : (files : Files) (schema : Schema) (query : Query) (entry : ℕ) (rows : List Row) → IsOf schema query → entry < length query.from
     → table_rows schema (table_of query entry) files ≡ Ok rows → AreInFile files schema query entry rows
 in_file files schema query entry rows of low staged =

@@ -48,12 +48,10 @@ use Rattle.table_files.proofs.FewRows.{then_ok, with_keys}
 
 -- ---- pools
 
--- the texts of the pool are UTF-8, and each text is there once
 pub record IsPool (texts : List (List ℕ)) : Type 0 where
   pub utf8 : All IsUtf8 texts
   pub once : IsDistinct bytes_eq texts
 
--- the new pool begins with the old texts, and has at most `most` further texts
 pub record GrowsByFile (old new : List (List ℕ)) (most : ℕ) : Type 0 where
   pub pool : IsPool new
   pub begins : PoolBeginsWith old new
@@ -254,7 +252,6 @@ places_paired number (column ∷ columns) header places e =
     let both = then_both (or_refuse (error.Header number) (column_place column.name header)) (column_places (number + 1) columns header) places e in
     ap length (sym both.whole) ∙ ap (λ (n : ℕ). suc n) (places_paired (number + 1) columns header both.xs both.rest_is)
 
--- cells of a table with these rows; their texts are in a pool that began with the old texts
 pub record TableFound (table : Table) (rows : List Row) (old : List (List ℕ)) : Type 0 where
   pub new : List (List ℕ)
   pub cells : Cells

@@ -69,7 +69,6 @@ rows_so columns places width number (fields ∷ records) =
     both (row_of_record columns places width number fields) (rows_of_records columns places width (number + 1) records)
     (row_so columns places width number fields) (rows_so columns places width (number + 1) records)
 
--- if f doesn't give NoMemory for None and for each value, then f never gives NoMemory
 option_so : {X : Type 0} (f : Option X → Result (List Row) TableError) → Wantless (f None) → ((x : X) → Wantless (f (Some x))) → (found : Option X) → Wantless (f found)
 option_so f none some None = none
 option_so f none some (Some x) = some x

@@ -22,7 +22,7 @@ ghost use Rattle.safebound_top.specs.OutcomeTexts.{out_text};
 ghost use Rattle.prepared_runs.specs.Verdict.{command_run};
 ghost use Rattle.safebound_laws.specs.Printed.{plan_of_columns, printed};
 
-/// Take a schema that a text declares, and a statistics file that keeps the rules. By the definition the file's text is read as this file. A
+/// Take a schema that a text declares, and a statistics file that keeps the rules. Then `stats_answer` of the file's text is this file. A
 /// reader of the text also returns this file, or says that memory ran out.
 pub fn files_of_declared_schemas_are_read()
     ensures answered { (text : List ℕ) (schema : Schema) (file : StatsFile) → IsSchemaOf text (Ok schema) → KeepsRules schema file
@@ -32,9 +32,9 @@ pub fn files_of_declared_schemas_are_read()
         → (answer ≡ Ok file) ⊎ (answer ≡ Err error.NoMemory) }
 {}
 
-/// Suppose that `stats` over some files writes the text of a statistics file, and that one of the files has these bytes. Then `plan --stats`
-/// with this file prints what `plan` prints at the accuracy of `stats`, or both are refused for the same cause. This holds for each budget,
-/// each shape and each limit of memory.
+/// Suppose that `stats` over some files writes the text of a statistics file, and that one of these files, `stats_file`, has exactly this
+/// text. Then `plan --stats` with this file prints what `plan` prints at the accuracy of `stats`, or both are refused for the same cause.
+/// This holds for each budget, each shape and each limit of memory.
 pub fn files_plan_as_their_tables()
     ensures { (schema_file query_file stats_file : List ℕ) (accuracy : ℕ) (terms : PlanTerms) (files : Files) (written : RunOutcome) (text : List ℕ)
         → 0 < accuracy → accuracy ≤ most_accuracy
