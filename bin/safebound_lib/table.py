@@ -67,8 +67,8 @@ STATS = Option(
     "--stats",
     "FILE",
     (
-        "plans from this statistics file, which `stats` wrote, and reads no table; beside it only --budget, --memory and"
-        " --bushy may stand"
+        "plans from this statistics file, which `stats` wrote, and reads no table; beside it only --budget, --memory"
+        " and --bushy may stand"
     ),
 )
 
