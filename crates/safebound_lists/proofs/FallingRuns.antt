@@ -1,4 +1,4 @@
--- How a falling list is split into runs. Elements that are equal to the element at `start` stand side by side, so the loop goes from run to run.
+-- A falling list is split into runs. Equal elements stand side by side, so the loop goes from run to run.
 use Rattle.std.proofs.Common.{◌≡◌, ℕ, ◌+◌, ◌-◌, ◌<◌, ◌≤◌, true, false, eqb, List, ◌++◌, length, get_or, take, drop, replicate, ap, sym, ◌∙◌, subst, arith, inl, inr, add-zero}
 use Rattle.std.specs.List.{AllWithin}
 use Rattle.std.specs.List.Sorted.{IsPartitionPoint, IsPartitionedBy}
@@ -9,15 +9,12 @@ use Rattle.degree_lists.proofs.RunLengths.{take-run}
 use Rattle.degree_sequences.proofs.FallingLists.{falls_to}
 use Rattle.degree_sequences.specs.Falling.{IsFalling}
 
--- the slice from `start` to the end of the list is the list without its first `start` elements
 pub rest_is : (list : List ℕ) (start : ℕ) → take (length list - start) (drop start list) ≡ drop start list
 rest_is list start = take_all (length list - start) (drop start list) (omega (arith, length-drop start list))
 
--- element k of this rest is element `start` + k of the list
 at_rest : (list : List ℕ) (start k d : ℕ) → start + k < length list → get_or (drop start list) k d ≡ get_or list (start + k) 0
 at_rest list start k d low = get_or-drop start list k d ∙ get_or_default_zero list (start + k) d low
 
--- in the rest of a falling list, the elements that are equal to the rest's first element come before all others
 pub equal_come_first : (list : List ℕ) (start : ℕ) → IsFalling list → start < length list
     → IsPartitionedBy (λ x. eqb x (get_or list start 0)) (drop start list)
 equal_come_first list start fall some i j d before low is =
@@ -27,7 +24,7 @@ equal_come_first list start fall some i j d before low is =
     omega (arith, equal, falls_to list fall start (start + i) (omega arith), falls_to list fall (start + i) (start + j) (omega arith)) in
     eq-eqb _ _ (at_rest list start i d (omega arith) ∙ same)
 
--- `count` is the place in the rest where these equal elements end. So the run has `count` elements, at least one, and they are equal
+-- `count` is the place in the rest where the elements end that are equal to its first element. So the run has `count` elements
 module _ (list : List ℕ) (start count : ℕ) (some : start < length list) (bound : count ≤ length (drop start list))
     (split : IsPartitionPoint (λ x. eqb x (get_or list start 0) ≡ true) (λ x. eqb x (get_or list start 0) ≡ false) (drop start list) count) where
   pub run_within : start + count ≤ length list
@@ -49,7 +46,6 @@ module _ (list : List ℕ) (start count : ℕ) (some : start < length list) (bou
         absurd (true≢false (sym (eq-eqb _ _ here) ∙ split.1 0 0 (omega arith) (omega (arith, length-drop start list)))))
   ]
 
--- if `pieces` stand for the first `start` elements and the next `count` elements are equal, then `pieces` with this run stand for `start` + `count` elements
 pub one_run_more : (list pieces longer : List ℕ) (start count value : ℕ) → start + count ≤ length list
     → AllWithin (λ x. x ≡ get_or list start 0) list start (start + count) → pieces ≡ take start list → value ≡ get_or list start 0
     → longer ≡ pieces ++ replicate count value → longer ≡ take (start + count) list

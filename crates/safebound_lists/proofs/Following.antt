@@ -1,4 +1,4 @@
--- Runs that follow one another, and the list that they stand for: its sum, its length, and the test of the runs one by one.
+-- Runs that follow one another stand for a list. The lemmas are about the sum and the length of this list, and about the test of the runs one by one.
 use Rattle.std.proofs.Common.{◌≡◌, ℕ, zero, suc, ◌+◌, ◌-◌, ◌*◌, ◌/◌, ◌<◌, ◌≤◌, ◌^◌, List, [], ◌∷◌, ◌++◌, length, take, replicate, ap, sym, ◌∙◌, subst, sum, arith}
 use Rattle.std.specs.List.{AllByRecursion, All}
 use Rattle.std.proofs.Math.Nat.{le-div_iff_mul-le}
@@ -38,7 +38,6 @@ sum_more before run =
     ∙ sum_by-append (λ (x : ℕ). x) (list_of before) (replicate run.keys run.degree)
     ∙ ap (λ n. sum (list_of before) + n) (sum_by-replicate (λ (x : ℕ). x) run.keys run.degree)
 
--- if v is at most d and at most each element of s, then v is at most each element of n times d, followed by s
 elements_of_run : (v d n : ℕ) → v ≤ d → (s : List ℕ) → AllByRecursion (λ x. v ≤ x) s → AllByRecursion (λ x. v ≤ x) (replicate n d ++ s)
 elements_of_run v d zero h s all = all
 elements_of_run v d (suc n) h s all = (h, elements_of_run v d n h s all)
@@ -50,7 +49,6 @@ elements_at_least v (x ∷ xs) all = elements_of_run v x.degree x.keys all.0 (li
 pub may_be_pushed : (v : ℕ) (xs : List Run) → AllByRecursion (λ e. v ≤ e.degree) xs → All (λ x. v ≤ x) (list_of xs)
 may_be_pushed v xs all = All-from_recursion (λ x. v ≤ x) (list_of xs) (elements_at_least v xs all)
 
--- a list of positive numbers has at most as many elements as their sum
 pub no_more_than_sum : (s : List ℕ) → AllByRecursion (λ x. 1 ≤ x) s → length s ≤ sum s
 no_more_than_sum [] all = omega arith
 no_more_than_sum (x ∷ s) all = omega (arith, all.0, no_more_than_sum s all.1, sum_by-cons (λ (y : ℕ). y) x s)
@@ -59,7 +57,6 @@ keys_within : (keys degree : ℕ) → 0 < degree → keys ≤ keys * degree
 keys_within zero degree h = omega arith
 keys_within (suc keys) degree h = omega (arith, keys_within keys degree h)
 
--- if `run` may follow the runs `before`, the list that all of these runs stand for has at most 2^48 elements
 pub room_for : (before : List Run) (run : Run) → MayFollow before run → length (list_of before) + run.keys ≤ 2 ^ 48
 room_for before run may =
     omega (
@@ -72,8 +69,8 @@ room_for before run may =
 
 -- ---- the test of the runs, one after another
 
--- what the loop of `first_wrong_run` knows after `place` runs: they are right, `least` is their least degree, and `left` is 2^48 less the sum of their list.
--- If `place` is 0, `least` is 2^64 - 1
+-- The loop of `first_wrong_run` has found that the runs before `place` are right. `least` is their least degree (2^64 - 1 if there are no runs before
+-- `place`), and `left` is 2^48 less the sum of their list
 pub record IsTested (runs : List Run) (place least left : ℕ) : Type 0 where
   pub right : (i : ℕ) → i < place → IsRightAt runs i
   pub least_below : AllByRecursion (λ e. least ≤ e.degree) (take place runs)
@@ -92,7 +89,7 @@ module _ (runs : List Run) (place least left : ℕ) (tested : IsTested runs plac
   more : take (place + 1) runs ≡ take place runs ++ run_at runs place ∷ []
   more = take_more runs place no_run low
 
-  -- the run at `place` is wrong if its degree is above `least`, or if it has more keys than `left` divided by its degree
+  -- the loop calls a run wrong in two cases: its degree is above `least`, or it has more keys than `left` divided by its degree
   pub rises : (run_at runs place).degree < 2 ^ 64 → least < (run_at runs place).degree → IsRightAt runs place → ⊥
   rises fits above may = absurd (omega (arith, tested.greatest (run_at runs place).degree fits may.falls))
 
@@ -115,7 +112,6 @@ module _ (runs : List Run) (place least left : ℕ) (tested : IsTested runs plac
       sum = omega (arith, sum_more (take place runs) (run_at runs place), tested.sums, within_left);
     }
 
-    -- each run before `place` + 1 is right
     right_so_far : (i : ℕ) → i < place + 1 → IsRightAt runs i
     right_so_far = below_more (IsRightAt runs) place tested.right may_follow
 

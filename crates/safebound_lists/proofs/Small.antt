@@ -1,4 +1,4 @@
--- Lists whose sum is at most 2^48: each element fits 64 bits, and arithmetic that saturates is exact.
+-- If a list sums to at most 2^48, each element fits 64 bits, and arithmetic that saturates is exact.
 use Rattle.std.proofs.Common.{◌≡◌, ℕ, ◌+◌, ◌<◌, ◌≤◌, ◌^◌, max, List, [], ◌∷◌, map, refl, ap, ◌∙◌, sum, arith}
 use Rattle.std.specs.List.{AllByRecursion}
 use Rattle.std.proofs.lemmas.List.Sums.{sum_by-cons}
@@ -17,7 +17,6 @@ below : (s : List ℕ) → AllByRecursion (λ x. x ≤ 2 ^ 48) s → AllByRecurs
 below [] all = tt
 below (x ∷ s) all = (omega (arith, all.0), below s all.1)
 
--- if a list sums to at most 2^48, each element fits 64 bits
 pub fits_within : (s : List ℕ) → sum s ≤ 2 ^ 48 → AllByRecursion (λ x. x < 2 ^ 64) s
 fits_within s h = below s (elements_within s (2 ^ 48) h)
 
@@ -29,7 +28,6 @@ unsaturated (x ∷ s) all =
 
 -- ---- the sum of two lists
 
--- if two lists sum to at most 2^48 together, their saturated rank-wise sum is their rank-wise sum
 pub sum_told : (s t both : List ℕ) → sum s + sum t ≤ 2 ^ 48 → both ≡ map saturated (rank_sum s t) → both ≡ rank_sum s t
 sum_told s t both small is =
     is ∙ unsaturated (rank_sum s t) (elements_within (rank_sum s t) (2 ^ 48) (omega (arith, small, sum-rank_sum s t)))
@@ -69,7 +67,6 @@ maximum_elements [] t n a b = b
 maximum_elements (x ∷ s) [] n a b = a
 maximum_elements (x ∷ s) (y ∷ t) n a b = (omega (arith, a.0, b.0), maximum_elements s t n a.1 b.1)
 
--- s and t are the lists `these` and `others`. Each sums to at most 2^48, and `both` is their rank-wise maximum, computed with saturation
 pub record AreSmallLists (s t these others both : List ℕ) : Type 0 where
   pub first : s ≡ these
   pub second : t ≡ others

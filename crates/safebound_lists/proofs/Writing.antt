@@ -1,4 +1,4 @@
--- How the pieces of a list are written as runs into the room, the caller's buffer.
+-- The pieces of a list are written as runs into the room, which is the caller's buffer.
 use Rattle.std.proofs.Common.{◌≡◌, ℕ, zero, suc, ◌+◌, ◌<◌, ◌≤◌, List, [], ◌∷◌, ◌++◌, map, length, take, drop, get_or, replicate, refl, ap, sym, ◌∙◌, subst, arith, length-append}
 use Rattle.std.specs.List.{AllByRecursion}
 use Rattle.std.proofs.Math.ListN.{set}
@@ -13,7 +13,6 @@ use Rattle.safebound_lists.specs.declared.refusal.Refusal.{Refusal}
 use Rattle.safebound_lists.specs.declared.refusal.Refusal.TheVariants as refusal
 use Rattle.safebound_lists.specs.Written.{IsFilled, IsWritten, NeedsRoom}
 
--- a piece as a run
 abbrev pub run_of : Piece → Run
 run_of piece = record { degree = piece.value; keys = piece.count }
 
@@ -67,14 +66,13 @@ all_written list ps old new count is are counted filled = record {
   filled = record { counted = length-map ps run_of ∙ sym counted; filled = filled };
 }
 
--- ---- a refusal for want of room, as one of the causes for which a call refuses
+-- ---- a refusal because the room is too small is one of the causes for which a call refuses
 
 pub as_cause : (P : Refusal → Type 0) (needed room : ℕ) → ((n : ℕ) → n ≡ needed → room < needed → P (refusal.Room n)) → (r : Result ℕ Refusal) → IfErr r (NeedsRoom needed room) → IfErr r P
 as_cause P needed room f (Ok x) h = tt
 as_cause P needed room f (Err (refusal.Room n)) h = f n h.0 h.1
 as_cause P needed room f (Err e) h = absurd h
 
--- if P is true, P is true whenever `r` is Ok
 pub if_done : {P : Type 0} (r : Result ℕ Refusal) → P → OnOk r P
 if_done (Ok x) h = h
 if_done (Err e) h = tt
@@ -90,7 +88,6 @@ filled_more {A} front old new i x d so_far low = record {
   filled = ap (λ (s : List A). set s i x) so_far.filled ∙ one_more_in front old i x d so_far.counted low;
 }
 
--- the room has f of each of the first i elements of `xs`. If `x`, which is f of element i, is written at place i, the room has f of the first i + 1
 pub one_more_made : {A B : Type 0} (f : A → B) (xs : List A) (old new : List B) (i : ℕ) (x : B) (a : A) (b : B) → IsFilled (map f (take i xs)) old new i → i < length xs → i < length old
     → x ≡ f (get_or xs i a) → IsFilled (map f (take (i + 1) xs)) old (set new i x) (i + 1)
 one_more_made {A} {B} f xs old new i x a b so_far low room is =

@@ -1,4 +1,4 @@
--- A call that has the headline keeps the promise of `run`.
+-- If a call has the headline, it keeps the promise of `run`.
 use Rattle.std.proofs.Common.{◌≡◌, ◌⊎◌, inl, inr, ℕ, ◌+◌, ◌<◌, ◌≤◌, false, List, [], map, length, get_or, Option, None, Some, Result, Ok, Err, refl, ap, sym, ◌∙◌, subst, arith}
 use Rattle.std.specs.Prelude.{if◌then◌else◌, nat_lt, slice_get, IsOkAnd, IfOk}
 use Rattle.std.proofs.lemmas.Bool.Decides.{nat_tests}
@@ -152,7 +152,7 @@ scans_are query tables sources.Keyed = refl
 scans_are query tables sources.Reduced = reduced_scans_by_rounds query tables
 scans_are query tables sources.Counted = reduced_scans_by_rounds query tables
 
--- a plan that fits its lists, whatever these are: whole scans or reduced scans
+-- in this part, the lists are any lists: whole scans or reduced scans
 module _ (query : Query) (tables : Tables) (lists : List (List ℕ)) where
   along : (plan : Plan) → Fits query tables lists (shaped.OrderPlan plan) → HoldsAlong query tables lists plan
   along plan h = record {
@@ -186,12 +186,10 @@ module _ (query : Query) (tables : Tables) (lists : List (List ℕ)) where
           subst (λ (n : ℕ). length (choices_over query tables lists (entries_at plan (n + k))) ≤ join.bound) h.plan.scans (node_fits k join is);
     }
 
--- if `seen view r` is Ok y, then r is Ok x for some x whose view is y
 seen_ok : {A B E : Type 0} (view : A → B) (r : Result A E) (y : B) → seen view r ≡ Ok y → (x : A) × (view x ≡ y)
 seen_ok view (Ok x) y e = (x, cc)
 seen_ok view (Err s) y e = cc
 
--- if a plan has the shape that was asked for, fits its lists and keeps the limit of memory, its text is as the promise says
 pub text_prints : (shape : Shape) (sets scans : List ℕ) (budget : ℕ) (memory : Option ℕ) (query : Query) (tables : Tables) (lists : List (List ℕ)) (plan : AnyPlan)
     → answer_of shape sets scans budget ≡ Ok plan → Fits query tables lists plan → IsWithinLimit memory (shape_bytes plan)
     → PrintsPlan shape memory query tables lists (plan_text_of query.from plan memory)
@@ -268,7 +266,6 @@ ok_and P (Err e) h = absurd h
 if_ok : {A E : Type 0} (P : A → Type 0) (r : Result A E) (x : A) → r ≡ Ok x → IfOk r P → P x
 if_ok P r x e h = subst (λ s. IfOk s P) e h
 
--- the rows text is written to out, if it is asked for
 rows_written : (task : PlanWork) (query : Query) (rows : List (List Row)) (plan : AnyPlan) (out : Growth) → task.out ≡ out_texts.Rows
     → GrewWhole out (out_text (Planned (run_asked task query rows plan))) → Grew out (rows_text (run_asked task query rows plan))
 rows_written task query rows plan out is written = subst (λ (t : OutText). GrewWhole out (text_for t (run_asked task query rows plan))) is written

@@ -1,4 +1,4 @@
--- The course of a command. Its schema is read; then either this reading ended early, or the command ran over the schema.
+-- Each command has a course: its schema is read; then either this reading ended early, or the command ran over the schema.
 use Rattle.std.proofs.Common.{◌≡◌, ℕ, inl, inr, List, Option, None, Some, Result, Ok, Err, refl, ap, sym, ◌∙◌, subst}
 use Rattle.std.specs.Prelude.{IsOk, codes}
 use Rattle.base_io.specs.Files.{Files}
@@ -26,13 +26,11 @@ use Rattle.safebound_words.specs.declared.command.Command.{Command}
 use Rattle.safebound_words.specs.declared.command.Aim.TheVariants as aims
 use Rattle.prepared_runs.specs.Verdict.{IsAimFile, IsReached, aim_run, command_run, command_stage, schema_read, schema_stage, verdict}
 
--- the line for want of memory names no file
 memory_line : (ask : Option Command) (schema : Option Schema) → status_line status.NoMemory ask schema ≡ codes "error memory\n"
 unfolding error_line
 memory_line None schema = refl
 memory_line (Some ask) schema = refl
 
--- the line that names the schema's file is the same for any schema
 schema_line : (name : List ℕ) (aim : Aim) (schema : Option Schema) → fault_line (status.ReadFault file.Schema) (names_by name aim None) ≡ fault_line (status.ReadFault file.Schema) (names_by name aim schema)
 schema_line name (aims.Query query work) schema = refl
 schema_line name (aims.Append append) schema = refl
@@ -40,7 +38,7 @@ schema_line name (aims.Append append) schema = refl
 pub memory_told : (s : Status) (ask : Option Command) (schema : Option Schema) → s ≡ status.NoMemory → status_line s ask schema ≡ codes "error memory\n"
 memory_told s ask schema is = ap (λ (x : Status). status_line x ask schema) is ∙ memory_line ask schema
 
--- the course of a call whose words are no command
+-- the words of this call are no command
 pub course_unasked : (call : Call) → call.status ≡ status.Refused refusal.Usage → command_stage call.words ≡ Err refusal.Usage → call.store.misses_after ≡ call.store.misses_before → DidNotGrow call.out
     → StatusTold call.notes (status_line call.status None None) → Course call
 course_unasked call is words misses out told = record {

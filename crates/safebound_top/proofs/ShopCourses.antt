@@ -1,4 +1,4 @@
--- The course of a command that reads the files of a shop.
+-- A command that reads the files of a shop has a course.
 use Rattle.std.proofs.Common.{◌≡◌, ℕ, List, Option, None, Some, Result, Ok, Err, refl, sym, ◌∙◌, subst, arith}
 use Rattle.base_io.specs.Causes.{Rose}
 use Rattle.base_io.specs.Files.{Files}

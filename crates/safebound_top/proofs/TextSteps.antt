@@ -1,4 +1,4 @@
--- The texts, one after the other, and what is told of a failed write.
+-- The texts are written one after another. The lemmas say what a call has written after each of them, and after a write that failed.
 use Rattle.std.proofs.Common.{◌≡◌, ℕ, List, ◌++◌, Option, None, Some, Result, Ok, Err, refl, ap, sym, ◌∙◌, subst, arith}
 use Rattle.base_io.specs.Devices.{Growth}
 use Rattle.base_io.specs.Sinks.{GrewByPrefix, appended}
@@ -18,12 +18,10 @@ use Rattle.prepared_runs.specs.RunOutcome.{PlanFromStatsFile, RunOutcome, Planne
 use Rattle.safebound_top.specs.OutcomeTexts.{stats_file_plan_text, notes_text, out_text}
 use Rattle.safebound_top.specs.Texts.{out_text_of, plan_text}
 
--- if a line was written, to its end or up to a failed write, then it was told (`StatusTold`)
 pub told_of : (g : Growth) (line : List ℕ) (r : Result (Unit {0}) Failed) → Wrote g line r → StatusTold g line
 told_of g line (Ok u) h = record { tells = record { prefix = h.prefix; whole = λ calm. h.ok }; later = h.later }
 told_of g line (Err e) h = record { tells = record { prefix = h.prefix; whole = λ calm. absurd (calm h.failed) }; later = h.later }
 
--- if the write of text `a` failed, then the write of `a` followed by `b` failed
 pub cut_first : {t0 t1 : Option (List ℕ)} {f0 f1 : ℕ} {a : List ℕ} {e : Failed} (b : List ℕ) → Wrote (between t0 t1 f0 f1) a (Err e) → Wrote (between t0 t1 f0 f1) (a ++ b) (Err e)
 cut_first {t0} {t1} {f0} {f1} {a} {e} b h = record { ok = tt; prefix = prefix_of_first t0 t1 a b h.prefix; later = h.later; failed = h.failed }
 
@@ -78,14 +76,13 @@ module _ (out notes : Growth) (made : PlanFromStatsFile) (still : DidNotGrow out
   pub plan_cut : (e : Failed) → Wrote notes (stats_file_plan_text made) (Err e) → TextsWritten out notes (PlannedFromStats made) (Err sink.Notes)
   plan_cut e h = record { texts = (h.failed, still, h.prefix); later_out = omega (arith, still.1); later_notes = h.later }
 
--- ---- a failed write, and its line
+-- ---- a write failed, and then its line is written
 
 module _ (t0 t1 t2 : Option (List ℕ)) (f0 f1 f2 : ℕ) (line : List ℕ) (told : StatusTold (between t1 t2 f1 f2) line) where
   cut_then_told : (text : Option (List ℕ)) → WasCut (between t0 t1 f0 f1) text → WasCutAndTold (between t0 t2 f0 f2) text line
   cut_then_told None cut = cut
   cut_then_told (Some text) cut = record { mid = t1; cut = cut; told = told.tells.prefix }
 
-  -- if the notes grew by exactly their text, their bytes are the earlier bytes and then the text
   told_after : (text : Option (List ℕ)) → GrewWhole (between t0 t1 f0 f1) text → t1 ≡ grown t0 text
   told_after None still = still.0
   told_after (Some text) whole = whole

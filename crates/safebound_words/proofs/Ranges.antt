@@ -1,4 +1,4 @@
--- The values of a command are in their ranges, and `demo` alone has a shop.
+-- If words ask for a command, the command's values are in their ranges, and only `demo` has a shop.
 use Rattle.std.proofs.Common.{◌≡◌, ◌≤◌, ◌&&◌, ℕ, Bool, true, false, inl, inr, List, [], ◌∷◌, Option, None, Some, ap, sym, refl, ◌∙◌, subst, arith}
 use Rattle.std.specs.Prelude.{nat_le, not, if◌then◌else◌, option_map}
 use Rattle.std.proofs.lemmas.Bool.{cases_Bool}
@@ -23,19 +23,17 @@ use Rattle.safebound_words.specs.declared.table.FlagName.TheVariants as flag
 use Rattle.safebound_words.specs.declared.table.OptionName.TheVariants as option
 use Rattle.safebound_words.proofs.Readings.{bind_so}
 
--- what is proved of each command that words ask for: its values are in their ranges, and only `demo` has a shop
 record IsAsked (asked : Command) : Type 0 where
   ranges : HasRanges asked.aim
   shop : (number : ℕ) → asked.shop ≡ Some number → asked ≡ demo_of number
 
--- a command without a shop, whose values are in their ranges
 of_store : (asked : Command) → asked.shop ≡ None → HasRanges asked.aim → IsAsked asked
 of_store asked none ranges = record {
   ranges = ranges;
   shop = λ number is. absurd (let no : ◌≡◌ {A = Option ℕ} None (Some number) = sym none ∙ is in cc);
 }
 
--- ---- one value
+-- ---- one value is in its range
 
 number_if : (test : Bool) (least most number n : ℕ) → (test ≡ true → (least ≤ number) × (number ≤ most)) → (if test then Some number else None) ≡ Some n → (least ≤ n) × (n ≤ most)
 number_if true least most number n in_range is = let same : number ≡ n = cc in (omega (arith, same, (in_range refl).0), omega (arith, same, (in_range refl).1))
@@ -66,7 +64,7 @@ request_if : {A : Type 0} (test : Bool) (made r : A) → (if test then Some made
 request_if true made r is = (refl, cc)
 request_if false made r is = absurd (cc)
 
--- `beside` says that an option is given which can't stand there. If something is asked for anyway, it is what `asked` says
+-- if `beside` is true, an option is given that can't stand there
 alone_asks : {A : Type 0} (beside : Bool) (asked : Option A) (r : A) → (if beside then None else asked) ≡ Some r → asked ≡ Some r
 alone_asks true asked r is = absurd (cc)
 alone_asks false asked r is = is
@@ -74,7 +72,6 @@ alone_asks false asked r is = is
 most_if : (most n : ℕ) → nat_le n most ≡ true → n ≤ most
 most_if most n is = grind (arith, nat_tests)
 
--- the budget of a plan is at most the greatest budget of its shape
 abbrev IsSmall : PlanTerms → Type 0
 IsSmall terms = terms.budget ≤ most_budget_of terms.shape
 
@@ -86,7 +83,6 @@ terms_in given terms is =
     let made = request_if (nat_le budget.0 (most_budget_of (shape_by bushy.0))) (terms_by budget.0 bushy.0 (limit_of bytes.0)) terms bushy.2 in
     subst IsSmall made.1 (most_if (most_budget_of (shape_by bushy.0)) budget.0 made.0)
 
--- the numbers of a plan over tables or from a statistics file are in range
 module _ (out : OutText) (terms : PlanTerms) (small : terms.budget ≤ most_budget_of terms.shape) (given : Given) (work : Work) where
   tables_in : over_tables out terms given ≡ Some work → WorkHasRanges work
   tables_in is =
@@ -119,7 +115,6 @@ files_in out (schema ∷ query ∷ []) given r is =
     subst IsAsked same (of_store (over_query None schema query work.0) refl (work_in out terms.0 (terms_in given terms.0 terms.1) given work.0 work.1))
 files_in out (schema ∷ query ∷ more ∷ places) given r is = absurd (cc)
 
--- the accuracy of the command `stats` is in its range
 accuracy_has : (accuracy : Option ℕ) (schema query : Word) (r : Command) → ((n : ℕ) → accuracy ≡ Some n → (1 ≤ n) × (n ≤ 64))
     → option_map (λ a. over_query None schema query (works.WriteStats a)) accuracy ≡ Some r → IsAsked r
 accuracy_has None schema query r close is = absurd (cc)
@@ -132,7 +127,6 @@ stats_in (schema ∷ query ∷ []) given r is =
     accuracy_has (value_of option.Accuracy (given.values option.Accuracy)) schema query r (accuracy_in (given.values option.Accuracy)) is
 stats_in (schema ∷ query ∷ more ∷ places) given r is = absurd (cc)
 
--- `append` has no numbers, and the number of `demo` is a shop
 append_in : (places : List Word) (given : Given) (r : Command) → of_append places given ≡ Some r → IsAsked r
 append_in [] given r is = absurd (cc)
 append_in (schema ∷ []) given r is = absurd (cc)
@@ -165,7 +159,7 @@ asks_in command.Stats places given r is = stats_in places given r is
 asks_in command.Append places given r is = append_in places given r is
 asks_in command.Demo places given r is = demo_in places given r is
 
--- ---- the words
+-- ---- all words of a line
 
 read_in : (reading : Option CommandReading) (r : Command) → (reading >>= requested) ≡ Some r → IsAsked r
 read_in None r is = absurd (cc)

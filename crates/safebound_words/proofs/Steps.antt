@@ -1,5 +1,5 @@
--- The walk over a command line takes one more word. The collected words and the words that are left then still ask for the same, or nothing can be
--- asked for.
+-- The walk over a command line takes one more word. What the collected words and the remaining words ask for stays as it was; or nothing can be asked for any
+-- more.
 use Rattle.std.proofs.Common.{◌≡◌, ℕ, ◌+◌, ◌<◌, ◌≤◌, ◌==◌, ◌&&◌, not, nat_le, Bool, true, false, if◌then◌else◌, option_map, List, [], ◌∷◌, ◌++◌, length, map, drop, Option, Some, None, Result, Ok, Err, Bor, sym, refl, ap, ◌∙◌, append_assoc, append-nil, length-append, suc, zero, arith}
 use Rattle.std.proofs.Math.Path.{fun_ext}
 use Rattle.std.proofs.lemmas.Bool.{false≢true, ne_eqb}
@@ -32,7 +32,7 @@ use Rattle.safebound_words.specs.declared.line.Next.TheVariants as next
 use Rattle.safebound_words.specs.declared.line.Places.TheVariants as places
 use Rattle.safebound_words.proofs.WordKinds.{told}
 
--- What a command asks for depends on its place words, on what is given to each option and on how often each flag is there.
+-- ---- what a command asks for depends on its place words, on what is given to each option and on how often each flag is there
 
 same_asks : (name : CommandName) (places places' : List Word) (given given' : Given)
     → places ≡ places' → ((o : OptionName) → given.values o ≡ given'.values o) → ((f : FlagName) → given.times f ≡ given'.times f)
@@ -42,12 +42,11 @@ same_asks name places places' given given' same values times =
     ∙ ap (λ (v : OptionName → List Word). (command_row name).asks places' (record { values = v; times = given.times })) (fun_ext values)
     ∙ ap (λ (t : FlagName → ℕ). (command_row name).asks places' (record { values = given'.values; times = t })) (fun_ext times)
 
--- two lines give the same words to each option and have each flag equally often, whatever their place words are
+-- the two lines may have different place words
 pub record IsSameBeside (new old : Line) : Type 0 where
   pub values : (o : OptionName) → given_to new o ≡ given_to old o
   pub times : (f : FlagName) → times_of new f ≡ times_of old f
 
--- an item that isn't a flag doesn't change how often each flag is given
 no_more_times : (new old : Line) (item : Item) (items : List Item) → ((f : FlagName) → times_of new f ≡ times_of old f)
     → ((f : FlagName) → set_by f item ≡ 0) → (f : FlagName) → (given_with new items).times f ≡ (given_with old (item ∷ items)).times f
 no_more_times new old item items same none f = rw (same f) (omega (arith, sum_by-cons (set_by f) item items, none f))
@@ -80,7 +79,6 @@ one_more_behind name new old word words places same =
     (λ o. ap (λ ws. ws ++ []) (same.values o))
     (λ f. ap (λ n. n + 0) (same.times f))
 
--- the line `new` has one flag more than the line `old`
 SetsMore : Line → Line → FlagName → Type 0
 SetsMore new old f = (other : FlagName) → times_of new other ≡ times_of old other + (if same_flag other f then 1 else 0)
 
@@ -98,7 +96,6 @@ one_more_flag name new old f parts places values more =
     (λ o. ap (λ ws. ws ++ flat_map (given_by o) parts.0) (values o))
     (λ other. omega (arith, more other, sum_by-cons (set_by other) (Alone f) parts.0))
 
--- the line `new` has one value more for an option than the line `old`
 GivesMore : Line → Line → OptionName → Word → Type 0
 GivesMore new old o value = (other : OptionName) → given_to new other ≡ given_to old other ++ (if same_option other o then value ∷ [] else [])
 
@@ -119,7 +116,6 @@ one_more_value name new old item o value parts none unset by places times given 
     ∙ append_assoc (given_to old other) (given_by other item) (flat_map (given_by other) parts.0))
     (no_more_times new old item parts.0 times unset)
 
--- `first >>= rest` is None if `first` is None, or if `rest` is None for each value
 none_first : {A B : Type 0} (first : Option A) (rest : A → Option B) → first ≡ None → first >>= rest ≡ None
 none_first first rest is = rw is refl
 
@@ -127,7 +123,7 @@ none_behind : {A B : Type 0} (first : Option A) (rest : A → Option B) → ((a 
 none_behind None rest all = refl
 none_behind (Some a) rest all = all a
 
--- If too many words are collected, nothing is asked for.
+-- ---- if too many words are collected, nothing is asked for
 
 files_of_two : (out : OutText) (places : List Word) (given : Given) → 4 < length places → over_files out places given ≡ None
 unfolding over_files
@@ -163,32 +159,29 @@ too_many command.Stats = stats_of_two
 too_many command.Append = append_of_four
 too_many command.Demo = one_at_most
 
--- an option to which two words are given has no value
 too_often : (o : OptionName) (words : List Word) → 1 < length words → value_of o words ≡ None
 too_often o [] many = absurd (omega arith)
 too_often o (a ∷ []) many = absurd (omega arith)
 too_often o (a ∷ b ∷ rest) many = refl
 
--- an option for a file's name names no file if two words are given to it
 no_file : (words : List Word) → 1 < length words → option_file words ≡ None
 no_file [] many = absurd (omega arith)
 no_file (a ∷ []) many = absurd (omega arith)
 no_file (a ∷ b ∷ rest) many = refl
 
--- the flags that name a source of bounds
+-- these flags name a source of bounds
 abbrev IsSource : FlagName → Type 0
 IsSource flag.Bushy = ⊥
 IsSource flag.Reduce = Unit {0}
 IsSource flag.Keys = Unit {0}
 IsSource flag.Count = Unit {0}
 
--- if a flag stands twice, `is_set` has no value
 set_once : (n : ℕ) → 1 < n → is_set n ≡ None
 set_once zero many = absurd (omega arith)
 set_once (suc zero) many = absurd (omega arith)
 set_once (suc (suc more)) many = refl
 
--- The stages of `terms_given`.
+-- ---- the stages of `terms_given`
 module _ (given : Given) where
   abbrev by_bushy : ℕ → ℕ → Bool → Option PlanTerms
   by_bushy bytes budget bushy = if nat_le budget (most_budget_of (shape_by bushy)) then Some (terms_by budget bushy (limit_of bytes)) else None
@@ -213,7 +206,7 @@ module _ (given : Given) where
       (λ bytes. none_behind (value_of option.Budget (given.values option.Budget)) (λ budget. by_budget bytes budget)
       (λ budget. none_first (is_set (given.times flag.Bushy)) (λ bushy. by_bushy bytes budget bushy) (set_once (given.times flag.Bushy) many)))
 
--- The stages of `over_tables`.
+-- ---- the stages of `over_tables`
 module _ (out : OutText) (terms : PlanTerms) (given : Given) where
   abbrev by_count : ℕ → Bool → Bool → Bool → Option Work
   by_count accuracy reduce keys count = if keys && reduce then None
@@ -253,13 +246,12 @@ module _ (out : OutText) (terms : PlanTerms) (given : Given) where
   tables_without_flag f is many =
       none_behind (value_of option.Accuracy (given.values option.Accuracy)) (λ accuracy. by_accuracy accuracy) (λ accuracy. many_sources accuracy f is many)
 
--- A plan from a statistics file allows no flag for another source of bounds, so it is refused if such a flag stands twice.
+-- ---- a plan from a statistics file allows no flag for another source of bounds, so it is refused if such a flag stands twice
 
 nowhere : (b : Bool) → (b && false) ≡ false
 nowhere true = refl
 nowhere false = refl
 
--- a flag that stands twice is not missing
 flag_twice : (n : ℕ) → 1 < n → (n == 0) ≡ false
 flag_twice n many = ne_eqb n 0 (λ e. absurd (omega (arith, e, many)))
 
@@ -276,7 +268,6 @@ times_twice given f is many = let some = flags_twice given f is many in rw some 
 words_twice : (words : List Word) (b : Bool) → 1 < length words → (length words == 0 && b) ≡ false
 words_twice words b many = let some : (length words == 0) ≡ false = ne_eqb (length words) 0 (λ e. absurd (omega (arith, e, many))) in rw some refl
 
--- there is no plan from a statistics file if an accuracy or a flag for a source is given too
 not_alone : (file : Word) (terms : PlanTerms) (given : Given) → file_alone given ≡ false → from_file file terms given ≡ None
 not_alone file terms given beside = rw beside refl
 
@@ -298,7 +289,6 @@ module _ (out : OutText) (terms : PlanTerms) (given : Given) where
   no_second_file : 1 < length (given.values option.Stats) → work_given out terms given ≡ None
   no_second_file many = none_first (option_file (given.values option.Stats)) (λ file. from_file_or_tables out file terms given) (no_file (given.values option.Stats) many)
 
--- if `terms_given` or `work_given` has no result, nothing is asked for
 module _ (out : OutText) (given : Given) where
   abbrev by_terms : Word → Word → PlanTerms → Option Command
   by_terms schema query terms = work_given out terms given >>= λ work. Some (over_query None schema query work)
@@ -393,9 +383,8 @@ twice_set name line f parts has again =
     let one : set_by f (Alone f) ≡ 1 = rw (flag_itself f) refl in
     flag_refused name f _ (given_with line (Alone f ∷ parts.0)) has (omega (arith, again, one, sum_by-cons (set_by f) (Alone f) parts.0))
 
--- Steps of the walk.
+-- ---- steps of the walk
 
--- an item stands in front of the other parts
 front_asked : (name : CommandName) (new old : Line) (item : Item) (parts : Option Parts)
     → ((p : Parts) → asked_with name new p ≡ asked_with name old (item ∷ p.0, p.1))
     → parts >>= asked_with name new ≡ in_front item parts >>= asked_with name old
@@ -407,7 +396,6 @@ front_refused : (name : CommandName) (line : Line) (item : Item) (parts : Option
 front_refused name line item None none = refl
 front_refused name line item (Some p) none = none p
 
--- how a word before `--` and the words after it are read
 read_so : (name : CommandName) (word : Word) (words : List Word) (kind : Kind) → kind ≡ kind_of name word
     → parts_from name None (word ∷ words) ≡ read_by kind word words (λ wanted. parts_from name wanted words)
 unfolding parts_from
@@ -513,12 +501,11 @@ pub behind_refused : (name : CommandName) (line : Line) (word : Word) → length
 unfolding asked_from
 behind_refused name line word full words = full_behind name line word words full
 
--- if P is true, P is true whenever `r` is an error
 pub anyway : {T E P : Type 0} (r : Result T E) → P → OnErr r P
 anyway (Ok value) holds = tt
 anyway (Err error) holds = holds
 
--- The loop.
+-- ---- the loop
 
 pub nothing_given : (line : Line) → line.budget ≡ None → line.accuracy ≡ None → line.memory ≡ None → line.stats ≡ None → (o : OptionName) → given_to line o ≡ []
 nothing_given line budget accuracy memory stats option.Budget = rw budget refl
@@ -526,7 +513,6 @@ nothing_given line budget accuracy memory stats option.Accuracy = rw accuracy re
 nothing_given line budget accuracy memory stats option.Memory = rw memory refl
 nothing_given line budget accuracy memory stats option.Stats = rw stats refl
 
--- a line in which nothing is collected yet, and all words after the command's word, ask for what `asked_by` says
 pub start_asked : (name : CommandName) (line : Line) (words : List Word) → words_of line.places ≡ [] → ((o : OptionName) → given_to line o ≡ [])
     → ((f : FlagName) → times_of line f ≡ 0) → asked_from name line next.Item words ≡ asked_by name words
 unfolding asked_from asked_by asked_with
@@ -541,7 +527,6 @@ start_asked name line words places given times =
     (λ o. ap (λ ws. ws ++ flat_map (given_by o) parts.0) (given o))
     (λ f. omega (arith, times f))))
 
--- the line before any word
 abbrev no_words : Line
 no_words = record { places = places.Nothing; budget = None; accuracy = None; memory = None; stats = None; reduce = false; bushy = false; keys = false; count = false }
 
@@ -554,7 +539,6 @@ never_set flag.Count = refl
 pub first_asked : (name : CommandName) (words : List Word) → asked_from name no_words next.Item words ≡ asked_by name words
 first_asked name words = start_asked name no_words words refl (nothing_given no_words refl refl refl refl) never_set
 
--- no word is left
 none_left : (words : List (Bor (List ℕ))) (i : ℕ) → length words ≤ i → map (λ w. w.now) (drop i words) ≡ []
 none_left words i past = rw (drop_all i words past) refl
 

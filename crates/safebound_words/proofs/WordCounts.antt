@@ -1,4 +1,5 @@
--- A command line has at most 16 words: its place words, one word for each flag, two words for each option, the command's word and `--`.
+-- A command line has at most 16 words: its place words, one word for each flag, two words for each option, the command's word and `--`. So the code refuses
+-- longer lines.
 use Rattle.std.proofs.Common.{◌≡◌, ◌+◌, ◌*◌, ◌≤◌, ◌<◌, ◌&&◌, ◌++◌, ℕ, Bool, true, false, suc, zero, inl, inr, List, [], ◌∷◌, length, Option, None, Some, ap, sym, refl, ◌∙◌, arith}
 use Rattle.std.specs.Prelude.{if◌then◌else◌, option_map, ◌==◌}
 use Rattle.std.specs.List.{AllByRecursion, flat_map, list_any, sum_by}
@@ -25,9 +26,8 @@ use Rattle.safebound_words.specs.declared.table.OptionName.{OptionName}
 use Rattle.safebound_words.specs.declared.table.OptionName.TheVariants as option
 use Rattle.safebound_words.proofs.Readings.{bind_so, computed_asked}
 
--- ---- how many words items have, by what they give to options and flags
+-- ---- an item's words are at most its place words, two words for each value that it gives, and one for each flag that it sets
 
--- if an item gives a value to `option`, which is one of `options`, then it gives at least one value to these options together
 option_given : (option : OptionName) (item : Item) (value : Word) (options : List OptionName)
     → ((other : OptionName) → given_by other item ≡ (if same_option other option then value ∷ [] else []))
     → list_any (same_option option) options ≡ true → 1 ≤ sum_by (λ other. length (given_by other item)) options
@@ -43,7 +43,6 @@ option_given option item value (first ∷ options) gives has = elim (cases_Bool 
       omega (arith, option_given option item value options gives rest, sum_by-cons (λ other. length (given_by other item)) first options)
 ]
 
--- if `flag` is one of `flags`, its item sets these flags at least once together
 flag_given : (flag : FlagName) (flags : List FlagName) → list_any (same_flag flag) flags ≡ true → 1 ≤ sum_by (λ other. set_by other (Alone flag)) flags
 flag_given flag [] has = absurd (false≢true has)
 flag_given flag (first ∷ flags) has = elim (cases_Bool (same_flag flag first)) [
@@ -91,7 +90,7 @@ times_split item items (first ∷ flags) =
       sum_by-cons (set_by first) item items,
     )
 
--- the most words that place words, options and flags of a command can have
+-- a command's place words, options and flags have at most so many words
 abbrev weight : CommandName → List Word → Given → ℕ
 weight name places given =
     length places + (2 * sum_by (λ option. length (given.values option)) (command_row name).options + sum_by (λ flag. given.times flag) (command_row name).flags)
@@ -110,7 +109,7 @@ all_words name (item ∷ items) all =
       all_words name items all.1,
     )
 
--- ---- what a command takes at most
+-- ---- a command takes each option and each flag at most once
 
 one_value : (option : OptionName) (given : List Word) (n : ℕ) → value_of option given ≡ Some n → length given ≤ 1
 one_value option [] n is = omega arith
@@ -127,7 +126,6 @@ once zero set is = omega arith
 once (suc zero) set is = omega arith
 once (suc (suc more)) set is = absurd (cc)
 
--- if something is asked for after a test, the test is true
 asked_if : {A : Type 0} (test : Bool) (made r : A) → (if test then Some made else None) ≡ Some r → test ≡ true
 asked_if true made r is = refl
 asked_if false made r is = absurd (cc)
@@ -140,7 +138,6 @@ map_so : {A B : Type 0} (f : A → B) (from : Option A) (b : B) → option_map f
 map_so f None b is = absurd (cc)
 map_so f (Some a) b is = (a, refl)
 
--- each of these options and flags is given at most once
 record AreTermsFew (given : Given) : Type 0 where
   memory : length (given.values option.Memory) ≤ 1
   budget : length (given.values option.Budget) ≤ 1
@@ -199,7 +196,6 @@ module _ (out : OutText) (terms : PlanTerms) (given : Given) (work : Work) where
       let file = bind_so (option_file (given.values option.Stats)) _ work is in
       (either_few file.0 file.2, one_file (given.values option.Stats) file.0 file.1)
 
--- there are two place words, and each option and flag is given at most once
 record AreFew (places : List Word) (given : Given) : Type 0 where
   two : length places ≡ 2
   terms : AreTermsFew given

@@ -28,7 +28,7 @@ abbrev pub ElementFilled : Element → Type 0
 ElementFilled (element.Column _) = ⊤
 ElementFilled (element.Rule rule) = RuleFilled rule
 
--- a table has a first element; if this is a rule, its list of columns isn't empty
+-- if the first element is a rule, its list of columns isn't empty
 abbrev pub FirstFilled : List Element → Type 0
 FirstFilled [] = ⊥
 FirstFilled (x ∷ xs) = ElementFilled x

@@ -43,7 +43,7 @@ one_tables text a b s t =
 one_declared : (text : List ℕ) (a b : Result Schema SchemaError) → Declares text a → Declares text b → a ≡ b
 one_declared text a b d e = sym d.answers ∙ ap (schema_or_refusal text) (one_tables text d.tables e.tables d.spells e.spells) ∙ e.answers
 
--- the three kinds of answers
+-- an answer is of one of three kinds: memory ran out, the text goes wrong, or the text declares a schema or an error
 abbrev Kinds : List ℕ → Result Schema SchemaError → Type 0
 Kinds text answer = (answer ≡ Err error.NoMemory) ⊎ (((at : ℕ) × (answer ≡ Err (error.Syntax at)) × Wrong text at) ⊎ Declares text answer)
 

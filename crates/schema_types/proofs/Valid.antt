@@ -68,7 +68,6 @@ differ_none = λ i j d below within. absurd (omega arith)
 columns_push : (text : List ℕ) (earlier : List Element) (x : Element) → column_names text (earlier ++ x ∷ []) ≡ column_names text earlier ++ column_names text (x ∷ [])
 columns_push text earlier x = simp (flat_map-append, map-append)
 
--- if the names of the earlier columns differ and the next element doesn't offend, the names still differ with the columns of this element
 differ_after : (text : List ℕ) (tables : List TableNode) (declared : List (List ℕ)) (earlier : List Element) (x : Element) → Differ (column_names text earlier) → element_offences text tables declared earlier x ≡ [] → Differ (column_names text earlier ++ column_names text (x ∷ []))
 unfolding element_offences column_offences
 differ_after text tables declared earlier (element.Column column) differ none =

@@ -18,7 +18,6 @@ all_more Q [] i d low h k = absurd (omega arith)
 all_more Q (e ∷ es) zero d low h k = (k, tt)
 all_more Q (e ∷ es) (suc i) d low h k = (h.0, all_more Q es i d (omega arith) h.1 k)
 
--- if the columns of each equality of `fs` are in one class of `es`, then columns in one class of `fs` are in one class of `es`
 wider : (es fs : List Edge) → AllByRecursion (AreInOneClass es) fs → (p q : Place) → class_of fs p ≡ class_of fs q → class_of es p ≡ class_of es q
 wider es fs h p q same =
     class_of-joined es p q (λ key all. joined fs p q same key (all_in (λ f. key f.left.entry f.left.column ≡ key f.right.entry f.right.column) fs

@@ -100,7 +100,6 @@ module _ (es : List Edge) (subset part : ℕ) (forest : ClosesNoCycle (equalitie
   same_side : (e : Edge) → Contains kept_whole e → side e.left.entry ≡ side e.right.entry
   same_side e k = each (λ (f : Edge). side f.left.entry ≡ side f.right.entry) (equalities_within subset es) unjoined e (of_whole e k)
 
-  -- an equality of the set with an entry in the part is an equality of the part
   whole_in_part : (e : Edge) → Contains kept_whole e → side e.left.entry ≡ true → Contains kept_part e
   whole_in_part e k left =
       to_part e (subst (λ (xs : List Edge). Contains xs e) (sym (within_of part subset within es))

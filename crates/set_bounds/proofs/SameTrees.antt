@@ -19,7 +19,7 @@ use Rattle.tree_bounds.proofs.Turns.{trees_are, trees_there}
 use Rattle.set_bounds.specs.Alike.{AreAlike}
 use Rattle.set_bounds.proofs.Forests.{AreAmong, all_among, all_in, among_round, each, forest_kept, round_among}
 
--- ---- a tree of one list of equalities is a tree of another list
+-- ---- when a tree of one list of equalities is a tree of another list
 
 -- for the entries that have Q, es and fs name the same columns and make the same classes. For other entries, each column that fs names is also named by es
 pub record Carries (Q : ℕ → Type 0) (es fs : List Edge) : Type 0 where
@@ -93,7 +93,6 @@ in_places (f ∷ es) e k = elim (one_in f es e k) [
       (in_rest f.left (f.right ∷ places_of es) e.left (in_rest f.right (places_of es) e.left later.0), in_rest f.left (f.right ∷ places_of es) e.right (in_rest f.right (places_of es) e.right later.1)))
 ]
 
--- if the equalities in xs that name the column q are in ys, then ys names q too
 pub places_where : (xs ys : List Edge) (q : Place) → ((e : Edge) → Contains xs e → ((q ≡ e.left) ⊎ (q ≡ e.right)) → Contains ys e) → Contains (places_of xs) q → Contains (places_of ys) q
 places_where xs ys q there k =
     let found : EndOf xs q = end_of xs q k in

@@ -1,4 +1,5 @@
--- What is known of a set after its tests: whether all equalities are kept, whether an equality crosses, and what the rest is.
+-- The code tests whether a turn keeps all equalities of a set, and whether an equality crosses from a part of the set to the rest. The lemmas say what these
+-- tests mean.
 use Rattle.std.proofs.Common.{◌≡◌, ℕ, zero, suc, ◌-◌, ◌*◌, ◌^◌, ◌<◌, ◌≤◌, min, Bool, true, false, cond, not, ◌&&◌, eqb, ltb, bit_and, w16, List, [], ◌∷◌, get_or, length, refl, ap, sym, ◌∙◌, subst, inl, inr, arith}
 use Rattle.std.specs.Int.{bit_at, bit_not}
 use Rattle.std.proofs.lemmas.Bool.{cases_Bool, ltb-true, or_parts}
@@ -27,7 +28,6 @@ kept_fewer name (e ∷ es) = elim (cases_Bool (eqb (name e.left.entry) (name e.r
   | inr n ↦ rw n (omega (arith, kept_fewer (joined_parts name e.left.entry e.right.entry) es))
 ]
 
--- if as many equalities are kept as there are, all of them are kept
 kept_step : (name : ℕ → ℕ) (e : Edge) (es : List Edge)
     → ((name : ℕ → ℕ) → length (kept_by_names name es) ≡ length es → kept_by_names name es ≡ es)
     → (t : Bool) → eqb (name e.left.entry) (name e.right.entry) ≡ t → length (kept_by_names name (e ∷ es)) ≡ suc (length es) → kept_by_names name (e ∷ es) ≡ e ∷ es

@@ -17,7 +17,6 @@ use Rattle.sql_meaning.specs.Tables.{Tables}
 abbrev is_in : List ℕ → ℕ → Bool
 is_in entries entry = list_any (λ e. eqb entry e) entries
 
--- the two choices have the same rows for these entries
 abbrev pub Agree : (ℕ → ℕ) → (ℕ → ℕ) → List ℕ → Type 0
 Agree f g entries = (entry : ℕ) → is_in entries entry ≡ true → f entry ≡ g entry
 

@@ -94,7 +94,7 @@ module _ (from counted conjuncts outputs : ℕ) where
       ap (λ n. first (over limit.Conjuncts most_conjuncts n ++ over limit.Outputs most_outputs (capped outputs))) (same (ltb-false most_entries from (sym is)) refl)
       ∙ ap (λ l. first (over limit.Conjuncts most_conjuncts conjuncts ++ l)) (over_capped outputs)
 
-  -- the number of conjuncts matters only if no earlier limit is passed
+  -- `counted` needs to be the number of conjuncts only if no earlier limit is passed
   passed : (lists : List ℕ) → (from ≤ 12 → first lists ≡ None → counted ≡ conjuncts) → first (limits_passed from (first lists) counted (capped outputs)) ≡ first (due lists)
   passed lists same = passed_by (nat_lt most_entries from) lists refl same
 
@@ -136,7 +136,6 @@ module _ (binder : Binder) (query : QueryNode) where
   pub none_refused : names_behind binder query ≡ [] → None ≡ first (late_refusals binder query) → first (refusals_behind binder query) ≡ None
   none_refused none is = ap first (no_name none) ∙ sym is
 
-  -- the refusal is the first wrong kind. If no kind is wrong, it is the first limit that is passed
   pub kind_refused : (at : ℕ) → names_behind binder query ≡ [] → Some at ≡ first (kinds_behind binder query) → IsFirstOf (refusals_behind binder query) (error.Kind at)
   kind_refused at none is = late_refused (error.Kind at) none (kind_first at is)
 
@@ -235,7 +234,6 @@ module _ (schema : Schema) (text : List ℕ) (query : QueryNode) where
       (first_append (first_place name_error (name_offences schema text from query)) (first_place kind_error (all_kind_offences schema text from query)) (error.Name place)
       (at_place name_error ((from_offences schema text query ++ outs) ++ conds) place names))
 
-  -- the query is refused for a name in FROM
   pub from_refused : (e : QueryError) → IsNameError (from_offences schema text query) e → Answers (query_or_refusal schema text query) (Err e)
   from_refused (error.Name place) wrong = inr (sym (refused_first (error.Name place) (name_in_from place wrong)))
   from_refused error.NoMemory wrong = inl refl
@@ -258,7 +256,6 @@ module _ (schema : Schema) (text : List ℕ) (query : QueryNode) where
         ∙ ap (λ f. refusals_after schema text f query) k.from_is
         ∙ sym (refusals_are k.no_offence)
 
-    -- the FROM entries are known, and the query is refused
     pub behind_by : Knows → (e : QueryError) → IsFirstOf (refusals_behind binder query) e → Answers (query_or_refusal schema text query) (Err e)
     behind_by k e (inl memory) = inl (ap (λ y. Err y) memory)
     behind_by k e (inr is) = inr (sym (refused_first e (ap first (sym (same_refusals k)) ∙ is)))

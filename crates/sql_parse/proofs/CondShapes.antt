@@ -13,7 +13,6 @@ use Rattle.query_types.specs.Validity.{IsCondOf, IsColumnOf}
 use Rattle.query_types.specs.Typing.{Compares, IsTypedLayer}
 
 module _ (schema : Schema) (from : List Source) where
-  -- a part of a condition, with the fact that its columns exist
   abbrev Held : Type 0
   Held = (c : Cond) × IsCondOf schema from c
 

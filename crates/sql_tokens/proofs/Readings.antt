@@ -14,7 +14,7 @@ use Rattle.sql_tokens.proofs.Fronts.{Sees, sees_piece}
 use Rattle.sql_tokens.proofs.Computed.{gap_piece, token_piece, offence_piece}
 use Rattle.sql_tokens.proofs.Walk.{tokens_step, piece_long, IsLong, walk_start}
 
--- ---- what the walk gives satisfies the relation
+-- ---- the answer of the walk satisfies the relation
 
 abbrev pub IsTold : ℕ → List ℕ → Walked → Type 0
 IsTold at text (Ok tokens) = Leads at text tokens (at + length text) []
@@ -56,7 +56,7 @@ told_token at text bytes rest k (Err place) whole form ends told = record {
   here = told.here;
 }
 
--- if the walk is right from the place after n bytes on, and the piece has n bytes, then the walk is right for the bytes after the piece
+-- `walked` is the walk's answer from the place after the first n bytes on, and these bytes are the piece
 told_on : (at n : ℕ) (text bytes rest : List ℕ) (walked : Walked) → text ≡ bytes ++ rest → n ≡ length bytes → IsTold (at + n) (drop n text) walked → IsTold (at + length bytes) rest walked
 told_on at n text bytes rest walked whole len told =
     let left : drop n text ≡ rest = ap (drop n) whole ∙ drop_at bytes rest n (sym len) in
@@ -87,7 +87,7 @@ told_up_to (suc n) at (b ∷ rest) le =
 pub told : (at : ℕ) (text : List ℕ) → IsTold at text (tokens_at at text)
 told at text = told_up_to (length text) at text (omega arith)
 
--- ---- what satisfies the relation, the walk gives
+-- ---- an answer that satisfies the relation is the answer of the walk
 
 separator_len : (bytes rest : List ℕ) → IsSeparator bytes rest → 0 < length bytes
 separator_len bytes rest (inl s) = let l = ap length s.whole in omega arith

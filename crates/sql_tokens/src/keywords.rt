@@ -71,7 +71,7 @@ const KEYWORDS: &[(&str, Terminal)] = &[
     ("VALUES", Terminal::Reserved),
 ];
 
-/// Whether the bytes are this word in upper or lower case.
+/// Whether the bytes are this word, which is in upper case, with each letter in either case.
 #[tactic(auto, using(crate::proofs::Spelling::other_length, crate::proofs::Spelling::one_letter_more, crate::proofs::Spelling::another_letter, crate::proofs::Spelling::no_letter_left))]
 fn is_spelled(word: &[u8], bytes: &[u8]) -> bool
     ensures { result ≡ bytes_eq word.now (in_upper_case bytes.now) }

@@ -39,7 +39,7 @@ one_line left a b rest other x y =
 no_line : (left line rest : List ℕ) → HasNoEnd left → BeginsWithLine left line rest → ⊥
 no_line left line rest none next = not_without 10 next.text rest (subst HasNoEnd (with_line left line rest next) none)
 
--- the bytes are read up to `left`, and no statistics file goes on with the next line
+-- no statistics file goes on with the next line
 record Stops (schema : Schema) (bytes : List ℕ) (lines : Lines) (left : List ℕ) : Type 0 where
   read : IsReadUpTo schema bytes lines left
   halts : (line rest : List ℕ) → BeginsWithLine left line rest → IsFrontOfFile schema (lines ++ (line ∷ [])) → ⊥
@@ -79,7 +79,6 @@ meet (x ∷ a) (y ∷ b) p q (is_x, are_a) (is_y, are_b) e = by (meet a b p q ar
     by (inl h) = inl (subst (λ (z : List ℕ). Behind (x ∷ a) (z ∷ b) p q) first (grown x a b p q h))
     by (inr h) = inr (subst (λ (z : List ℕ). Behind (z ∷ b) (x ∷ a) q p) first (grown x b a q p h))
 
--- two readings of a text that both stop, stop after the same lines
 none_behind : (schema : Schema) (bytes : List ℕ) (a b : Lines) (p q : List ℕ) → Stops schema bytes a p → Stops schema bytes b q → Behind a b p q → (b ≡ a) × (p ≡ q)
 none_behind schema bytes a b p q stop other h = by h.more h.whole h.left h.are
   where
@@ -110,7 +109,6 @@ abbrev refused : StatsError → Result StatsFile StatsError
 refused why = Err why
 
 module _ (schema : Schema) (bytes : List ℕ) (good : IsValid schema) (columns : HasByteColumns schema) where
-  -- if lines are the front of a statistics file, they are the front of a text of the grammar
   front_text : (lines : Lines) → IsFrontOfFile schema lines → IsFrontOfText lines
   front_text lines h = record { more = h.more; whole = subst IsText (sym h.whole) (file_is_text schema h.file (file_bytes schema h.file good columns h.keeps) h.keeps) }
 
@@ -133,7 +131,6 @@ module _ (schema : Schema) (bytes : List ℕ) (good : IsValid schema) (columns :
   same_line : (a b : Lines) (n m : ℕ) → a ≡ b → n ≡ length a + 1 → m ≡ length b + 1 → n ≡ m
   same_line a b n m e at_a at_b = at_a ∙ ap (λ (x : Lines). length x + 1) e ∙ sym at_b
 
-  -- a line isn't refused both by the grammar and by a rule
   one_cause : (n m : ℕ) → IsSyntaxLine schema bytes n → IsRuleLine schema bytes m → ⊥
   one_cause n m h k = by h.wrong
     where

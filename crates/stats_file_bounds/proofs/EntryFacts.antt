@@ -1,5 +1,4 @@
--- The statistics that the code makes for an entry are those that the file gives. And if an entry is the first that lacks something, it is the query's
--- first missing entry.
+-- For each entry the code makes the statistics that the file gives. If the file lacks something, the code finds the first entry for which it does.
 use Rattle.std.proofs.Common.{◌≡◌, ℕ, ◌<◌, true, false, List, map, length, get_or, Option, None, Some, refl, ap, sym, ◌∙◌, subst, arith}
 use Rattle.std.specs.Prelude.{unwrap_or, IfSome}
 use Rattle.std.specs.Bool.{IsTrue}

@@ -25,7 +25,6 @@ use Rattle.stats_file.specs.declared.types.Pair.{Pair}
 use Rattle.stats_file.specs.declared.types.TableStats.{TableStats}
 use Rattle.stats_file.specs.Rules.{IsList, IsPair, IsHistogramOf}
 
--- every list of the pair falls
 pub record PairFalls (pair : Pair) : Type 0 where
   pub whole : IsFalling pair.whole
   pub value : (value : Value) → IsFalling (list_of_value pair value)

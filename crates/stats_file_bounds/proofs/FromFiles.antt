@@ -46,7 +46,6 @@ module _ (query : Query) (file : StatsFile) (own : NamesItsEntries query) (is : 
   from_stats_file : (entry : ℕ) → entry < length query.from → IsFromStatsFile (section_for query file entry)
   from_stats_file entry low = its_filed query file is entry (there entry low)
 
-  -- the lists of a joined column fall, and sum to the numbers of rows
   fall_and_sum : (p : Place) → Contains (places_of (equalities_of query)) p
       → ListsFall (stats_file_lists (section_for query file p.entry) (needs_of query p.entry) p.column)
       × SumTo (stats_file_lists (section_for query file p.entry) (needs_of query p.entry) p.column) (stats_file_counts (section_for query file p.entry) (needs_of query p.entry))
@@ -75,11 +74,9 @@ module _ (query : Query) (file : StatsFile) (own : NamesItsEntries query) (is : 
     rows_are entry low =
         let t : IsThere query file entry = there entry low in ap (λ (section : TableStats). section.rows) (section_is query file entry t) ∙ (stands entry t.section low t.is).rows
 
-    -- no table has more rows than a section may have
     pub few_rows : (entry : ℕ) → entry < length query.from → row_counts tables entry ≤ 4000000
     few_rows entry low = omega (arith, rows_are entry low, (from_stats_file entry low).is.rows)
 
-    -- the file gives an entry at most as many rows as the entry's table has
     told_few : (entry : ℕ) → entry < length query.from → (stats_file_counts (section_for query file entry) (needs_of query entry)).whole ≤ row_counts tables entry
     told_few entry low =
         omega (

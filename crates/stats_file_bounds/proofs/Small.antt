@@ -28,7 +28,6 @@ use Rattle.stats_file_bounds.specs.FileStatistics.{stats_file_lists, of_one_key,
 use Rattle.stats_file_bounds.specs.Found.{no_pair, pair_for}
 use Rattle.stats_file_bounds.proofs.Finding.{each_pair}
 
--- each list of the pair has at most `rows` rows, and the pair has at most 32 cuts
 pub record IsWithin (rows : ℕ) (pair : Pair) : Type 0 where
   pub whole : sum pair.whole ≤ rows
   pub value : (value : Value) → sum (list_of_value pair value) ≤ rows
@@ -110,6 +109,5 @@ step_small section from_stats_file needs joined step.And = refl
 step_small section from_stats_file needs joined step.Nothing = refl
 step_small section from_stats_file needs joined step.Or = refl
 
--- each section of a file that keeps the rules keeps the rules of sections
 pub section_filed : (file : StatsFile) → IsFile file → All IsFromStatsFile file.tables
 section_filed file is i d low = record { schema = is.schema; is = is.keeps.tables i d low }

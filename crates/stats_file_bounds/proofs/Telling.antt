@@ -75,7 +75,6 @@ module _ (query : Query) (own : NamesItsEntries query) where
 -- ---- sections and pairs that the file has
 
 module _ (query : Query) (file : StatsFile) where
-  -- the file has a section for the entry, with all pairs that the entry needs
   pub record IsThere (entry : ℕ) : Type 0 where
     pub section : TableStats
     pub is : section_of file (table_of query entry) ≡ Some section
@@ -106,7 +105,6 @@ module _ (query : Query) (file : StatsFile) where
     pub its_pairs : (entry : ℕ) (t : IsThere entry) → list_all (has_pair (section_for query file entry)) (pairs_of (needs_of query entry)) ≡ true
     its_pairs entry t = ap (λ (s : TableStats). list_all (has_pair s) (needed query entry)) (section_is entry t) ∙ t.all
 
-    -- a column that is asked for is a joined column, or the entry joins no column
     asked_joined : (entry column : ℕ) → Contains (asked_columns entry (equalities_of query)) column → IsJoined (needs_of query entry) column
     unfolding IsJoined
     asked_joined entry column has = by (joined_columns entry (equalities_of query)) refl has

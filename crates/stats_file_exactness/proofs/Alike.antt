@@ -14,7 +14,6 @@ use Rattle.predicate_bounds.specs.Steps.{range_of, steps_of, value_of}
 use Rattle.predicate_bounds.proofs.Answering.{lists_answer}
 use Rattle.query_types.specs.declared.types.Cond.{Cond}
 
--- the lists `a` and `b` agree on a column: on the list of each value, and on the list of each range
 pub record AgreeAt (a b : ColumnLists) (column : ℕ) : Type 0 where
   pub equal : (value : Value) → a.equal column value ≡ b.equal column value
   pub range : (low high : Option Value) → a.range (record { column = column; low = low; high = high }) ≡ b.range (record { column = column; low = low; high = high })

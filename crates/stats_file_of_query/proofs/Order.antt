@@ -8,7 +8,6 @@ use Rattle.stats_file_of_query.specs.declared.column_pairs.ColumnPair.{ColumnPai
 use Rattle.stats_file_of_query.specs.ColumnPairs.{is_pair}
 use Rattle.stats_file_of_query.specs.Files.{for_each_pair, joined_with}
 
--- R relates each element to every element after it
 abbrev pub Follow : {X : Type 0} → (X → X → Type 0) → List X → Type 0
 Follow R [] = Unit {0}
 Follow R (x ∷ xs) = AllByRecursion (R x) xs × Follow R xs

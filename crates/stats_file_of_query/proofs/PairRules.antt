@@ -45,13 +45,10 @@ use Rattle.stats_file_of_query.specs.Pairs.{frequent_in, pair_of}
 use Rattle.stats_file_of_query.proofs.Ascending.{IsText, cuts_ascend, not_above}
 use Rattle.stats_file_of_query.proofs.Lists.{node_listed, rest_listed, value_listed, whole_listed}
 
--- a value is the value of its datum
 back : (v : Value) → value_of (datum_of v) ≡ v
 back (values.Int number) = refl
 back (values.Text text) = refl
 
--- if S is true of f x and f y whenever x and y stand at different places and R is true of them, and R is true of all pairs of a list, S is true of all
--- pairs of the mapped list
 pub pairs_mapped : {X Y : Type 0} (R : X → X → Type 0) (S : Y → Y → Type 0) (f : X → Y) (xs : List X) (d : X) → AllPairs R xs
     → ((i j : ℕ) → i < j → j < length xs → R (get_or xs i d) (get_or xs j d) → S (f (get_or xs i d)) (f (get_or xs j d))) → AllPairs S (map f xs)
 pairs_mapped R S f xs d all each i j e before low =
@@ -99,7 +96,6 @@ module _ (texts : List (List ℕ)) (differ : HaveDifferentCharacters texts) (utf
   of_kind kind.Int cell is = sfits_to_z {w = w64} {n = cell} (Fits-of_lt {w = w64} {n = cell} is)
   of_kind (kind.Text most) cell is = utf8 cell [] is
 
-  -- different cells have different values
   apart : (a b : ℕ) → IsCell texts k a → IsCell texts k b → a ≢ b → datum a ≢ datum b
   apart a b is_a is_b differs same =
       let values_same : of_cell a ≡ of_cell b = sym (back (of_cell a)) ∙ ap value_of same ∙ back (of_cell b) in

@@ -44,7 +44,6 @@ same_lists f g (x ∷ xs) alike =
     later : {X : Type 0} (x : X) (xs : List X) (i : ℕ) (d : X) → get_or (x ∷ xs) (i + 1) d ≡ get_or xs i d
     later x xs i d = let e : i + 1 ≡ suc i = omega arith in rw e refl
 
--- if two functions make the same pair from any two columns, they make the same list of needed pairs
 pub same_pairs : (make other : ℕ → ℕ → Pair) (needed : List ColumnPair) (count : ℕ) → ((filter joined : ℕ) → filter < count → joined < count → make filter joined ≡ other filter joined)
     → for_each_pair make needed count ≡ for_each_pair other needed count
 same_pairs make other needed count alike =

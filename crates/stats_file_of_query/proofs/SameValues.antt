@@ -42,7 +42,6 @@ pub same_parts : (filter joined : ℕ) (all all' rest rest' : List ℕ) (frequen
     ≡ record { filter = filter; joined = joined; whole = all'; frequent = frequent'; rest = rest'; cuts = cuts'; nodes = nodes' }
 same_parts filter joined all all' rest rest' frequent frequent' cuts cuts' nodes nodes' a f r c n = rw (a, f, r, c, n) refl
 
--- if two lists of rows, each with its own order, have the same list at each node, their lists of all nodes are equal
 same_nodes : (le le' : ℕ → ℕ → Bool) (accuracy : ℕ) (rows rows' : List (ℕ × ℕ)) → length rows ≡ length rows'
     → ((size leaf : ℕ) → list_of_node le accuracy rows size leaf ≡ list_of_node le' accuracy rows' size leaf)
     → node_lists le accuracy rows ≡ node_lists le' accuracy rows'
@@ -61,7 +60,7 @@ module _ (texts : List (List ℕ)) (differ : HaveDifferentCharacters texts) (kin
   abbrev keys : List Value
   keys = cell_values texts differ other joined are_joined
 
-  -- the number of the first row that has the value of a cell
+  -- the first row that has the value of a cell stands for this value
   abbrev row_of : ℕ → ℕ
   row_of = number_of texts differ kind filter are_filter
 
@@ -126,7 +125,6 @@ module _ (texts : List (List ℕ)) (differ : HaveDifferentCharacters texts) (kin
 
   -- ---- frequent values, cuts and nodes
 
-  -- a value in the list of frequent values is frequent
   found : (column : List ℕ) (n : ℕ) → Contains (frequent column) n → (pairs : List (ℕ × ℕ)) → filter_values pairs ≡ column → is_frequent pairs n ≡ true
   found column n has pairs are =
       ap (λ (s : List ℕ). is_frequent_in (frequent s) n) are ∙ any-is_in (frequent column) n ∙ in_true (frequent column) n has

@@ -30,7 +30,7 @@ use Rattle.stats_file_of_query.proofs.SameSections.{first_is}
 use Rattle.stats_file_of_query.proofs.Stands.{pair_stands}
 use Rattle.stats_file_of_query.proofs.Walks.{kept_below}
 
--- ---- a property of what is made for each needed pair
+-- ---- a property of each pair that is made, for the list of needed pairs
 
 pub all_made : (P : Pair → Type 0) (make : ℕ → ℕ → Pair) (needed : List ColumnPair) (count : ℕ) → ((filter_column joined : ℕ) → filter_column < count → joined < count → P (make filter_column joined))
     → All P (for_each_pair make needed count)
@@ -47,7 +47,6 @@ all_made P make needed count each = of (range_with_len 0 count) (all_in_range (�
 -- ---- a section
 
 module _ (schema : Schema) (query : Query) (tables : Tables) (share : ShareRows query tables) (accuracy : ℕ) where
-  -- two entries of the same table have the same columns, and so the same pairs
   same_column : (entry other column : ℕ) → tables entry ≡ tables other → column_values tables entry column ≡ column_values tables other column
   same_column entry other column same = ap (λ (rows : List Row). column_values (λ e. rows) 0 column) same
 
@@ -92,7 +91,6 @@ module _ (schema : Schema) (query : Query) (tables : Tables) (share : ShareRows 
 
 -- ---- the tables of a database
 
--- two entries of the same table have the same cells
 pub share_rows : (schema : Schema) (query : Query) (db : Database) → IsOverSchema schema query db → ShareRows query (tables_of db)
 share_rows schema query db over entry other low also same =
     ap (λ slot. rows_of_cells db.pool (slice_index_or db.cells slot no_cells)) (over.of.database.one_place entry other low also same)

@@ -44,7 +44,6 @@ use Rattle.stats_file_of_query.specs.Data.{datum_of, value_of}
 use Rattle.stats_file_of_query.specs.Pairs.{datum_of_row, frequent_in, pair_in_table}
 use Rattle.stats_file_of_query.specs.Standing.{PairStandsFor, leaf_cut, is_in_node, is_value, leaf_of_value, list_of_node, list_of_value}
 
--- a value is the value of its datum
 pub back : (v : Value) → value_of (datum_of v) ≡ v
 back (values.Int number) = refl
 back (values.Text text) = refl
@@ -74,7 +73,7 @@ by_place q p (x ∷ xs) first h =
 
 -- ---- a list that is looked up by its value
 
--- one frequent value more, which is or isn't the value that is looked up
+-- `mine` says whether one more frequent value is the value that is looked up
 pick : (test mine any : Bool) (d : Datum) (list other others found : List ℕ) (rest : Option (Datum × List ℕ)) → test ≡ mine → (mine ≡ true → list ≡ other)
     → option_map_or (λ (one : Datum × List ℕ). one.1) rest others ≡ (if any then other else others)
     → option_map_or (λ (one : Datum × List ℕ). one.1) (if test then Some (d, list) else rest) others ≡ (if (mine || any) then other else others)
@@ -83,7 +82,6 @@ pick false false any d list other others found rest same is later = later
 pick true false any d list other others found rest same is later = absurd (false≢true (sym same))
 pick false true any d list other others found rest same is later = absurd (false≢true same)
 
--- the rows of two columns, by the numbers of their values
 pub numbered_pairs : (tables : Tables) (entry filter joined : ℕ) → paired (column_values tables entry filter) (column_values tables entry joined)
     ≡ zip (map (number_at tables entry filter) (range_with_len 0 (row_counts tables entry))) (map (number_at tables entry joined) (range_with_len 0 (row_counts tables entry)))
 numbered_pairs tables entry filter joined =
@@ -130,7 +128,6 @@ module _ (tables : Tables) (accuracy entry filter_column joined : ℕ) where
     abbrev number : ℕ
     number = first_row filters value
 
-    -- the value with number n is `value` exactly if n is the number of `value`
     abbrev IsAlike : ℕ → Type 0
     IsAlike n = is_value value (datum_of_row filters n) ≡ eqb n number
 

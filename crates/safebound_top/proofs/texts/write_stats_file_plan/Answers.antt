@@ -12,7 +12,6 @@ use Rattle.safebound_top.proofs.texts.write_stats_file_plan.Goals as goal
 abbrev made_of : PreparedStatsFilePlan → PlanFromStatsFile
 made_of made = record { query = made.query; file = made.file; plan = made.plan; memory = made.memory }
 
--- the plan text is the lines of the plan, and then the line with its bytes
 text_is : (made : PreparedStatsFilePlan) {sources : List Source} → sources ≡ made.query.from → made.bytes ≡ shape_bytes made.plan
     → shape_lines sources made.plan ++ memory_text made.memory made.bytes ≡ stats_file_plan_text (made_of made)
 text_is made from bytes =
