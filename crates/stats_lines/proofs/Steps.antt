@@ -1,4 +1,4 @@
--- Decides what a line does to a draft (the part of a file that is read so far).
+-- The functions decide what a line does to a draft (the part of a file that is read so far).
 use Rattle.std.proofs.Common.{◌≡◌, ◌≢◌, inl, inr, ℕ, List, [], refl, subst, Option, Some, None}
 use Rattle.std.specs.Prelude.{slice_get, Result, Ok, Err}
 use Rattle.schema_types.specs.declared.types.Schema.{Schema}
@@ -29,7 +29,7 @@ Outcome = Result (Unit {0}) Fault
 
 -- ---- the words of a line spell a value
 
--- a value that may come next and has these words is taken, which gives `draft`; or there is no such value, and `result` is the fault
+-- a value that may come next and has these words is taken, which gives `draft`; if there is no such value, `result` is the fault
 record Taken {X : Type 0} (text : X → List ℕ × List ℕ) (MayBe : X → Type 0) (After : Draft → X → Type 0) (words : List ℕ × List ℕ) : Type 0 where
   draft : Draft
   result : Outcome
@@ -76,7 +76,7 @@ table_ends stage.Cuts s = open_ends stage.Cuts s
 table_ends stage.Nodes s = open_ends stage.Nodes s
 table_ends stage.Done s = open_ends stage.Done s
 
--- ---- the words of a line of each kind
+-- ---- the words of a line, for each kind of line
 
 record Read (at : Stage) (schema : Schema) (k : LineKind) (s : Draft) (words : List ℕ × List ℕ) : Type 0 where
   draft : Draft

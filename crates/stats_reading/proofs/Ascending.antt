@@ -47,7 +47,6 @@ later_than pairs pair q is some ascend =
     let same = later_than_last pairs pair q some ascend in
     (λ h. same.0 (subst (λ (p : Pair). StandsBefore p pair) is h), λ all. subst (λ (p : Pair). StandsBefore p pair) (sym is) (same.1 all))
 
--- if the last pair has another filter column than `filter` and no pair has a later one, no pair has this filter column
 pub no_place : (pairs : List Pair) (filter : ℕ) (d : Pair) → 0 < length pairs → AllPairs StandsBefore pairs → All (λ (q : Pair). q.filter ≤ filter) pairs
     → (get_or pairs (length pairs - 1) d).filter ≢ filter → IsPlaceOf (λ (q : Pair). q.filter) filter pairs (length pairs)
 no_place pairs filter d some ascend within other = record {

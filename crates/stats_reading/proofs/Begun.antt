@@ -33,7 +33,6 @@ nothing : {X : Type 0} (xs ys : List X) → xs ++ ys ≡ [] → (xs ≡ []) × (
 nothing [] ys e = (refl, e)
 nothing (x ∷ xs) ys e = absurd (cc)
 
--- if all cuts are read, a pair that extends the current one has no further cuts
 cuts_whole : (kind : Kind) (rows : ℕ) (front old : List Datum) (nodes : List (List ℕ)) → IsHistogramOf kind rows (front ++ old) nodes → (0 < rows → length front ≡ 32) → old ≡ []
 cuts_whole kind zero front old nodes (none, others) all = (nothing front old none).1
 cuts_whole kind (suc n) front old nodes is all = no_more front old (is.leaves ∙ sym (all (omega arith)))
@@ -99,7 +98,7 @@ list_of_none rows = record { falls = λ r. omega arith; positive = λ k d lt. ab
 abbrev no_list : List ℕ
 no_list = []
 
--- a list of all rows: one join value has them all
+-- one join value has all rows
 abbrev all_rows : ℕ → List ℕ
 all_rows zero = []
 all_rows (suc n) = suc n ∷ []
@@ -115,7 +114,7 @@ all_rows_is (suc n) = (record { falls = falls; positive = positive; within = ome
     positive zero d lt = omega arith
     positive (suc k) d lt = absurd (omega arith)
 
--- some value of each kind
+-- any value of the kind would do
 abbrev some_value : Kind → Datum
 some_value kinds.Int = datum.Int (pos 0)
 some_value (kinds.Text most) = datum.Text []
@@ -133,7 +132,7 @@ some_tree_is kind rows = record {
   lists = all_same (IsList rows) 63 no_list (list_of_none rows);
 }
 
--- lists with which a new pair may go on after its list of all rows
+-- a new pair may go on with these lists after its list of all rows
 record Counted (s : Draft) (kind : Kind) (rows filter joined : ℕ) (whole : List ℕ) : Type 0 where
   frequent : List (Datum × List ℕ)
   rest : List ℕ
@@ -192,7 +191,7 @@ copied table s kind filter joined place whole q is same agree at column = record
         → HaveSameFilterCounts (get_or s.section.pairs k d) (record { filter = filter; joined = joined; whole = whole; frequent = q.frequent; rest = q.rest; cuts = q.cuts; nodes = q.nodes })
     again k d h = record { values = h.values; totals = h.totals; rest = h.rest; cuts = h.cuts; nodes = h.nodes }
 
--- a list of all rows with which a new pair with this joined column may begin
+-- a new pair with this joined column may begin with this list of all rows
 record Totalled (s : Draft) (joined : ℕ) : Type 0 where
   whole : List ℕ
   is : IsList s.section.rows whole

@@ -1,4 +1,4 @@
--- Where the pairs and tables of a file begin and end.
+-- A pair or a table of a file begins or ends at a line. The lemmas say which lines of the file remain then.
 use Rattle.std.proofs.Common.{◌≡◌, ◌≢◌, ℕ, zero, suc, ◌<◌, List, [], ◌∷◌, ◌++◌, length, refl, ap, sym, subst, ◌∙◌, arith, append-nil, append_assoc, Some}
 use Rattle.std.specs.Prelude.{slice_get}
 use Rattle.std.proofs.lemmas.Option.{slice_get_within}

@@ -1,4 +1,4 @@
--- Which lines may follow a line in a text of the grammar.
+-- In a text of the grammar, only lines of some kinds may follow a line.
 use Rattle.std.proofs.Common.{◌≡◌, ◌⊎◌, inl, inr, ℕ, List, [], ◌∷◌, ◌++◌, ◌==◌, if◌then◌else◌, refl, ap, sym, subst, ◌∙◌, append_assoc, Option, Some, None}
 use Rattle.std.specs.Prelude.{codes}
 use Rattle.std.specs.List.{AllByRecursion, flat_map}
@@ -55,7 +55,6 @@ tag_of_line kind.Cut line is = same_tag line (codes "cut " ++ (is.word ++ codes 
 tag_of_line kind.Node line is = same_tag line (codes "node " ++ (is.word ++ codes "\n")) is.whole
 tag_of_line kind.End line is = same_tag line (codes "end\n") is
 
--- a line is of at most one kind
 pub same_kind : (a b : LineKind) (line : List ℕ) → IsOfKind a line → IsOfKind b line → a ≡ b
 same_kind a b line is other = kind_by_tag a b (sym (tag_of_line a line is) ∙ tag_of_line b line other)
 
@@ -210,7 +209,6 @@ pairs_put line more is h =
 
 -- ---- a step of the grammar
 
--- the line is of a kind that the grammar allows at this stage, and the lines after it are allowed at the next stage
 abbrev GoesOn : Stage → List ℕ → List (List ℕ) → Type 0
 GoesOn at line more = (k : LineKind) × (IsOfKind k line × TextLeftAt (next_stage at k) more)
 
@@ -309,7 +307,6 @@ text_closes stage.Nodes kind.Table line more is h = many_none (line ∷ more) (t
 text_closes stage.Nodes kind.End line more is h = many_none (line ∷ more) (to_pairs (line ∷ more) (to_tables (line ∷ more) (ends_here line more is h)))
 text_closes _ _ line more is h = absurd h
 
--- if a text goes on with a line of kind k, the grammar allows this kind at this stage, and the lines after it are allowed at the next stage
 pub text_step : (at : Stage) (k : LineKind) (line : List ℕ) (more : List (List ℕ)) → IsOfKind k line → TextLeft at (line ∷ more) → TextLeftAt (next_stage at k) more
 text_step at k line more is h =
     let on = text_opens at line more h in
@@ -318,6 +315,5 @@ text_step at k line more is h =
 pub text_back : (at : Stage) (k : LineKind) (line : List ℕ) (more : List (List ℕ)) → IsOfKind k line → TextLeftAt (next_stage at k) more → TextLeft at (line ∷ more)
 text_back at k line more is h = text_closes at k line more is h
 
--- if a line is of no kind, no text of the grammar goes on with it
 pub no_text : (at : Stage) (line : List ℕ) (more : List (List ℕ)) → ((k : LineKind) → IsOfKind k line → ⊥) → TextLeft at (line ∷ more) → ⊥
 no_text at line more none h = let on = text_opens at line more h in none on.0 on.1.0

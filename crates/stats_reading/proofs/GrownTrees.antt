@@ -24,7 +24,7 @@ use Rattle.stats_reading.proofs.Grown.{at_front, kept, no_more, rules_of}
 
 -- ---- cuts
 
--- cuts that may come after the next one
+-- these cuts may come after the next one
 record NextCut (s : Draft) (p : Pair) (cut : Datum) (kind : Kind) : Type 0 where
   rest : List Datum
   is : IsHistogram kind s.section.rows (s.pair.cuts ++ cut ∷ rest) p.nodes
@@ -82,7 +82,7 @@ pub tree_back : (kind : Kind) (rows : ℕ) (cuts : List Datum) (nodes : List (Li
 tree_back kind zero cuts nodes some is = absurd (omega arith)
 tree_back kind (suc n) cuts nodes some is = is
 
--- pair p still keeps the rules if its cuts and nodes are exchanged for ones that keep the rules
+-- pair p with other cuts and nodes still keeps the rules, if these do
 other_tree : (table : Table) (s : Draft) (p : Pair) (cuts : List Datum) (nodes : List (List ℕ)) → IsKnown table s → (rules : PairRules table s.section.rows s.section.pairs p)
     → p.filter ≡ s.pair.filter → 0 < s.section.rows → IsHistogram rules.is.filter.kind s.section.rows cuts nodes
     → ((q : Pair) → IsLike s q → HaveSameFilterCounts p (record p { cuts = cuts; nodes = nodes }))
@@ -145,7 +145,6 @@ cut_grown schema s cut v may =
 
 -- ---- nodes
 
--- if `front` is shorter than the whole list, an element comes after it
 one_follows : {X : Type 0} (front old : List X) → length front < length (front ++ old) → (x : X) × (rest : List X) × (old ≡ x ∷ rest)
 one_follows [] [] lt = absurd (omega arith)
 one_follows [] (x ∷ old) lt = (x, old, refl)

@@ -133,7 +133,6 @@ section_ended schema section is =
       each_part (pair_lines is.table) section.pairs (λ k d lt. pair_ended is.table section.rows (get_or section.pairs k d) few (is.pairs k d lt)),
     )
 
--- each line of a file that keeps the rules ends with its only line end
 pub lines_ended : (schema : Schema) (file : StatsFile) → KeepsRules schema file → AreEnded (file_lines schema file)
 unfolding file_lines
 lines_ended schema file keeps =
@@ -158,7 +157,6 @@ empty (c ∷ text) behind rest e = absurd (cc)
 pub not_empty : (line behind rest : List ℕ) → IsEnded line → (line ++ behind) ++ rest ≡ [] → ⊥
 not_empty line behind rest is e = empty is.text behind rest (ap (λ (l : List ℕ). (l ++ behind) ++ rest) (sym is.whole) ∙ e)
 
--- if a text begins with given lines, they are the first lines of the text
 pub front_of : (lines all : List (List ℕ)) (rest : List ℕ) → AreEnded lines → AreEnded all → concat lines ++ rest ≡ concat all → IsFront lines all rest
 front_of [] all rest are all_are e = record { more = all; whole = refl; rest_is = e }
 front_of (x ∷ lines) [] rest are all_are e = absurd (not_empty x (concat lines) rest are.0 e)

@@ -18,14 +18,12 @@ use Rattle.stats_reading.proofs.RuleFacts.{pair_rules, PairRules}
 use Rattle.stats_reading.proofs.Seams.{same_some}
 use Rattle.stats_reading.proofs.Tags.{after_pair, frequent_parts, tag, tree_parts, FrequentParts, TreeParts}
 
--- the line is that of a value which may come next and has property `Rest`
 pub record Opened {X : Type 0} (line_of : X → List ℕ) (MayBe Rest : X → Type 0) (line : List ℕ) : Type 0 where
   pub value : X
   pub is : line ≡ line_of value
   pub may : MayBe value
   pub rest : Rest value
 
--- the draft is right about its current pair, over the table of this pair
 abbrev pub KnownIn : Schema → Draft → Type 0
 KnownIn schema s = (table : Table) → slice_get schema.tables s.section.table ≡ Some table → IsKnown table s
 

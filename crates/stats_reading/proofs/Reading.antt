@@ -27,7 +27,7 @@ use Rattle.stats_reading.proofs.Seams.{none_left}
 abbrev Lines : Type 0
 Lines = List (List ℕ)
 
--- `lines` are read and gave draft s, `rest` are the remaining bytes, and `line` is the number of the next line
+-- `lines` were read and gave draft s; `rest` are the remaining bytes, and `line` is the number of the next line
 pub record IsRead (schema : Schema) (bytes rest : List ℕ) (s : Draft) (line : ℕ) : Type 0 where
   pub lines : Lines
   pub whole : bytes ≡ concat lines ++ rest
@@ -44,7 +44,7 @@ concat_append (x ∷ a) b = ap (λ (rest : List ℕ). x ++ rest) (concat_append 
 abbrev ended : List ℕ → List ℕ
 ended text = text ++ codes "\n"
 
--- a line may be counted to the lines before it or to those after it
+-- a line is counted to the lines before it, or to the lines after it
 one_more : (lines : Lines) (line : List ℕ) (more : Lines) → (lines ++ line ∷ []) ++ more ≡ lines ++ (line ∷ more)
 one_more lines line more = append_assoc lines (line ∷ []) more
 
@@ -120,7 +120,6 @@ begun_at stage.Cuts schema s v = record { file = file_of_draft s (section_of s (
 begun_at stage.Nodes schema s v = record { file = file_of_draft s (section_of s (v.pair ∷ []) ∷ []); more = v.own ++ last; left = in_pair (NodesLeft s.pair) schema s v }
 begun_at stage.Done schema s v = record { file = file_of_draft s []; more = []; left = (v, refl, refl) }
 
--- there is a file whose first lines are those that were read
 read_up_to : (schema : Schema) (bytes rest : List ℕ) (s : Draft) (line : ℕ) (h : IsRead schema bytes rest s line) → IsReadUpTo schema bytes h.lines rest
 read_up_to schema bytes rest s line h =
     let b = begun_at s.stage schema s h.valid in
@@ -169,7 +168,6 @@ not_left own before e = not_nothing before (sym (none_left own (before ++ last) 
 not_behind : (own pairs tables : Lines) → [] ≡ own ++ (pairs ++ (tables ++ last)) → ⊥
 not_behind own pairs tables e = not_left pairs tables (sym (none_left own (pairs ++ (tables ++ last)) e).1)
 
--- before the last line is read, no file is complete
 more_left : (at : Stage) (schema : Schema) (s : Draft) (file : StatsFile) → (at ≡ stage.Done → ⊥) → FileLeft at schema s file [] → ⊥
 unfolding file_lines
 more_left stage.Start schema s file other h = let none = h.1 in absurd (cc)
@@ -181,7 +179,6 @@ more_left stage.Cuts schema s file other h = not_behind h.own (flat_map (pair_li
 more_left stage.Nodes schema s file other h = not_behind h.own (flat_map (pair_lines h.table) h.pairs) (flat_map (section_lines schema) h.tables) h.all
 more_left stage.Done schema s file other h = other refl
 
--- if no line end is left, and the file isn't complete or bytes come after its last line, the answer is Syntax at the next line
 pub too_early : (schema : Schema) (bytes rest : List ℕ) (s : Draft) (line : ℕ) → IsRead schema bytes rest s line → Without 10 rest → ((s.stage ≡ stage.Done) × (rest ≡ []) → ⊥)
     → FileAnswers schema bytes (Err (error.Syntax line))
 too_early schema bytes rest s line h none other = record {

@@ -30,7 +30,6 @@ tables_tag schema (section ∷ rest) line more e = at (slice_get schema.tables s
     at None f later = later f
     at (Some table) f later = let same : line ≡ table_line table.name section.rows = cc in inl (same_tag line (table_line table.name section.rows) same)
 
--- the first of the lines of further tables is the line of the first table, and the lines of this table's pairs come next
 pub from_tables : (schema : Schema) (section : TableStats) (rest : List TableStats) (table : Table) (line : List ℕ) (more : List (List ℕ))
     → slice_get schema.tables section.table ≡ Some table → line ∷ more ≡ tables_left schema (section ∷ rest)
     → (line ≡ table_line table.name section.rows) × (more ≡ pairs_left schema table section.pairs rest)
@@ -52,7 +51,7 @@ to_tables schema section rest table exists =
 
 -- ---- the lines of further pairs
 
--- the lines of a pair after its first line
+-- the first line of a pair names its columns; these are the lines after it
 abbrev pub pair_rest : Pair → List (List ℕ)
 pair_rest pair = whole_line pair.whole ∷ frequent_lines pair.frequent pair.rest pair.cuts pair.nodes
 
@@ -69,7 +68,7 @@ pairs_tag schema table (pair ∷ rest) tables line more e =
     let same : line ≡ pair_line (name_at table pair.filter) (name_at table pair.joined) = cc in
     inl (same_tag line (pair_line (name_at table pair.filter) (name_at table pair.joined)) same)
 
--- after the last line of a pair comes neither a cut nor a node, and after the last pair comes no pair
+-- 99 and 110 are the tags of a cut and a node
 pub after_pair : (schema : Schema) (table : Table) (pairs : List Pair) (tables : List TableStats) (line : List ℕ) (more : List (List ℕ)) → line ∷ more ≡ pairs_left schema table pairs tables
     → (tag line ≢ 99) × (tag line ≢ 110)
 after_pair schema table pairs tables line more e = at (pairs_tag schema table pairs tables line more e)
@@ -88,7 +87,6 @@ after_pairs schema tables line more e = at (tables_tag schema tables line more e
 
 -- ---- the lines of a tree
 
--- the line is the next cut, or the next node if no cut remains, or comes after the tree
 pub record TreeParts (cuts : List Datum) (nodes : List (List ℕ)) (line : List ℕ) (more after : List (List ℕ)) : Type 0 where
   pub cut : tag line ≡ 99 → FromMap cut_line cuts line more (map histogram_node_line nodes ++ after)
   pub node : tag line ≡ 110 → (cuts ≡ []) × FromMap histogram_node_line nodes line more after
@@ -116,7 +114,6 @@ tree_parts cuts nodes line more after other e =
 
 -- ---- the lines of frequent values
 
--- the line is the next frequent value, or the list of the other values if no frequent value remains
 pub record FrequentParts (frequent : List (Datum × List ℕ)) (rest : List ℕ) (line : List ℕ) (more tree after : List (List ℕ)) : Type 0 where
   pub value : tag line ≡ 102 → FromMap value_line frequent line more ((rest_line rest ∷ tree) ++ after)
   pub others : tag line ≡ 114 → (frequent ≡ []) × (line ≡ rest_line rest) × (more ≡ tree ++ after)

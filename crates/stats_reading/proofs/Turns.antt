@@ -1,4 +1,4 @@
--- Lines at which a table or a pair begins, and the one before it ends.
+-- At some lines a table or a pair begins, and the table or pair before it ends.
 use Rattle.std.proofs.Common.{◌≡◌, ◌≢◌, ◌↔◌, ℕ, zero, suc, ◌<◌, ◌≤◌, List, [], ◌∷◌, ◌++◌, length, get_or, map, refl, ap, sym, subst, ◌∙◌, arith, Option, Some, None}
 use Rattle.std.specs.Prelude.{slice_get, codes, decimal, Result}
 use Rattle.std.proofs.lemmas.Fmt.{decimal_injective}
@@ -36,7 +36,6 @@ use Rattle.stats_reading.proofs.WordFacts.{hex_without, hex_word_blank}
 
 -- ---- each name is that of one table or column
 
--- if names at two places are equal in a list of different names, the places are equal
 pub one_place : {X : Type 0} (name : X → List ℕ) (xs : List X) (i j : ℕ) (x y : X) → Differ (map name xs) → slice_get xs i ≡ Some x → slice_get xs j ≡ Some y → hex_text (name x) ≡ hex_text (name y) → i ≡ j
 one_place {X} name xs i j x y differ at_x at_y e = by (tri i j)
   where
@@ -58,7 +57,7 @@ one_place {X} name xs i j x y differ at_x at_y e = by (tri i j)
 
 -- ---- a pair or a table ends
 
--- at this stage, a line that is neither a cut nor a node ends the current pair, if there is one
+-- a line that is neither a cut nor a node ends the current pair, if there is one
 pub record PairEnding (at : Stage) (schema : Schema) (s : Draft) (line : List ℕ) : Type 0 where
   pub ends : EndsBefore (PairEnds at s) (FileLeft at schema s) (InTable schema) line
   pub valid : (m : Draft) → PairEnds at s m → IsValidTable schema m
@@ -112,7 +111,6 @@ ends_in_tables schema s line valid = record {
   valid = λ m e. subst (λ (x : Draft). KeepsRules schema (file_of_draft x [])) (sym e) valid;
 }
 
--- after the current pair ends, the table ends
 after_pair_ends : (at : Stage) (schema : Schema) (s : Draft) (line : List ℕ) → PairEnding at schema s line → tag line ≢ 112
     → EndsBefore (λ t. (m : Draft) × PairEnds at s m × (t ≡ table_ended m)) (FileLeft at schema s) (InFile schema) line
 after_pair_ends at schema s line pair no_pair = record {

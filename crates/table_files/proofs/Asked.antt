@@ -66,7 +66,6 @@ module _ (Q R : Cond-F Cond → Type 0) (and : (all : List Cond) → R (layer.An
 -- ---- columns
 
 module _ (schema : Schema) (query : Query) (d : Database) (has : HasCells schema query.from d) (long : length d.slots ≡ length query.from) where
-  -- a column that the query finds is one of its entry's table in the schema
   declared_at : (ref' : ColumnRef) (column : Column) → valid.FindsColumn schema query.from ref' column
       → slice_get (table_at schema (get_or (numbers_of query.from) ref'.from 0)).columns ref'.column ≡ Some column
   declared_at ref' column f =

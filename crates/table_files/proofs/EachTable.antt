@@ -43,7 +43,6 @@ first_part : (t : Result (List Row) Refusal) (e e' : AllRows) (u : Result (List 
 first_part (Err x) e e' u w h = refl
 first_part (Ok a) e e' u w h = ap (λ (v : AllRows). v >>= (λ rest. Ok (a ∷ rest))) h ∙ second_part a e u w
 
--- after the rows `rs` of the tables before it, table n is read, and then the tables after it
 abbrev onward : Schema → ℕ → List ℕ → List (List Row) → Files → AllRows
 onward schema n after rs files = table_rows schema n files >>= (λ r. rows_of_each schema after files >>= (λ others. Ok (rs ++ (r ∷ others))))
 
@@ -56,7 +55,7 @@ parted schema (m ∷ before) n after files =
 
 -- ---- what the store was asked for
 
--- a condition on files that every file satisfies; it serves for readings that succeed
+-- every file satisfies this condition; it serves for readings that succeed
 abbrev pub Anywhere : Files → FileId → Type 0
 Anywhere files id = ⊤
 
@@ -74,13 +73,11 @@ module _ (schema : Schema) (first second : Reading) (meets : Meets first second)
       (then_reads (rows_of_each schema before) (onward schema n after) first second Anywhere AtThis (IsReached schema numbers) rs (Err e) meets
       (λ files id is at. record { before = before; number = n; after = after; order = order; file = at; sound = rw is refl }) h k)
 
-  -- if the reading of table n ends with e, the reading of all tables ends with e
   pub each_stops : (after numbers : List ℕ) (e : Ending) → before ++ (n ∷ after) ≡ numbers → Reads second (table_rows schema n) AtThis (Err e)
       → Reads (joined first second) (rows_of_each schema numbers) (IsReached schema numbers) (Err e)
   each_stops after numbers e order k = ends_there after numbers e order
       (then_stops (table_rows schema n) (λ r files. rows_of_each schema after files >>= (λ others. Ok (rs ++ (r ∷ others)))) second AtThis AtThis e (λ files id at. at) k)
 
-  -- if the reading of table n succeeds, the reading of the tables up to n succeeds
   each_more : (r : List Row) → Reads second (table_rows schema n) AtThis (Ok r)
       → Reads (joined first second) (rows_of_each schema (before ++ n ∷ [])) Anywhere (Ok (rs ++ r ∷ []))
   each_more r k =
@@ -127,7 +124,7 @@ files-push schema (m ∷ ms) (s ∷ rows) n r h k = (h.0, files-push schema ms r
 
 -- ---- the loop over the tables
 
--- the state of the loop: the tables before place i are read
+-- this is the state of the loop: the tables before place i are read
 pub record SoFar (schema : Schema) (numbers : List ℕ) (store : Reading) (i : ℕ) (texts : List (List ℕ)) (found : List Cells) : Type 0 where
   pub cells : AreCellsOfEach schema texts (take i numbers) found
   pub reads : Reads store (rows_of_each schema (take i numbers)) Anywhere (Ok (rows_of_tables texts found))
@@ -139,7 +136,6 @@ parts_at numbers i n lt is =
     ap (λ (m : ℕ). take i numbers ++ (m ∷ drop (i + 1) numbers)) is
     ∙ ap (λ (l : List ℕ). take i numbers ++ l) (sym (drop_more numbers i 0 lt)) ∙ take-append-drop i numbers
 
--- table t is the one that the schema has at number n
 module _ (schema : Schema) (n : ℕ) (t : Table) (declared : slice_get schema.tables n ≡ Some t) where
   same_table : t ≡ table_at schema n
   same_table = sym (get_or_from_slice_get schema.tables n t no_table declared)
@@ -148,7 +144,6 @@ module _ (schema : Schema) (n : ℕ) (t : Table) (declared : slice_get schema.ta
       → Reads store (table_rows schema n) (AtFile (file.Table n)) answer
   named_rows store answer k = subst (λ (u : Table). Reads store (file_rows n u) (AtFile (file.Table n)) answer) same_table k
 
-  -- the rows of the table in a file of another name
   pub rows_named : (name : List ℕ) (store : Reading) (answer : Result (List Row) Ending) → Reads store (rows_in n t name) (AtFile (file.Table n)) answer
       → Reads store (rows_in n (table_at schema n) name) (AtFile (file.Table n)) answer
   rows_named name store answer k = subst (λ (u : Table). Reads store (rows_in n u name) (AtFile (file.Table n)) answer) same_table k

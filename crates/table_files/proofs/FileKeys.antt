@@ -82,7 +82,6 @@ refused_or : {A : Type 0} (e : TableError) (o : Option A) (x : A) → or_refuse 
 refused_or e None x is = absurd cc
 refused_or e (Some y) x is = let same : y ≡ x = cc in ap (λ z. Some z) same
 
--- if a list with one more item in front is read, the item is and the other items are
 both_ok : {A : Type 0} (first : Result A TableError) (rest : Result (List A) TableError) (all : List A) → then_all first rest ≡ Ok all
     → (x : A) × (xs : List A) × (first ≡ Ok x) × (rest ≡ Ok xs) × (x ∷ xs ≡ all)
 both_ok (Ok x) (Ok xs) all is = (x, xs, refl, refl, cc)
@@ -146,7 +145,6 @@ both_none seen x rest is =
       | Some place ↦ λ none. absurd cc
     ]) is
 
--- if nothing is repeated among the remaining items, no item equals an earlier one
 none_before : (seen rest : List (List Value)) → repeat_after seen rest ≡ None → (i j : ℕ) → i < j → length seen ≤ j → j < length seen + length rest
     → are_same (get_or (seen ++ rest) j []) (get_or (seen ++ rest) i []) ≡ false
 none_before seen [] none i j less from' low = absurd (omega arith)
@@ -232,7 +230,6 @@ module _ (rows : List Row) (readable : AllByRecursion (AllByRecursion IsReadable
       let both : are_same (value_in j ∷ []) (value_in i ∷ []) ≡ true = rw alike refl in
       false≢true (sym keys_apart ∙ both)
 
-  -- no two rows have the same value in the column
   pub rows_apart : (i j : ℕ) → i < length rows → j < length rows → is_eq (value_cmp (value_in i) (value_in j)) ≡ true → i ≡ j
   rows_apart i j low high h =
       let same : value_in i ≡ value_in j =

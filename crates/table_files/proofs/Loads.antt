@@ -73,7 +73,6 @@ module _ (store : Reading) (id : FileId) (most : ℕ) (name : List ℕ) (later :
   pub load_fault : Rose store.faults_before store.faults_after → store.misses_after ≡ store.misses_before → Reads store (read id most name) (AtFile id) (Err (ending.Fault id))
   load_fault rose misses = record { gives = (rose, (λ files told'. refl)); misses = λ files told' missed. misses; later = later; same = same }
 
--- a lack of memory may end each step
 pub wanting : {A : Type 0} (store : Reading) (stage : Files → Result A Refusal) (C : Files → FileId → Type 0) → store.misses_after ≡ store.misses_before
     → store.faults_before ≤ store.faults_after → store.files_after ≡ store.files → Reads store stage C (Err ending.NoMemory)
 wanting store stage C misses later same = record { gives = tt; misses = λ files told missed. misses; later = later; same = same }

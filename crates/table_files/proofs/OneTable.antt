@@ -17,7 +17,6 @@ use Rattle.outcomes.proofs.ReadFacts.{then_gives, then_stops, then_tells}
 use Rattle.table_files.specs.FileNames.{file_name}
 use Rattle.table_files.specs.TableFile.{file_rows, read, rows_in, rows_of_bytes}
 
--- if the reader refuses the bytes with error e, the run ends with the refusal for e
 table_tells : (number : ℕ) (answer : Result (List Row) TableError) (e : TableError) → Refuses answer e → StopsBy (told (table_refusal number) answer) (table_ending number e)
 table_tells number answer table.NoMemory h = tt
 table_tells number answer (table.Utf8 at) h = (ap (told (table_refusal number)) h, (λ file e. cc), (λ e. cc))
@@ -47,7 +46,6 @@ module _ {store : Reading} (number : ℕ) (t : Table) (name : List ℕ) where
       then_tells store (read (file.Table number) 67108864 name) (rows_of_bytes number t) (AtTable number) (AtTable number) bytes (table_ending number error)
       (subst (λ (text : List ℕ). StopsBy (rows_of_bytes number t text) (table_ending number error)) same (table_tells number (rows_of_file t slice) error refuses)) h
 
-  -- if the name is that of the table's own file, the rows are those of the table's file
   pub own_rows : {answer : Result (List Row) Ending} → name ≡ file_name t → Reads store (rows_in number t name) (AtTable number) answer → Reads store (file_rows number t) (AtTable number) answer
   unfolding file_rows
   own_rows {answer} named h = subst (λ (n : List ℕ). Reads store (rows_in number t n) (AtTable number) answer) named h

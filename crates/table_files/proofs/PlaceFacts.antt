@@ -1,4 +1,4 @@
--- The list `different`, in which each number is kept once, and the places of numbers in a list.
+-- `different` keeps each number of a list once. The lemmas are about this list, and about the places of numbers in it.
 use Rattle.std.proofs.Common.{◌≡◌, ℕ, zero, suc, ◌+◌, ◌<◌, ◌≤◌, ◌||◌, Bool, true, false, cond, not, eqb, inl, inr, List, [], ◌∷◌, ◌++◌, length, get_or, take, refl, sym, ap, ◌∙◌, arith, append-nil}
 use Rattle.std.proofs.lemmas.Bool.{cases_Bool, eq-eqb, eqb-false, eqb-true, false≢true}
 use Rattle.std.proofs.lemmas.List.{map-append, take_more}
@@ -37,11 +37,9 @@ no_place (x ∷ xs) n h = elim (cases_Bool (eqb n x)) [
 pub place_within : (xs : List ℕ) (n : ℕ) → place_of xs n ≤ length xs
 place_within xs n = prefix_len-le-length (λ x. not (eqb n x)) xs
 
--- at the place of a number stands this number
 pub at_place : (xs : List ℕ) (n : ℕ) → place_of xs n < length xs → get_or xs (place_of xs n) 0 ≡ n
 at_place xs n lt = sym (eqb-true n (get_or xs (place_of xs n) 0) (passes_at_first (eqb n) xs 0 lt))
 
--- `has` finds each number of a list
 pub has_each : (xs : List ℕ) (i : ℕ) → i < length xs → has xs (get_or xs i 0) ≡ true
 has_each [] i lt = absurd (omega arith)
 has_each (x ∷ xs) zero lt = rw (eq-eqb x x refl) refl
@@ -63,7 +61,6 @@ has_kept m n (x ∷ xs) d = elim (cases_Bool (eqb x m)) [
       ap (λ (l : List ℕ). has l n) left ∙ ap (λ (b : Bool). eqb n x || b) (has_kept m n xs d))
 ]
 
--- `different` loses no number
 pub has_different : (ns : List ℕ) (n : ℕ) → has ns n ≡ true → has (different ns) n ≡ true
 has_different [] n h = h
 has_different (m ∷ ns) n h = elim (cases_Bool (eqb n m)) [
@@ -73,7 +70,6 @@ has_different (m ∷ ns) n h = elim (cases_Bool (eqb n m)) [
       here ∙ has_kept m n (different ns) e ∙ has_different ns n (sym rest ∙ h))
 ]
 
--- if n isn't among the numbers so far, `different` appends it
 new_last : (ns : List ℕ) (n : ℕ) → has (different ns) n ≡ false → different (ns ++ n ∷ []) ≡ different ns ++ n ∷ []
 new_last [] n h = refl
 new_last (m ∷ ns) n h = elim (cases_Bool (eqb n m)) [
@@ -100,7 +96,6 @@ old_none (m ∷ ns) n h = elim (cases_Bool (eqb n m)) [
       ap (λ (l : List ℕ). m ∷ without m l) (old_none ns n there))
 ]
 
--- n isn't among the numbers so far if its place is the length of `different`, and then it is appended
 pub different_new : (ns : List ℕ) (n : ℕ) → place_of (different ns) n ≡ length (different ns) → different (ns ++ n ∷ []) ≡ different ns ++ n ∷ []
 different_new ns n past = elim (cases_Bool (has (different ns) n)) [
   | inl there ↦ absurd (omega (arith, has_place (different ns) n there))
@@ -139,7 +134,6 @@ different_all P (n ∷ ns) h = (h.0, kept_all P n (different ns) (different_all 
 
 -- ---- the loops that build the list
 
--- the first i numbers aren't n
 abbrev pub IsPassed : List ℕ → ℕ → ℕ → Type 0
 IsPassed xs n i = (k : ℕ) → k < i → eqb n (get_or xs k 0) ≡ false
 
@@ -149,7 +143,6 @@ found_at xs n i lt here h = sym (position_or_len_is (eqb n) xs i 0 (omega arith)
 pub found_nowhere : (xs : List ℕ) (n i : ℕ) → i ≡ length xs → IsPassed xs n i → i ≡ place_of xs n
 found_nowhere xs n i all h = sym (position_or_len_is (eqb n) xs i 0 (omega arith) h (λ low. absurd (omega arith)))
 
--- the table numbers of one more FROM entry
 numbers_more : (from : List Source) (i : ℕ) (s : Source) → i < length from → s ≡ get_or from i s → numbers_of (take (i + 1) from) ≡ numbers_of (take i from) ++ s.table ∷ []
 numbers_more from i s lt is =
     ap numbers_of (take_more from i s lt) ∙ map-append (λ (source : Source). source.table) (take i from) (get_or from i s ∷ [])

@@ -15,7 +15,6 @@ use Rattle.sql_meaning.specs.Tables.{no_cells, tables_of}
 use Rattle.table_files.specs.EntryTables.{entry_rows, tables_in}
 use Rattle.table_files.specs.Stage.{numbers_of, place_of, tables_of_query}
 
--- the table of the first FROM entry has place 0
 pub first_place : (from : List Source) → get_or (map (place_of (tables_of_query from)) (numbers_of from)) 0 0 ≡ 0
 first_place [] = refl
 first_place (source ∷ sources) = rw (eq-eqb source.table source.table refl) refl

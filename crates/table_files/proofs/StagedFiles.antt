@@ -30,7 +30,6 @@ limited_ok : {A : Type 0} (long : Bool) (r : Refusal) (y x : A) → (if long the
 limited_ok true r y x e = cc
 limited_ok false r y x e = cc
 
--- the bytes that were read are the whole file
 pub read_ok : (id : FileId) (most : ℕ) (name : List ℕ) (files : Files) (bytes : List ℕ) → read id most name files ≡ Ok bytes → file_of files name ≡ Some bytes
 read_ok id most name files bytes e = of_bytes (file_of files name) e where
   of_bytes : (o : Option (List ℕ)) → bytes_of id most o ≡ Ok bytes → o ≡ Some bytes
@@ -38,7 +37,6 @@ read_ok id most name files bytes e = of_bytes (file_of files name) e where
   of_bytes (Some all) h =
       ap Some (limited_ok (nat_lt most (length all)) (refusal.Limit limit.FileBytes id (most + 1)) all bytes h)
 
--- if the rows of a table are read, its file is there, and they are the rows of its bytes
 pub table_ok : (number : ℕ) (table : Table) (files : Files) (rows : List Row) → file_rows number table files ≡ Ok rows
     → (bytes : List ℕ) × (file_of files (file_name table) ≡ Some bytes) × (rows_of_file table bytes ≡ Ok rows)
 unfolding file_rows
@@ -59,7 +57,6 @@ module _ (schema : Schema) (from : List Source) (files : Files) (rows : List (Li
       ∙ length-map (numbers_of from) (λ number. get_or steps.0 (place_of (tables_of_query from) number) [])
       ∙ length-map from (λ (source : Source). source.table)
 
-  -- for each FROM entry, its rows as `Tables` are those of the stage
   tables_are : (entry : ℕ) → entry < length from → get_or rows entry [] ≡ tables_in rows entry
   tables_are entry low =
       let there : entry < length rows = omega (arith, one_each) in
@@ -67,7 +64,6 @@ module _ (schema : Schema) (from : List Source) (files : Files) (rows : List (Li
       sym (slice_get-get_or rows entry [] there) ∙ slice_get-get_or rows entry (get_or rows 0 []) there in
       cc
 
-  -- each FROM entry has the rows of its table
   pub entries_are : (entry : ℕ) → entry < length from → table_rows schema (get_or (numbers_of from) entry 0) files ≡ Ok (tables_in rows entry)
   entries_are entry low = entries_have schema from files rows staged entry low ∙ ap (λ (r : List Row). Ok r) (tables_are entry low)
 

@@ -43,7 +43,6 @@ module _ (db : Database) (are : AreTables db) (differ : HaveDifferentCharacters 
   pub column_is : (column : ℕ) → Exists column → IsColumn db.pool cells.rows (kind_at column) (column_at_all column)
   column_is column exists = column_at db.pool cells.rows cells.kinds cells.columns cells_are column kind.Int [] exists
 
-  -- the values of a column of a table are the values of the column's cells
   pub values_are : (column : ℕ) → Exists column → map (value_of_cell db.pool (kind_at column)) (column_at_all column) ≡ column_values (tables_of db) entry column
   values_are column exists =
       let of_cell : ℕ → Value = value_of_cell db.pool (kind_at column) in

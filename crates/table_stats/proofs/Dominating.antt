@@ -1,4 +1,4 @@
--- The lists of a joined column dominate the keys of this column, over the rows for which each list stands.
+-- Each list of a joined column dominates the keys of this column, over the rows for which the list stands.
 use Rattle.std.proofs.Common.{◌≡◌, ◌↔◌, ℕ, ◌+◌, ◌<◌, ◌≤◌, Bool, true, eqb, List, length, map, Option, None, Some, refl, ap, sym, ◌∙◌, subst, arith}
 use Rattle.std.specs.Prelude.{unwrap_or}
 use Rattle.std.specs.List.{filter}
@@ -39,7 +39,6 @@ module _ (filter : List Value) where
   abbrev pub last_leaf : Option Value → ℕ
   last_leaf high = unwrap_or (end_leaf filter high) 31
 
-  -- the leaf of a row, found by the number of the row's value
   abbrev pub leaf_at : ℕ → ℕ
   leaf_at number = leaf_of (row_le filter) (numbered filter) number
 
@@ -66,7 +65,6 @@ module _ (filter : List Value) where
         (alike_le (value_of_row filter number) value high high has (equal_itself high) ∙ h))
         (cuts (row_le filter) (numbered filter))
 
-    -- if a value is in a range, the value's leaf is in the node of the range
     pub in_their_node : (low high : Option Value) → is_from low value ≡ true → is_up_to high value ≡ true
         → in_node (node_size (first_leaf low) (last_leaf high)) (first_leaf low) (leaf_at number) ≡ true
     in_their_node low high from to =
@@ -75,7 +73,7 @@ module _ (filter : List Value) where
 -- ---- an entry's table with a list of joined values, one for each row of the table
 
 module _ (tables : Tables) (accuracy entry : ℕ) (joined : List Value) (long : length joined ≡ row_count tables entry) where
-  -- the joined column's numbers in the rows that pass a test; the lists speak of these rows
+  -- the lists speak of these rows
   abbrev pub joined_rows : (ℕ → Bool) → List ℕ
   joined_rows test = map (listed_number joined) (filter test (rows tables entry))
 
@@ -163,7 +161,6 @@ module _ (tables : Tables) (accuracy entry : ℕ) (joined : List Value) (long : 
 
 -- ---- keys that tell which values are equal
 
--- if keys tell which joined values are equal, two rows have equal keys exactly if their joined values have equal numbers
 keys_tell : (joined : List Value) (key : ℕ → ℕ) → TellsListed joined key
     → (row other : ℕ) → row < length joined → other < length joined → (listed_number joined row ≡ listed_number joined other) ↔ (key row ≡ key other)
 keys_tell joined key tells row other low also = (

@@ -100,7 +100,7 @@ lists_sum tables accuracy entry joined = listed_sum tables accuracy entry (value
 -- ---- the counts are at least the numbers of rows that pass
 
 module _ (tables : Tables) (entry : ℕ) where
-  -- the column by whose numbers rows are counted here: column 0, though any column would do
+  -- rows are counted here by the numbers of column 0; any column would do
   abbrev first_column : List Value
   first_column = values tables entry 0
 

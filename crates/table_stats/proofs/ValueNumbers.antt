@@ -16,7 +16,7 @@ use Rattle.table_stats.proofs.EqualValues.{equal_order, is_equal}
 
 -- ---- a number for a list of numbers
 
--- the odd number 2n + 1, doubled `times` times
+-- this is the odd number 2n + 1, doubled `times` times
 doubled : ℕ → ℕ → ℕ
 doubled zero n = 2 * n + 1
 doubled (suc times) n = 2 * doubled times n
@@ -60,7 +60,6 @@ int-apart (pos a) (negsuc b) same = absurd (omega (arith, same))
 int-apart (negsuc a) (pos b) same = absurd (omega (arith, same))
 int-apart (negsuc a) (negsuc b) same = ap negsuc (omega (arith, same))
 
--- numbers have even numbers, texts have odd ones
 pub number_of_value : Value → ℕ
 number_of_value (Int number) = 2 * number_of_int number
 number_of_value (Text text) = 2 * number_of_list (chars text) + 1
@@ -85,7 +84,6 @@ one_number_equal_values (Text a) (Text b) same =
 -- ---- keys of tables
 
 module _ (tables : Tables) where
-  -- the number of a row's value
   value_key : Keys
   value_key entry column row = number_of_value (value_at tables entry column row)
 

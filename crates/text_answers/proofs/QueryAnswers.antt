@@ -61,7 +61,6 @@ module _ (schema : Schema) (text : List ℕ) where
 
 -- ---- the computed answer isn't a lack of memory
 
--- the first refusal of a list, if there is one, isn't a lack of memory
 abbrev BeginsWell : List QueryError → Type 0
 BeginsWell [] = ⊤
 BeginsWell (wrong ∷ rest) = wrong ≢ error.NoMemory

@@ -44,7 +44,6 @@ bound_keeps schema text tree query is =
     let parts : (refusals schema text tree ≡ []) × (made ≡ query) = unless_ok (refusals schema text tree) made query is in
     subst KeepsLimits parts.1 (kept made (long_lists (entries schema text tree) tree) (none_behind (names ++ kinds) limits parts.0))
 
--- each query that the relation allows as an answer keeps the limits
 pub answer_keeps : (schema : Schema) (text : List ℕ) (query : Query) → IsAnswer schema text (Ok query) → KeepsLimits query
 answer_keeps schema text query (inl memory) = absurd cc
 answer_keeps schema text query (inr (inl unlexed)) = absurd (let is = unlexed.refused in cc)
@@ -54,6 +53,5 @@ answer_keeps schema text query (inr (inr (inr (inr spelled)))) =
     bound_keeps schema text spelled.tree query
     (unless_number_ok (number_offences text (lexemes_of text spelled.tokens)) (query_or_refusal schema text spelled.tree) query spelled.answered)
 
--- the query that is computed as the answer keeps the limits
 pub text_keeps : (schema : Schema) (text : List ℕ) (query : Query) → query_answer schema text ≡ Ok query → KeepsLimits query
 text_keeps schema text query is = answer_keeps schema text query (subst (IsAnswer schema text) is (allowed schema text))

@@ -1,4 +1,4 @@
--- The computed tokens, and the computed place at which a text goes wrong, are those of the relation.
+-- The computed tokens of a text are those of the relation, and so is the computed place at which a text goes wrong.
 use Rattle.std.proofs.Common.{◌≡◌, ℕ, ◌-◌, Bool, true, false, cond, List, length, take, drop, Result, Ok, Err, refl, sym, ap, ◌∙◌, inl}
 use Rattle.std.proofs.lemmas.Bool.{false≢true}
 use Rattle.std.proofs.lemmas.List.{take_rest}
@@ -12,12 +12,10 @@ use Rattle.sql_tokens.specs.Pieces.{Walked, tokens_at}
 use Rattle.sql_tokens.proofs.WholeTexts.{gave_lexed, gave_refused}
 use Rattle.text_answers.specs.Stages.{tokens_of}
 
--- these are the tokens of the text by the relation, or this is the place at which the text goes wrong
 abbrev pub AreTold : List ℕ → Result (List Token) ℕ → Type 0
 AreTold text (Ok tokens) = IsLexed text tokens
 AreTold text (Err at) = IsBad text at
 
--- the tokens after the byte order mark don't change if as many bytes are taken as there are
 cut_walk : (text : List ℕ) → tokens_at (mark_len text) (take (length text - mark_len text) (drop (mark_len text) text)) ≡ tokens_at (mark_len text) (drop (mark_len text) text)
 cut_walk text = ap (tokens_at (mark_len text)) (take_rest text (mark_len text))
 

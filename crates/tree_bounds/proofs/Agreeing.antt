@@ -66,7 +66,6 @@ module _ (Q : ℕ → ℕ → Type 0) where
     ]
   ]
 
-  -- if each column that the set's equalities name has property Q, so has each column that a kept equality names
   pub named_in_turn : (subset turn : ℕ) (es : List Edge) → EachNamedColumn Q (equalities_within subset es) → (p : Place) → Contains (places_of (kept_of subset turn es)) p → Q p.entry p.column
   named_in_turn subset turn es h = by_places (kept_of subset turn es) (of_turn AtBoth subset turn es (by_edges (equalities_within subset es) h))
 
@@ -146,7 +145,6 @@ module _ (tables : KeyedTables) (choice : ℕ → ℕ) (es : List Edge)
 
 -- ---- the trees of a turn
 
--- a property of all entries of trees is one of the trees' roots
 pub at_roots : (Q : ℕ → Type 0) (ts : List BergeTree) → AllByRecursion Q (entries_of_all ts) → AllByRecursion (λ t. Q t.root) ts
 at_roots Q [] h = tt
 at_roots Q (t ∷ ts) h = (h.0, at_roots Q ts (all_right Q (entries t) (entries_of_all ts) h))
@@ -173,7 +171,6 @@ module _ (b : EntryBounds) (tables : KeyedTables) (es : List Edge) (subset turn 
       (of_turn (λ e. key_of tables choice e.left.entry e.left.column ≡ key_of tables choice e.right.entry e.right.column) subset turn es s.equal)
       ts all.trees (in_trees es subset turn ts all (λ e. choice e < tables.rows e) s.rows)
 
-  -- there are at most as many different choices that satisfy all equalities of the set as the bound of the turn's trees says
   pub satisfying_within : SetHasLists b es subset → SetDominates b tables es subset → (cs : List (ℕ → ℕ))
       → AllByRecursion (Satisfies tables (entries_of_set subset) (equalities_within subset es)) cs → ChoicesAreDifferent (entries_of_set subset) cs → length cs ≤ bound_of_trees b ts
   satisfying_within h d cs satisfy differ =

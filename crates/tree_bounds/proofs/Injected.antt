@@ -19,7 +19,6 @@ use Rattle.tree_bounds.proofs.Listed.{length-paired, length-chosen_rows}
 
 -- ---- members of lists of rows
 
--- the row numbers q are a member of the list
 abbrev Stands : List ℕ → List (List ℕ) → Type 0
 Stands q [] = ⊥
 Stands q (x ∷ xs) = (q ≡ x) ⊎ Stands q xs
@@ -101,7 +100,6 @@ contains_from q (x ∷ xs) h = elim h [
   | inr later ↦ (let k : Contains xs q = contains_from q xs later in (suc k.0, omega (arith, k.1), k.2))
 ]
 
--- the row numbers of a choice that agrees in the tree are in the list of all choices
 pub choice_listed : (b : EntryBounds) (tables : KeyedTables) (t : BergeTree) → TreeDominates b tables t → (choice : ℕ → ℕ) → Agrees tables t choice
     → Contains (tree_choices tables t) (map choice (entries t))
 choice_listed b tables t d choice a = contains_from (map choice (entries t)) (tree_choices tables t) (listed b tables choice t d a)
@@ -145,7 +143,6 @@ all_members set (c ∷ cs) xs h q e = elim (cases_Bool (pointwise nat_eq q (map 
   | inr other ↦ all_members set cs xs h.1 q (rw other at e)
 ]
 
--- if the row numbers of different choices are members of a list, there are at most as many choices as the list has members
 no_more : (set : List ℕ) (cs : List (ℕ → ℕ)) (xs : List (List ℕ)) → ChoicesAreDifferent set cs → AllByRecursion (λ c. Stands (map c set) xs) cs → length cs ≤ length xs
 no_more set cs xs differ all =
     omega (arith, length-map cs (λ c. map c set), length-le_from_is_member nat_list_eq_equiv (map (λ c. map c set) cs) xs (all_unlike set cs differ) (all_members set cs xs all))
@@ -182,7 +179,6 @@ module _ (b : EntryBounds) (tables : KeyedTables) where
   same_on es [] k x y same = refl
   same_on es (e ∷ set) k x y same = rw (same_there es e k.0 x y same, same_on es set k.1 x y same) refl
 
-  -- choices that agree in all trees and differ on some entries of the trees are at most as many as the product of the trees' bounds
   pub choices_within_all : (ts : List BergeTree) → AllByRecursion (TreeHasLists b) ts → AllByRecursion (TreeDominates b tables) ts → (set : List ℕ) → AllByRecursion (Contains (entries_of_all ts)) set
       → (cs : List (ℕ → ℕ)) → AllByRecursion (λ c. AllByRecursion (λ t. Agrees tables t c) ts) cs → ChoicesAreDifferent set cs → length cs ≤ bound_of_trees b ts
   choices_within_all ts h d set inside cs agree differ =

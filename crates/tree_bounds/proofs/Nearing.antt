@@ -29,7 +29,6 @@ module _ (accuracy : ℕ) (b exact : EntryBounds) where
   abbrev high : ℕ → ℕ
   high n = (accuracy + 1) ^ n
 
-  -- the classes below an entry, each with its list, the exact list, and the factors between them
   abbrev matched : ℕ → Classes → List MatchedChild
   matched entry no_class = []
   matched entry (and_class column members rest) =
@@ -65,7 +64,6 @@ module _ (accuracy : ℕ) (b exact : EntryBounds) where
   columns_fall entry no_class h = tt
   columns_fall entry (and_class column members rest) h = (h.0.falls, columns_fall entry rest h.2)
 
-  -- if the list of an entry and the lists of its classes are near the exact ones, their composition is
   composed_near : (g f : List ℕ) (entry : ℕ) (cs : Classes) → SumsAreWithin accuracy (accuracy + 1) g f → sum g ≡ b.rows entry → sum f ≡ exact.rows entry
       → EachColumnBelow (HasList b) entry cs → EachColumnBelow (HasList exact) entry cs → AllByRecursion (IsNear accuracy) (matched entry cs)
       → SumsAreWithin (low (suc (length (entries_below cs)))) (high (suc (length (entries_below cs)))) (composed g (child_lists b entry cs)) (composed f (child_lists exact entry cs))
@@ -103,7 +101,7 @@ module _ (accuracy : ℕ) (b exact : EntryBounds) where
 
   -- ---- the bound of a tree
 
-  -- the total weight of the root's rows is the weight of a single block that has all these rows
+  -- a single block with all of the root's rows has this weight
   root_is : (children : List ChildLists) (n : ℕ) → root_total children n ≡ running_sum (composed (n ∷ []) children) 1
   root_is children n =
       let whole : sum (n ∷ []) ≡ n = omega arith in

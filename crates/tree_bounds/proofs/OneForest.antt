@@ -180,7 +180,6 @@ module _ (es : List Edge) where
   ]
 
   module _ (closes : ClosesNoCycle es) where
-    -- two trees with an entry in common have the same root
     one_root : (t u : BergeTree) → IsTreeOf es t → IsTreeOf es u → Contains (entries u) t.root → t.root ≡ u.root
     one_root t u f g k =
         let closed : IsClosed es (entries t) = λ p q e m. closed_tree es t f.columns f.follows p q m e in

@@ -27,7 +27,6 @@ left_near_list = record { falls = IsFalling-compressed 1 (exact_list 0 0) left_l
 pub right_near_list : HasList compressed_bounds 1 0
 right_near_list = record { falls = IsFalling-compressed 1 (exact_list 1 0) right_list.falls; total = refl }
 
--- if the elements of two lists are near each other, so are their running sums
 pub within_by_elements : (a c : ℕ) (s t : List ℕ) → ((r : ℕ) → a * get_or s r 0 ≤ c * get_or t r 0) → SumsAreWithin a c s t
 within_by_elements a c s t h zero = omega arith
 within_by_elements a c [] t h (suc r) = omega arith

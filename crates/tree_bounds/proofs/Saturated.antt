@@ -1,4 +1,4 @@
--- Bounds that are saturated (cut off at 2^128 - 1) at each step are the saturated bounds.
+-- If bounds are saturated (cut off at 2^128 - 1) at each step, the result is the saturated bound.
 use Rattle.std.proofs.Common.{◌≡◌, ℕ, zero, suc, ◌-◌, ◌*◌, ◌^◌, ◌<◌, ◌≤◌, min, List, [], ◌∷◌, ◌++◌, length, map, sum, get_or, refl, ap, sym, ◌∙◌, arith, ◌⊎◌, inl, inr}
 use Rattle.std.specs.List.{range_with_len}
 use Rattle.std.proofs.Math.Nat.{mul_assoc, mul-one, one-mul}
@@ -24,7 +24,6 @@ saturated-get_or [] i = refl
 saturated-get_or (x ∷ s) zero = refl
 saturated-get_or (x ∷ s) (suc i) = saturated-get_or s i
 
--- if factors are equal once they are saturated, so are their products
 alike : (a b c d : ℕ) → saturated a ≡ saturated c → saturated b ≡ saturated d → saturated (a * b) ≡ saturated (c * d)
 alike a b c d e f = sym (saturated-mul a b) ∙ rw (e, f) (saturated-mul c d)
 

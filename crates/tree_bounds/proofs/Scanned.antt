@@ -1,4 +1,4 @@
--- Choices of scanned rows are choices of places in the lists of scanned rows.
+-- A choice of scanned rows is a choice of places in the lists of scanned rows.
 use Rattle.std.proofs.Common.{◌≡◌, ℕ, zero, suc, ◌<◌, ◌≤◌, true, false, cond, eqb, List, [], ◌∷◌, length, get_or, map, refl, ap, sym, ◌∙◌, arith, inl, inr}
 use Rattle.std.specs.List.{AllByRecursion, Contains}
 use Rattle.std.proofs.lemmas.Bool.{cases_Bool, eqb-true, eq-eqb, and_parts}
@@ -52,7 +52,6 @@ placed (x ∷ xs) row k = elim (cases_Bool (eqb x row)) [
     differ e = absurd (cc)
 
 module _ (scans : ℕ → List ℕ) (key : ℕ → ℕ → ℕ → ℕ) (set : List ℕ) where
-  -- the choice of places that belongs to a choice of rows
   abbrev places : (ℕ → ℕ) → ℕ → ℕ
   places choice entry = place_in (scans entry) (choice entry)
 

@@ -1,4 +1,4 @@
--- The bounds of a set in each turn, and the least of them.
+-- A set has a bound in each turn. The bound of the set is the least of them, and no bound is under the number of choices.
 use Rattle.std.proofs.Common.{◌≡◌, ℕ, zero, suc, ◌-◌, ◌<◌, ◌≤◌, List, length, refl, ap, sym, ◌∙◌, subst, arith, inl, inr}
 use Rattle.std.specs.List.{AllByRecursion}
 use Rattle.std.proofs.lemmas.Bool.{cases_lt}

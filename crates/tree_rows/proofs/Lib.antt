@@ -1,10 +1,13 @@
--- How the proofs of this crate go: what was hard, and what closed it.
+-- The proofs about the rows of a tree plan are in these modules:
 --
--- `NodeFacts`: the nodes that are made from lists and inner nodes; a row of an inner node as a row of either child
--- `Once`: each entry is at most once among the leaves below a node
--- `AllEntries`: the root has all entries, since a join's node has as many as its two children together, and each node is joined once
--- `RoomFacts`: the bounds of nodes
--- `FewLeaves`: no node has more than 12 entries; `Bytes`: the bytes of a tree's buffers
+-- - `NodeFacts`: nodes are made from lists and from inner nodes, and a row of an inner node is a row of each of its two children.
+-- - `Once`: each entry is at most once among the leaves below a node.
+-- - `AllEntries`: the root has all entries, since a join's node has as many as its two children together, and each node is joined once.
+-- - `RoomFacts`: the bounds of nodes are small.
+-- - `FewLeaves`: no node has more than 12 entries.
+-- - `Bytes`: the bytes of a tree are the sum of the bytes of its buffers.
+--
+-- Three ideas carry them:
 --
 -- - Nodes are made by one fold over the list of inner nodes (`with_inners`). An inner node reads only nodes before it, so later nodes change
 --   nothing (`with_front`), and no definition recurses over a tree. The entries of a plan's nodes are made by the same fold (`with_joins`).
