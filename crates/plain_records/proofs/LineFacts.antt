@@ -1,16 +1,7 @@
 -- Lines and fields, taken one after another.
 use Rattle.std.proofs.Common.{◌≡◌, ℕ, suc, ◌≤◌, Bool, true, false, List, [], ◌∷◌, ◌++◌, length, refl, sym, ap, ◌∙◌, arith, cond, append_assoc, if◌then◌else◌}
 use Rattle.std.specs.List.{filter, onto_first, slice_split}
-use Rattle.plain_records.specs.Plain.{ends_line, has_bytes, lines_of}
-
--- what stands before the first byte that passes, and what stands behind it
-abbrev pub front : (ℕ → Bool) → List ℕ → List ℕ
-front p [] = []
-front p (c ∷ rest) = if p c then [] else c ∷ front p rest
-
-abbrev pub behind : (ℕ → Bool) → List ℕ → List ℕ
-behind p [] = []
-behind p (c ∷ rest) = if p c then rest else behind p rest
+use Rattle.plain_records.specs.Plain.{behind, ends_line, front, has_bytes, lines_of}
 
 -- the parts behind the first
 abbrev pub more_parts : (ℕ → Bool) → List ℕ → List (List ℕ)

@@ -5,8 +5,8 @@ use Rattle.std.specs.Prelude.{◌==◌}
 use Rattle.csv.specs.Machine.{next_record}
 use Rattle.csv.specs.Reading.{default_config, records, records_from, records_next}
 use Rattle.csv.specs.declared.parser.State.TheVariants as st
-use Rattle.plain_records.specs.Plain.{ends_line, fields_of_line, has_quote, is_comma, plain_records}
-use Rattle.plain_records.proofs.LineFacts.{behind, first_line, front, front_more, front_none, shorter_behind, with_front}
+use Rattle.plain_records.specs.Plain.{behind, ends_line, fields_of_line, front, has_quote, is_comma, plain_records}
+use Rattle.plain_records.proofs.LineFacts.{first_line, front_more, front_none, shorter_behind, with_front}
 
 record NoQuote (c : ℕ) (rest : List ℕ) : Type 0 where
   first : (c == 34) ≡ false
