@@ -44,7 +44,7 @@ line_ascii byte e = end_ascii byte (line_is_end (is_comma byte) (ends_line byte)
 -- ---- fields
 
 -- a byte that ends no field belongs to it
-field_byte : (bytes : List ℕ) (end : ℕ) → end < length bytes → ends_field (get_or bytes end 0) ≡ false
+pub field_byte : (bytes : List ℕ) (end : ℕ) → end < length bytes → ends_field (get_or bytes end 0) ≡ false
     → first_field (drop end bytes) ≡ get_or bytes end 0 ∷ first_field (drop (end + 1) bytes)
 field_byte bytes end l e = ap first_field (drop_more bytes end 0 l) ∙ rw e refl
 
@@ -104,7 +104,7 @@ field_then bytes at first end f g = record {
       ∙ ap (λ t. t ++ first_field (drop end bytes)) (taken_then bytes at first end f.from g.from);
 }
 
-field_of : (bytes : List ℕ) (at end : ℕ) → FieldSoFar bytes at end → first_field (drop end bytes) ≡ [] → IsField bytes at end
+pub field_of : (bytes : List ℕ) (at end : ℕ) → FieldSoFar bytes at end → first_field (drop end bytes) ≡ [] → IsField bytes at end
 field_of bytes at end f e = record {
   from = f.from;
   within = f.within;
@@ -252,12 +252,19 @@ rest_end bytes at e = drop_min (at + 1) bytes ∙ by (cases_lt at (length bytes)
 pub text_behind : (bytes : List ℕ) (at : ℕ) → IsUtf8 bytes → at < length bytes → get_or bytes at 0 < 128 → IsUtf8 (drop (at + 1) bytes)
 text_behind bytes at text l a = IsUtf8-drop bytes (at + 1) text (IsCharBoundary-after_ascii bytes at text l a)
 
-pub text_past : (bytes : List ℕ) (at : ℕ) → (at < length bytes → ends_line (get_or bytes at 0) ≡ true) → IsUtf8 bytes → IsUtf8 (drop (min (at + 1) (length bytes)) bytes)
-text_past bytes at e text = subst IsUtf8 (sym (drop_min (at + 1) bytes)) (by (cases_lt at (length bytes)))
+past_by : (bytes : List ℕ) (at : ℕ) → (at < length bytes → get_or bytes at 0 < 128) → IsUtf8 bytes → IsUtf8 (drop (min (at + 1) (length bytes)) bytes)
+past_by bytes at e text = subst IsUtf8 (sym (drop_min (at + 1) bytes)) (by (cases_lt at (length bytes)))
   where
     by : (at < length bytes) ⊎ (length bytes ≤ at) → IsUtf8 (drop (at + 1) bytes)
-    by (inl l) = text_behind bytes at text l (line_ascii (get_or bytes at 0) (e l))
+    by (inl l) = text_behind bytes at text l (e l)
     by (inr l) = let more : length bytes ≤ at + 1 = omega (arith, l) in subst IsUtf8 (sym (drop_all (at + 1) bytes more)) IsUtf8-nil
+
+-- behind the end of a line, and behind the end of a field
+pub text_past : (bytes : List ℕ) (at : ℕ) → (at < length bytes → ends_line (get_or bytes at 0) ≡ true) → IsUtf8 bytes → IsUtf8 (drop (min (at + 1) (length bytes)) bytes)
+text_past bytes at e text = past_by bytes at (λ l. line_ascii (get_or bytes at 0) (e l)) text
+
+pub text_past_field : (bytes : List ℕ) (end : ℕ) → IsUtf8 bytes → first_field (drop end bytes) ≡ [] → IsUtf8 (drop (min (end + 1) (length bytes)) bytes)
+text_past_field bytes end text e = past_by bytes end (λ l. end_ascii (get_or bytes end 0) (stop_byte bytes end l e)) text
 
 -- a field of a text is a text
 pub text_of_field : (bytes : List ℕ) (at end : ℕ) → IsUtf8 bytes → IsUtf8 (drop at bytes) → IsField bytes at end → IsUtf8 (first_field (drop at bytes))
