@@ -12,10 +12,12 @@
 
 mod cases;
 mod cell;
+mod fields;
 mod header;
 mod keys;
 mod number;
 mod order;
+mod plain;
 mod pool;
 mod records;
 mod rows;
