@@ -1,52 +1,73 @@
--- Files without a quotation mark: their records below the header, and the cells of fields that were read.
-use Rattle.std.proofs.Common.{◌≡◌, ◌⊎◌, inl, inr, ◌<◌, ◌≤◌, ℕ, zero, suc, List, [], ◌∷◌, length, map, drop, get_or, Bool, true, false, Option, None, Some, refl, sym, ap, ◌∙◌, arith, ◌&&◌, ◌||◌, if◌then◌else◌}
-use Rattle.std.specs.Prelude.{◌==◌, nat_lt, not, option_map, ℤ}
-use Rattle.std.specs.List.{list_any, starts_with}
-use Rattle.std.proofs.lemmas.Bool.{cases_lt, eq-eqb, le-ltb, or_parts}
-use Rattle.std.proofs.lemmas.List.{get_or_default, get_or_past, length-map}
-use Rattle.limits.specs.Profile.{most_rows}
+-- Files without a quotation mark: their records below the header, and the rows of these records.
+use Rattle.std.proofs.Common.{◌≡◌, ◌⊎◌, inl, inr, ◌<◌, ◌≤◌, ◌+◌, ℕ, List, [], ◌∷◌, length, drop, get_or, Bool, true, false, refl, sym, ap, ◌∙◌, ◌&&◌, if◌then◌else◌}
+use Rattle.std.specs.Prelude.{◌==◌}
+use Rattle.std.specs.List.{starts_with}
+use Rattle.std.proofs.lemmas.Bool.{and_parts, cases_lt, eq-eqb, eqb-false, eqb-true, false≢true, ne_eqb, or_parts, true≢false}
 use Rattle.csv.specs.Reading.{strip_bom}
 use Rattle.schema_types.specs.declared.types.Column.{Column}
-use Rattle.schema_types.specs.declared.types.Kind.TheVariants as kind
 use Rattle.plain_records.specs.Plain.{after_line, ends_line, first_record, has_quote, is_quote, plain_records}
 use Rattle.plain_records.proofs.PlaceFacts.{no_more_records, one_record}
 use Rattle.plain_records.proofs.RecordFacts.{plain_is}
 use Rattle.csv_tables.specs.declared.types.TableError.{TableError}
-use Rattle.csv_tables.specs.Cells.{value_of_cell}
+use Rattle.csv_tables.specs.Cells.{rows_of_columns}
 use Rattle.csv_tables.specs.Fields.{IsBehind}
-use Rattle.csv_tables.specs.Numbers.{number_in, number_of}
+use Rattle.csv_tables.specs.Reads.{kinds_of}
 use Rattle.csv_tables.specs.Records.{records_of, Record}
-use Rattle.csv_tables.specs.Rows.{row_of_record, values_of_record}
-use Rattle.csv_tables.specs.Values.{value_of_field, Int}
+use Rattle.csv_tables.specs.Refused.{Refuses}
+use Rattle.csv_tables.specs.Rows.{row_of_record, rows_of_records}
+use Rattle.csv_tables.proofs.FileFacts.{refuses_so}
+use Rattle.csv_tables.proofs.StepFacts.{read_refused}
+use Rattle.csv_tables.proofs.TableFacts.{RowsSoFar}
 
 -- ---- the byte order mark
 
-tests_three : (a b c : ℕ) (rest : List ℕ) (x y z : Bool) → (a == 0xEF) ≡ x → (b == 0xBB) ≡ y → (c == 0xBF) ≡ z → (x && (y && (z && true))) ≡ true → strip_bom (a ∷ b ∷ c ∷ rest) ≡ rest
-unfolding strip_bom
-tests_three a b c rest true true true x y z e = rw (x, y, z) refl
-tests_three a b c rest true true false x y z e = absurd (cc)
-tests_three a b c rest true false z x y w e = absurd (cc)
-tests_three a b c rest false y z x v w e = absurd (cc)
+-- the three bytes of the mark, compared one by one
+abbrev are_mark : ℕ → ℕ → ℕ → Bool
+are_mark a b c = (0xEF == a) && ((0xBB == b) && ((0xBF == c) && true))
 
-fails_three : (a b c : ℕ) (rest : List ℕ) (x y z : Bool) → (a == 0xEF) ≡ x → (b == 0xBB) ≡ y → (c == 0xBF) ≡ z → (x && (y && (z && true))) ≡ false → strip_bom (a ∷ b ∷ c ∷ rest) ≡ a ∷ b ∷ c ∷ rest
+is_mark : (a b c : ℕ) (rest : List ℕ) → are_mark a b c ≡ true → strip_bom (a ∷ b ∷ c ∷ rest) ≡ rest
 unfolding strip_bom
-fails_three a b c rest true true true x y z e = absurd (cc)
-fails_three a b c rest true true false x y z e = rw (x, y, z) refl
-fails_three a b c rest true false z x y w e = rw (x, y) refl
-fails_three a b c rest false y z x v w e = rw x refl
+is_mark a b c rest e =
+    let one = and_parts (0xEF == a) ((0xBB == b) && ((0xBF == c) && true)) e in
+    let two = and_parts (0xBB == b) ((0xBF == c) && true) one.1 in
+    let three = and_parts (0xBF == c) true two.1 in
+    let x : (a == 0xEF) ≡ true = eq-eqb a 0xEF (sym (eqb-true 0xEF a one.0)) in
+    let y : (b == 0xBB) ≡ true = eq-eqb b 0xBB (sym (eqb-true 0xBB b two.0)) in
+    let z : (c == 0xBF) ≡ true = eq-eqb c 0xBF (sym (eqb-true 0xBF c three.0)) in
+    rw (x, y, z) refl
 
+other_way : (a b : ℕ) (x : Bool) → (b == a) ≡ x → (a == b) ≡ x
+other_way a b true e = eq-eqb a b (sym (eqb-true b a e))
+other_way a b false e = ne_eqb a b (λ same. eqb-false b a e (sym same))
+
+fails_by : (a b c : ℕ) (rest : List ℕ) (x y z : Bool) → (0xEF == a) ≡ x → (0xBB == b) ≡ y → (0xBF == c) ≡ z → (x && (y && (z && true))) ≡ false
+    → strip_bom (a ∷ b ∷ c ∷ rest) ≡ a ∷ b ∷ c ∷ rest
+unfolding strip_bom
+fails_by a b c rest true true true x y z e = absurd (true≢false e)
+fails_by a b c rest true true false x y z e =
+    let one : (a == 0xEF) ≡ true = other_way a 0xEF true x in
+    let two : (b == 0xBB) ≡ true = other_way b 0xBB true y in
+    let three : (c == 0xBF) ≡ false = other_way c 0xBF false z in
+    rw (one, two, three) refl
+fails_by a b c rest true false t x y z e =
+    let one : (a == 0xEF) ≡ true = other_way a 0xEF true x in
+    let two : (b == 0xBB) ≡ false = other_way b 0xBB false y in
+    rw (one, two) refl
+fails_by a b c rest false s t x y z e = let one : (a == 0xEF) ≡ false = other_way a 0xEF false x in rw one refl
+
+-- bytes that begin with the mark, and bytes that do not
 pub mark_there : (bytes : List ℕ) → starts_with (λ a b. a == b) bytes (0xEF ∷ 0xBB ∷ 0xBF ∷ []) ≡ true → drop 3 bytes ≡ strip_bom bytes
-mark_there [] e = absurd (cc e)
-mark_there (a ∷ []) e = ?
-mark_there (a ∷ b ∷ []) e = ?
-mark_there (a ∷ b ∷ c ∷ rest) e = sym (tests_three a b c rest (a == 0xEF) (b == 0xBB) (c == 0xBF) refl refl refl e)
+mark_there [] e = absurd (false≢true e)
+mark_there (a ∷ []) e = absurd (false≢true (and_parts (0xEF == a) false e).1)
+mark_there (a ∷ b ∷ []) e = absurd (false≢true (and_parts (0xBB == b) false (and_parts (0xEF == a) ((0xBB == b) && false) e).1).1)
+mark_there (a ∷ b ∷ c ∷ rest) e = sym (is_mark a b c rest e)
 
 pub no_mark : (bytes : List ℕ) → starts_with (λ a b. a == b) bytes (0xEF ∷ 0xBB ∷ 0xBF ∷ []) ≡ false → drop 0 bytes ≡ strip_bom bytes
 unfolding strip_bom
 no_mark [] e = refl
 no_mark (a ∷ []) e = refl
 no_mark (a ∷ b ∷ []) e = refl
-no_mark (a ∷ b ∷ c ∷ rest) e = sym (fails_three a b c rest (a == 0xEF) (b == 0xBB) (c == 0xBF) refl refl refl e)
+no_mark (a ∷ b ∷ c ∷ rest) e = sym (fails_by a b c rest (0xEF == a) (0xBB == b) (0xBF == c) refl refl refl e)
 
 unquoted_by : (whole rest : List ℕ) (b : Bool) → has_quote whole ≡ false → has_quote rest ≡ false → has_quote (if b then rest else whole) ≡ false
 unquoted_by whole rest true h r = r
@@ -84,38 +105,20 @@ pub rest_is : (bytes : List ℕ) (start : ℕ) (header : Record) (rest : List Re
     → ((h : Record) (rs : List Record) → plain_records (strip_bom bytes) ≡ h ∷ rs → plain_records (drop start bytes) ≡ rs) → plain_records (drop start bytes) ≡ rest
 rest_is bytes start header rest none e h = h header rest (sym (plain_is (strip_bom bytes) (no_quote_behind bytes none)) ∙ e)
 
--- ---- fields
-
--- the cell of a number that is known
-pub value_known : (texts : List (List ℕ)) (text : List ℕ) (number : ℤ) (cell : ℕ) → number_of text ≡ Some number → number_in cell ≡ number
-    → option_map (value_of_cell texts kind.Int) (Some cell) ≡ value_of_field kind.Int text
-value_known texts text number cell e n = ap (λ k. Some (Int k)) n ∙ sym (ap (option_map Int) e)
-
-module _ {X : Type 0} (f : X → List ℕ) where
-  at_map : (xs : List X) (place : ℕ) (d : X) → place < length xs → get_or (map f xs) place [] ≡ f (get_or xs place d)
-  at_map [] place d l = absurd (omega (arith, l))
-  at_map (x ∷ xs) zero d l = refl
-  at_map (x ∷ xs) (suc place) d l = at_map xs place d (omega (arith, l))
-
-  -- the text of a field, and where there is no field none
-  pub text_at : (xs : List X) (place : ℕ) (x : X) → place < length xs → x ≡ get_or xs place x → get_or (map f xs) place [] ≡ f x
-  text_at xs place x l e = at_map xs place x l ∙ ap f (sym e)
-
-  pub text_past : (xs : List X) (place : ℕ) → length xs ≤ place → get_or (map f xs) place [] ≡ []
-  text_past xs place l = get_or_past (map f xs) place [] (omega (arith, length-map xs f, l))
-
 -- ---- rows
-
--- a record of the header's width that isn't too many
-pub row_is : (columns : List Column) (places : List ℕ) (width number : ℕ) (fields : Record) → number ≤ most_rows → length fields ≡ width
-    → row_of_record columns places width number fields ≡ values_of_record number 0 columns places fields
-row_is columns places width number fields l e =
-    let few : nat_lt most_rows number ≡ false = le-ltb most_rows number l in
-    let same : (length fields == width) ≡ true = eq-eqb (length fields) width e in
-    rw (few, same) refl
 
 -- the record at a place, and those from the next one on
 pub row_behind : (bytes : List ℕ) (at next after : ℕ) → at < length bytes → ends_line (get_or bytes at 0) ≡ false → IsBehind bytes at next
     → plain_records (drop next bytes) ≡ plain_records (drop after bytes) → plain_records (drop at bytes) ≡ first_record (drop at bytes) ∷ plain_records (drop after bytes)
 row_behind bytes at next after l stands b same =
     one_record bytes at l stands ∙ ap (λ rest. first_record (drop at bytes) ∷ rest) (sym (ap plain_records b.rest) ∙ same)
+
+-- a record that is refused
+pub rows_refused : (columns : List Column) (places : List ℕ) (width : ℕ) (records left after : List Record) (fields : Record) (old texts found : List (List ℕ)) (rows : ℕ) (e : TableError)
+    → RowsSoFar columns places width records left old texts found rows → left ≡ fields ∷ after → Refuses (row_of_record columns places width (rows + 1) fields) e
+    → Refuses (rows_of_records columns places width 1 records) e
+rows_refused columns places width records left after fields old texts found rows e so_far is refused =
+    refuses_so (row_of_record columns places width (rows + 1) fields) (rows_of_records columns places width 1 records)
+    (λ x bad. read_refused (rows_of_records columns places width 1 records) (rows_of_columns texts (kinds_of columns) found rows) (rows_of_records columns places width (rows + 1) left)
+    (row_of_record columns places width (rows + 1) fields) x (rows_of_records columns places width (rows + 1 + 1) after) so_far.read
+    (ap (rows_of_records columns places width (rows + 1)) is) bad) e refused
