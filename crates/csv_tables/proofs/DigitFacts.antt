@@ -1,12 +1,12 @@
 -- Digits of a field, read one after another.
-use Rattle.std.proofs.Common.{◌≡◌, ◌⊎◌, inl, inr, ℕ, zero, suc, ◌+◌, ◌-◌, ◌*◌, ◌^◌, ◌<◌, ◌≤◌, Bool, true, false, List, [], ◌∷◌, ◌++◌, length, take, drop, get_or, Option, None, Some, refl, sym, ap, ◌∙◌, subst, arith, length-drop, length-take, lit≤, ◌&&◌, ◌||◌}
-use Rattle.std.specs.Prelude.{◌==◌, nat_le, option_map, pos, neg_ℤ, IfSome, ℤ}
+use Rattle.std.proofs.Common.{◌≡◌, ℕ, ◌+◌, ◌-◌, ◌*◌, ◌^◌, ◌<◌, ◌≤◌, true, false, List, [], ◌∷◌, length, drop, get_or, Option, None, Some, refl, ap, ◌∙◌, arith, length-drop, lit≤, ◌||◌}
+use Rattle.std.specs.Prelude.{◌==◌, nat_le, option_map, pos, neg_ℤ, IfSome}
 use Rattle.std.specs.Str.{all_ascii_digits}
 use Rattle.std.specs.Char.{is_ascii_digit}
 use Rattle.std.proofs.lemmas.Bool.{and_parts, le-leb, leb-true, ne_eqb, or_from}
 use Rattle.std.proofs.Math.Nat.{pow-le-pow_right}
-use Rattle.std.proofs.lemmas.List.{at_drop_more, drop_more, length-take-le}
-use Rattle.plain_records.specs.Places.{FieldSoFar, IsField}
+use Rattle.std.proofs.lemmas.List.{length-take-le}
+use Rattle.plain_records.specs.Places.{FieldSoFar}
 use Rattle.plain_records.specs.Plain.{ends_field, first_field}
 use Rattle.plain_records.proofs.PlaceFacts.{field_begins, field_byte, field_more, field_of}
 use Rattle.csv_tables.specs.Fields.{DigitsSoFar, IsShort}

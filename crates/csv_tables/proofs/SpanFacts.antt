@@ -1,9 +1,8 @@
 -- The fields of a record, read one after another.
-use Rattle.std.proofs.Common.{◌≡◌, ◌⊎◌, inl, inr, ℕ, ◌+◌, ◌-◌, ◌<◌, ◌≤◌, min, List, [], ◌∷◌, ◌++◌, length, map, take, drop, get_or, set, Bool, false, refl, sym, ap, ◌∙◌, subst, arith, append_assoc, length-append}
+use Rattle.std.proofs.Common.{◌≡◌, ℕ, ◌+◌, ◌-◌, ◌<◌, ◌≤◌, min, List, [], ◌∷◌, ◌++◌, length, take, drop, get_or, set, false, refl, sym, ap, ◌∙◌, subst, arith, append_assoc, length-append}
 use Rattle.std.specs.Prelude.{All, IfSome, IsUtf8, Some}
 use Rattle.std.proofs.lemmas.List.{append-nil, drop_min, length-map, length-take-le, map-append, take_all, take_more_set, length-set}
 use Rattle.std.proofs.lemmas.List.Elements.{All-nil, All-push}
-use Rattle.plain_records.specs.Places.{IsField}
 use Rattle.plain_records.specs.Plain.{after_line, ends_line, first_field, first_record, front, is_comma}
 use Rattle.plain_records.proofs.LineFacts.{split_first}
 use Rattle.plain_records.proofs.PlaceFacts.{line_ends, line_goes_on, text_behind, text_of_field, text_past_field}

@@ -28,7 +28,11 @@ fn mark_of(bytes: &[u8]) -> usize
     ensures within { result ≤ length bytes.now }
     ensures rest { drop result bytes.now ≡ strip_bom bytes.now }
 {
-    if bytes.starts_with(b"\xEF\xBB\xBF") { 3 } else { 0 }
+    if bytes.starts_with(b"\xEF\xBB\xBF") {
+        3
+    } else {
+        0
+    }
 }
 
 /// The place behind the line of a file's first record.

@@ -47,7 +47,11 @@ fn cell_of_text(pool: &mut Pool, most: u32, field: &[u8]) -> Result<Option<u64>,
 }
 
 /// The cell of the value of this kind that a field spells. It answers None if the field spells no value of this kind.
-pub(crate) fn cell_of_field(pool: &mut Pool, kind: Kind, field: &[u8]) -> Result<Option<u64>, NoMemory>
+pub(crate) fn cell_of_field(
+    pool: &mut Pool,
+    kind: Kind,
+    field: &[u8],
+) -> Result<Option<u64>, NoMemory>
     requires text { IsUtf8 field.now }
     requires room { length pool.old < 4294967295 }
     ensures value { IfOk result (λ cell. option_map (value_of_cell pool.new kind) cell ≡ value_of_field kind field.now) }

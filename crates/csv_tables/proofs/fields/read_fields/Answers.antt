@@ -9,8 +9,13 @@ returns-then-place-numbers c =
 
 pub returns-else-place-numbers : goal.returns-else-place-numbers
 returns-else-place-numbers c = λ same.
-    omega (arith, c.requires.long, same, last_count c.args.bytes.now c.args.start c.places.at c.places.place c.places.fields c.read_field-field.result c.places.invariant c.read_field-field.ensures
-    (c.is_comma.ensures.no c.if-not-is_comma.true) (omega (arith, c.requires.long, c.places-test.true)))
+    omega (
+      arith,
+      c.requires.long,
+      same,
+      last_count c.args.bytes.now c.args.start c.places.at c.places.place c.places.fields c.read_field-field.result c.places.invariant c.read_field-field.ensures
+          (c.is_comma.ensures.no c.if-not-is_comma.true) (omega (arith, c.requires.long, c.places-test.true)),
+    )
 
 pub places-preserved : goal.places-preserved
 places-preserved c =

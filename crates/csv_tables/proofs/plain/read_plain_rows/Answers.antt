@@ -39,7 +39,7 @@ rows-preserved c =
     let width : length c.deref.result.now ≡ c.args.width = ap length c.deref.ensures.value ∙ c.in_ok-numbers.ensures in
     let next : IsBehind bytes at c.in_ok-next.next = c.in_ok-next.ensures.next in
     let row : HoldsRow (row_of_record c.args.columns.now c.args.places.now c.args.width (c.rows.rows + 1) (first_record (drop at bytes))) c.read_record_at.new.pool
-        (kinds_of c.args.columns.now) c.read_record_at.new.cells.items =
+    (kinds_of c.args.columns.now) c.read_record_at.new.cells.items =
     subst (λ (w : ℕ). HoldsRow (row_of_record c.args.columns.now c.args.places.now w (c.rows.rows + 1) (first_record (drop at bytes))) c.read_record_at.new.pool
     (kinds_of c.args.columns.now) c.read_record_at.new.cells.items) width c.in_ok-next.ensures.ok in
     record {
