@@ -30,10 +30,10 @@ returns-clause-ok c =
     let rest = left c.next_record.new.reader in
     let records : records_of (strip_bom c.args.bytes.now) ≡ header ∷ rest = sym c.open_records-reader.ensures.left ∙ c.in_ok-next_record.ensures.more c.if-not-branch.false in
     let width : length header ≡ c.len-width.result = search rules in
-    let same : rows_under_header c.args.columns.now (records_of (strip_bom c.args.bytes.now)) ≡ rows_of_records c.args.columns.now c.deref.result.now c.len-width.result 1 rest =
+    let same : rows_under_header c.args.columns.now (records_of (strip_bom c.args.bytes.now)) ≡ rows_of_records c.args.columns.now c.deref-2.result.now c.len-width.result 1 rest =
     under_places c.args.columns.now _ rest header c.in_ok-places.places.items records c.in_ok-places.ensures.ok
-    ∙ ap (λ (ps : List ℕ). rows_of_records c.args.columns.now ps (length header) 1 rest) (sym c.deref.ensures.value)
-    ∙ ap (λ (w : ℕ). rows_of_records c.args.columns.now c.deref.result.now w 1 rest) width in
+    ∙ ap (λ (ps : List ℕ). rows_of_records c.args.columns.now ps (length header) 1 rest) (sym c.deref-2.ensures.value)
+    ∙ ap (λ (w : ℕ). rows_of_records c.args.columns.now c.deref-2.result.now w 1 rest) width in
     rw same c.read_rows.ensures.ok
 
 pub returns-clause-refused : goal.returns-clause-refused
@@ -42,10 +42,10 @@ returns-clause-refused c =
     let rest = left c.next_record.new.reader in
     let records : records_of (strip_bom c.args.bytes.now) ≡ header ∷ rest = sym c.open_records-reader.ensures.left ∙ c.in_ok-next_record.ensures.more c.if-not-branch.false in
     let width : length header ≡ c.len-width.result = search rules in
-    let same : rows_under_header c.args.columns.now (records_of (strip_bom c.args.bytes.now)) ≡ rows_of_records c.args.columns.now c.deref.result.now c.len-width.result 1 rest =
+    let same : rows_under_header c.args.columns.now (records_of (strip_bom c.args.bytes.now)) ≡ rows_of_records c.args.columns.now c.deref-2.result.now c.len-width.result 1 rest =
     under_places c.args.columns.now _ rest header c.in_ok-places.places.items records c.in_ok-places.ensures.ok
-    ∙ ap (λ (ps : List ℕ). rows_of_records c.args.columns.now ps (length header) 1 rest) (sym c.deref.ensures.value)
-    ∙ ap (λ (w : ℕ). rows_of_records c.args.columns.now c.deref.result.now w 1 rest) width in
+    ∙ ap (λ (ps : List ℕ). rows_of_records c.args.columns.now ps (length header) 1 rest) (sym c.deref-2.ensures.value)
+    ∙ ap (λ (w : ℕ). rows_of_records c.args.columns.now c.deref-2.result.now w 1 rest) width in
     rw same c.read_rows.ensures.refused
 
 pub returns-in-Some-clause-ok : goal.returns-in-Some-clause-ok
