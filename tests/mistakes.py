@@ -548,10 +548,7 @@ OPTIONS = [
     usage("audit schema.sql query.sql --accuracy 1 --count", "--accuracy can't stand beside --count"),
     usage("plan schema.sql query.sql --count --stats old.stats", "--count can't stand beside --stats"),
     usage("run schema.sql query.sql --keys=yes", "--keys takes no value"),
-    usage(
-        "run schema.sql query.sql --keys --reduce", "--reduce can't stand beside --keys", "an order over whole tables",
-    ),
-    usage("plan schema.sql query.sql --bushy --keys", "--bushy can't stand beside --keys"),
+    usage("run schema.sql query.sql --keys --reduce", "--reduce can't stand beside --keys", "plans over whole tables"),
     usage("plan schema.sql query.sql --keys --stats old.stats", "--keys can't stand beside --stats"),
     usage("plan schema.sql query.sql --accuracy 8 --count", "--accuracy can't stand beside --count"),
     usage("plan schema.sql query.sql --keys --count --bushy", "--keys can't stand beside --count"),
@@ -680,6 +677,8 @@ STATISTICS = [
     ),
     stats("error read old.stats", None, "There is no file old.stats"),
     usage("plan schema.sql query.sql --stats old.stats --accuracy 3", "--accuracy can't stand beside --stats"),
+    usage("plan schema.sql query.sql --stats old.stats --reduce --bushy", "--reduce can't stand beside --stats"),
+    usage("plan schema.sql query.sql --stats old.stats --bushy --budget 4000001", "from 1 to 4,000,000"),
     usage("plan schema.sql query.sql --stats=-", "has the value -", "the name of a file"),
     usage("run schema.sql query.sql --stats old.stats", "run has no option --stats"),
 ]

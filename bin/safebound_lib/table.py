@@ -56,7 +56,7 @@ BUSHY = Option(
 )
 KEYS = Option(
     "--keys", None,
-    "carries conditions on a table to those that refer to its key; stands beside neither --reduce nor --bushy",
+    "carries conditions on a table to those that refer to its key; stands beside neither --reduce nor --count",
 )
 MEMORY = Option(
     "--memory", "N",
@@ -67,8 +67,8 @@ STATS = Option(
     "--stats",
     "FILE",
     (
-        "plans from this statistics file, which `stats` wrote, and reads no table; beside it only --budget and --memory"
-        " may stand"
+        "plans from this statistics file, which `stats` wrote, and reads no table; beside it only --budget, --memory"
+        " and --bushy may stand"
     ),
 )
 

@@ -138,7 +138,7 @@ def given(run: Run, budget: int, accuracy: str | None = None, flag: Option | Non
     """The run's options, with these. A flag that is tried takes the place of those beside which it can't stand."""
     flags = [one for one in (REDUCE, BUSHY, KEYS, COUNT) if has(run, one)]
     if flag is not None:
-        flags = [one for one in flags if {one, flag} <= {REDUCE, BUSHY} or {one, flag} <= {BUSHY, COUNT}] + [flag]
+        flags = [one for one in flags if BUSHY in (one, flag)] + [flag]
     kept = None if COUNT in flags else accuracy or option_of(run.words, ACCURACY.word)
     return [BUDGET.word, str(budget)] + ([ACCURACY.word, kept] if kept else []) + [one.word for one in flags]
 

@@ -13,7 +13,9 @@ if TYPE_CHECKING:
 
 def explain(fault: Fault, run: Run) -> list[str]:
     limit = option_of(run.words, MEMORY.word)
-    others = [option.word for option in (COUNT, BUSHY) if not {option.word, KEYS.word} & set(run.words)]
+    others = [option.word for option in (COUNT, BUSHY) if option.word not in run.words]
+    if KEYS.word in run.words or run.stats_file is not None:
+        others = [word for word in others if word != COUNT.word]
     first = (
         f"The buffers of the plan take {fault.found:,} bytes, and the limit is {int(limit or 0):,}. The least limit"
         f" is {MEMORY.word} {fault.found}."

@@ -154,21 +154,20 @@ def unknown(command: Command, word: str, behind: str) -> str:
 
 def wrong_beside(seen: set[str]) -> str | None:
     """Which options can't stand beside each other, if some do."""
-    others = [option.word for option in (ACCURACY, REDUCE, COUNT, BUSHY, KEYS) if option.word in seen]
+    others = [option.word for option in (ACCURACY, REDUCE, COUNT, KEYS) if option.word in seen]
     if STATS.word in seen and others:
         return (
             f"{others[0]} can't stand beside {STATS.word}: a statistics file has its own accuracy, and tells of whole"
             " tables."
         )
-    if COUNT.word in seen and set(others) - {COUNT.word, BUSHY.word}:
-        other = next(word for word in others if word not in (COUNT.word, BUSHY.word))
+    if COUNT.word in seen and len(others) > 1:
+        other = next(word for word in others if word != COUNT.word)
         return (
             f"{other} can't stand beside {COUNT.word}. {COUNT.word} reduces scans as {REDUCE.word} does, and counts"
             " over them: no list is compressed, and none is carried."
         )
-    if KEYS.word in seen and len(set(others) - {ACCURACY.word}) > 1:
-        other = next(word for word in others if word in (REDUCE.word, BUSHY.word))
-        return f"{other} can't stand beside {KEYS.word}. {KEYS.word} is for an order over whole tables."
+    if KEYS.word in seen and REDUCE.word in seen:
+        return f"{REDUCE.word} can't stand beside {KEYS.word}. {KEYS.word} is for plans over whole tables."
     return None
 
 

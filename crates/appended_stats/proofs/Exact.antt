@@ -1,4 +1,4 @@
--- The file that is made of cells is that of their rows.
+-- The file that is made from the cells of new rows is the file that is made from these rows' values.
 use Rattle.std.proofs.Common.{◌≡◌, ℕ, ◌+◌, ◌<◌, ◌==◌, Bool, true, false, cond, List, [], ◌∷◌, length, map, get_or, refl, ap, sym, ◌∙◌, arith, inl, inr}
 use Rattle.std.specs.List.{All, AllByRecursion, zip}
 use Rattle.std.proofs.lemmas.Bool.{cases_Bool, eqb-true}
@@ -26,7 +26,7 @@ use Rattle.appended_stats.specs.Grown.{grown_pair}
 use Rattle.appended_stats.proofs.SameRows.{grown_is}
 
 module _ (texts : List (List ℕ)) (differ : HaveDifferentCharacters texts) (cells : Cells) (are : AreCells texts cells) where
-  -- the cells as a database of one table
+  -- the new cells are made a database of one table, so that the lemmas about cells in a database apply
   abbrev db : Database
   db = record { pool = texts; cells = cells ∷ []; slots = 0 ∷ [] }
 
@@ -54,7 +54,6 @@ module _ (texts : List (List ℕ)) (differ : HaveDifferentCharacters texts) (cel
   column_there : (column : ℕ) → Exists column → IsColumn texts cells.rows (kind_at column) (cells_at column)
   column_there column exists = column_is db in_order differ 0 (omega arith) column exists
 
-  -- the values of a column are those of its cells
   values_there : (column : ℕ) → Exists column → map (value_of_cell texts (kind_at column)) (cells_at column) ≡ values_in rows column
   values_there column exists = values_are db in_order differ 0 (omega arith) column exists
 
@@ -108,7 +107,6 @@ module _ (texts : List (List ℕ)) (differ : HaveDifferentCharacters texts) (cel
       (map (pair_after accuracy section.rows rows) section.pairs) (ap (λ n. section.rows + n) (sym as_many)) (pairs_same accuracy section.rows section.pairs all)
 
   module _ (accuracy table : ℕ) where
-    -- the section where it is one of the table
     abbrev pub one_after : TableStats → TableStats
     one_after section = cond (section.table == table) (section_after accuracy rows section) section
 

@@ -1,4 +1,4 @@
--- A file keeps the rules of files after rows were appended.
+-- If a file of statistics keeps the rules of statistics files, it still keeps them after rows were appended.
 use Rattle.std.proofs.Common.{◌≡◌, ◌⊎◌, ℕ, zero, suc, ◌+◌, ◌<◌, ◌≤◌, ◌==◌, Bool, true, false, cond, eqb, List, [], ◌∷◌, length, map, get_or, Some, slice_get, inl, inr, refl, ap, sym, ◌∙◌, subst, arith}
 use Rattle.std.specs.List.{All, AllByRecursion, AllPairs, zip}
 use Rattle.std.specs.Str.{IsUtf8}
@@ -118,7 +118,6 @@ module _ (texts : List (List ℕ)) (differ : HaveDifferentCharacters texts) (utf
 -- ---- the file
 
 module _ (schema : Schema) (file : StatsFile) (table : ℕ) (texts : List (List ℕ)) (cells : Cells) (may : MayAppend schema file table texts cells) where
-  -- the cells are those of the table of a section
   pub its_cells : (section : TableStats) (is : IsSection schema section) → section.table ≡ table → AreCellsOf is.table texts cells
   its_cells section is its =
       subst (λ (t : Table). AreCellsOf t texts cells) (ap (table_at schema) (sym its) ∙ get_or_from_slice_get schema.tables section.table is.table no_table is.table_is) may.cells_are

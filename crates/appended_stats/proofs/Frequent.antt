@@ -1,4 +1,4 @@
--- A frequent value with its list and that of the new rows.
+-- In the loop over the frequent values, each step adds to a value's list the list of the new rows that have this value.
 use Rattle.std.proofs.Common.{◌≡◌, ℕ, List, Some, slice_get, refl, ap, ◌∙◌}
 use Rattle.csv_tables.specs.Values.{Value}
 use Rattle.degree_sequences.specs.ByRank.{rank_sum}

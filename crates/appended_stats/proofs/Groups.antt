@@ -1,4 +1,5 @@
--- Joined keys, put by their filter values into groups, and the list that is made of all groups.
+-- The code puts joined keys into groups by their filter values and makes one degree list of all groups. The lemmas here are about both loops: the one that
+-- fills the groups and the one that takes the groups' rank-wise maximum.
 use Rattle.std.proofs.Common.{◌≡◌, ◌≢◌, ℕ, suc, ◌+◌, ◌<◌, ◌≤◌, ◌^◌, Bool, true, false, cond, eqb, not, ltb, max, List, [], ◌∷◌, ◌++◌, length, map, get_or, set, slice_get, take, sum, None, Option, Some, nat_eq, refl, ap, sym, ◌∙◌, subst, arith, inl, inr}
 use Rattle.std.specs.List.{All, AllByRecursion, IsDistinct, position, position_or_len, zip, AllPairs}
 use Rattle.std.proofs.lemmas.Bool.{cases_Bool, cases_eq, cases_lt, eq-eqb, eqb-true, false≢true, lt-ltb, ne_eqb}
@@ -24,7 +25,6 @@ use Rattle.appended_stats.specs.Grown.{list_of_any}
 use Rattle.appended_stats.proofs.Small.{all_small_degrees, saturated_small, small_degrees, small_maxima, small_maximum}
 use Rattle.appended_stats.proofs.Walks.{no_key_more, one_key_more}
 
--- a number that is found nowhere stands at no place
 pub nowhere : (cell : ℕ) (cells : List ℕ) → position (nat_eq cell) cells ≡ None → (k : ℕ) → k < length cells → nat_eq cell (get_or cells k 0) ≡ false
 nowhere cell cells missing k low = elim (cases_lt (position_or_len (nat_eq cell) cells) (length cells)) [
   | inl found ↦ absurd (none-some (position_or_len (nat_eq cell) cells) (sym missing ∙ ap (λ (b : Bool). cond b (Some (position_or_len (nat_eq cell) cells)) None) (lt-ltb (position_or_len (nat_eq cell) cells) (length cells) found)))
@@ -32,7 +32,7 @@ nowhere cell cells missing k low = elim (cases_lt (position_or_len (nat_eq cell)
 ]
 
 module _ (others column joined : List ℕ) (apart : IsDistinct nat_eq others) (same : length joined ≡ length column) where
-  -- the groups of the first so many rows
+  -- after the first `i` rows, group k has the joined keys of the rows whose cell is number k of `others`
   abbrev pub AreGrouped : ℕ → List (List ℕ) → Type 0
   AreGrouped i groups = (length groups ≡ length others)
       × ((k : ℕ) → k < length others → get_or groups k [] ≡ keys_with (get_or others k 0) (zip (take i column) (take i joined)))
@@ -97,7 +97,7 @@ one_empty_more before new i keys are empty pushed = (
   subst (All (λ (s : List ℕ). s ≡ [])) (sym pushed) (All-append (λ (s : List ℕ). s ≡ []) before (keys ∷ []) are.1 (All-from_recursion (λ (s : List ℕ). s ≡ []) (keys ∷ []) (empty, tt))),
 )
 
--- one key more in a group, which is taken out and put back
+-- a group is taken out of the list, so `none` lies in its place for a while. It gets one more key and is put back
 pub key_added : (groups between new : List (List ℕ)) (place key : ℕ) (none keys pushed : List ℕ) → slice_get groups place ≡ Some keys → between ≡ set groups place none
     → pushed ≡ keys ++ key ∷ [] → new ≡ set between place pushed → new ≡ set groups place (get_or groups place [] ++ key ∷ [])
 key_added groups between new place key none keys pushed at taken is back =
@@ -106,7 +106,6 @@ key_added groups between new place key none keys pushed at taken is back =
 
 -- ---- one list for all groups
 
--- a group that is read
 pub group_is : (groups : List (List ℕ)) (i : ℕ) (keys : List ℕ) → i < length groups → keys ≡ get_or groups i keys → keys ≡ get_or groups i []
 group_is groups i keys low is = is ∙ get_or_default groups i keys [] low
 
@@ -160,7 +159,7 @@ module _ (groups : List (List ℕ)) (few : All (λ (keys : List ℕ). length key
       made ∙ ap (compressed accuracy) (cut ∙ ap (λ s. cut_at s most) are ∙ ap (cut_at (maxima_to i)) is)
       ∙ ap (λ (s : List (List ℕ)). list_of_groups accuracy s) all
 
--- ---- the groups of cells
+-- ---- the groups of the cells in `others`
 
 pub groups_are : (accuracy : ℕ) (rows : List (ℕ × ℕ)) (others : List ℕ) (groups : List (List ℕ)) → groups ≡ map (λ cell. keys_with cell rows) others
     → list_of_groups accuracy groups ≡ list_of_any accuracy rows others

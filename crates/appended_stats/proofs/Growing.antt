@@ -1,4 +1,4 @@
--- What the rules of files and the room for new rows say of each list.
+-- If a file keeps its rules and has room for the new rows, then each of its pairs may grow (`MayGrow`).
 use Rattle.std.proofs.Common.{◌≡◌, ℕ, zero, suc, ◌+◌, ◌<◌, ◌≤◌, ◌^◌, List, [], length, get_or, sum, refl, ap, sym, ◌∙◌, subst, arith}
 use Rattle.std.specs.List.{All}
 use Rattle.limits.specs.Profile.{most_rows}

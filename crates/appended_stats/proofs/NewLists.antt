@@ -1,4 +1,5 @@
--- The lists of new rows keep the rules of files, and how many rows they have.
+-- The degree lists that are made from appended rows keep the rule `IsList` of statistics files, and so do the rank-wise sums of two lists. Some lemmas say
+-- what the elements of these lists sum to.
 use Rattle.std.proofs.Common.{◌≡◌, ℕ, zero, suc, ◌+◌, ◌*◌, ◌/◌, ◌<◌, ◌≤◌, Bool, eqb, min, not, List, [], ◌∷◌, ◌++◌, length, map, get_or, sum, refl, ap, sym, ◌∙◌, subst, arith}
 use Rattle.std.specs.List.{All, AllByRecursion, count_by, filter, flat_map, list_any, range_with_len, zip}
 use Rattle.std.proofs.Math.Path.{fun_ext}
@@ -61,7 +62,7 @@ sums_of_sums (list ∷ lists) (other ∷ others) =
 pub sums_many : (lists others : List (List ℕ)) → length lists ≡ 63 → length others ≡ 63 → length (rank_sums lists others) ≡ 63
 sums_many lists others many also = omega (arith, length-map (zip lists others) (λ (both : List ℕ × List ℕ). rank_sum both.0 both.1), length-zip lists others, many, also)
 
--- ---- the list of any of some values
+-- ---- `list_of_any`: one list for several values
 
 module _ (k : ℕ) (rows : List (ℕ × ℕ)) where
   abbrev column : List ℕ

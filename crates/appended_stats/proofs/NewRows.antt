@@ -61,7 +61,7 @@ rank_sum_dominates s t keys others one two picked apart =
 pub dominates_none : (s : List ℕ) → DominatesKeys s []
 dominates_none s picked apart = omega arith
 
--- ---- one list for any of some values dominates the keys of each of them
+-- ---- `list_of_any` of some values dominates the keys of each of these values
 
 any_above : (k : ℕ) (rows : List (ℕ × ℕ)) (values : List ℕ) (v : ℕ) → is_in values v ≡ true → (r : ℕ)
     → running_sum (degree_list (keys_with v rows)) r ≤ running_sum (cut_at (maxima (map (λ value. degree_list (keys_with value rows)) values)) (greatest (map (degree (filter_values rows)) values))) r
@@ -88,7 +88,6 @@ any_dominates k rows values v inside picked apart =
       compressed-above k (cut_at s n) (IsFalling-cut_at s n (falls k rows values)) (length picked),
     )
 
--- what passes a test stands as often among those that pass it
 degree-filtered : (p : ℕ → Bool) (v : ℕ) → p v ≡ true → (column : List ℕ) → degree (filter p column) v ≡ degree column v
 degree-filtered p v passes [] = refl
 degree-filtered p v passes (x ∷ column) = elim (cases_Bool (p x)) [
@@ -112,7 +111,6 @@ others_dominate k rows p v passes = elim (cases_Bool (is_in (different (filter p
       ))
 ]
 
--- none that passes
 none_pass : (test : ℕ → Bool) (rows : List ℕ) → ((row : ℕ) → Contains rows row → test row ≡ false) → filter test rows ≡ []
 none_pass test [] fails = refl
 none_pass test (row ∷ rows) fails =
@@ -152,11 +150,10 @@ module _ (new : List Row) (k filter_column joined : ℕ) where
   below : (row : ℕ) → Contains rows row → row < many
   below row has = omega (arith, (range_within 0 many row has).1)
 
-  -- a test that equal values pass alike
+  -- if two values are equal, the test gives the same result for both
   abbrev pub IsAlike : (Value → Bool) → Type 0
   IsAlike test = (a b : Value) → is_equal a b ≡ true → test a ≡ test b
 
-  -- the keys of the rows that pass
   passing_are : (test : Value → Bool) → IsAlike test → keys_where (λ n. test (of_row n)) pairs ≡ map joined_number (filter (λ row. test (its row)) rows)
   passing_are test alike =
       ap (keys_where (λ n. test (of_row n))) (numbered_pairs (alone new) 0 filter_column joined)
@@ -169,7 +166,7 @@ module _ (new : List Row) (k filter_column joined : ℕ) where
       (omega (arith, length-map filters (first_row filters), length-map keys (first_row keys), height (alone new) 0 filter_column, height (alone new) 0 joined))).1
       ∙ numbers_are (alone new) 0 joined
 
-  -- whether a row has a value, and whether it has the value's number
+  -- the number of a value is the first row that has this value
   number_tells : (value : Value) (row : ℕ) → row < many → eqb (number row) (first_row filters value) ≡ is_equal (its row) value
   number_tells value row low = elim (cases_Bool (is_equal (its row) value)) [
     | inl e ↦ eq-eqb (number row) (first_row filters value) (same_first filters (its row) value e) ∙ sym e
@@ -181,7 +178,7 @@ module _ (new : List Row) (k filter_column joined : ℕ) where
       ap (keys_where (λ other. eqb other (first_row filters value))) (numbered_pairs (alone new) 0 filter_column joined)
       ∙ of_rows number joined_number rows (λ row. is_equal (its row) value) (λ other. eqb other (first_row filters value)) (λ row has. number_tells value row (below row has))
 
-  -- ---- over any keys that tell the values of the joined column
+  -- ---- domination, for any keys that are equal exactly if the values of the joined column are equal
 
   module _ (key : ℕ → ℕ) (tells : TellsValues (alone new) 0 joined key) where
     are_alike : AreEqualAlike joined_number key rows
@@ -203,7 +200,6 @@ module _ (new : List Row) (k filter_column joined : ℕ) where
         (passing_dominated made joined_number key rows (λ row. test (its row)) are_alike).0
         (subst (DominatesKeys made) (passing_are test alike) (compressed_dominates k (keys_where (λ n. test (of_row n)) pairs)))
 
-    -- the rows that have a value that isn't frequent
     pub rest_dominates : (frequent : List (Datum × List ℕ)) (value : Value) → is_frequent frequent value ≡ false
         → DominatesKeys (list_of_any k pairs (other_values of_row pairs frequent)) (map key (filter (λ row. is_equal (its row) value) rows))
     rest_dominates frequent value rare =
@@ -229,7 +225,7 @@ module _ (new : List Row) (k filter_column joined : ℕ) where
           | inr e ↦ e
         ]
 
--- ---- tests that equal values pass alike
+-- ---- tests whose results for equal values are equal
 
 pub value_alike : (value : Datum) (a b : Value) → is_equal a b ≡ true → is_value a value ≡ is_value b value
 value_alike value a b same = ap is_eq (alike_on_right a b same (value_of value))

@@ -1,4 +1,4 @@
--- A grown pair keeps the rules of files, and agrees with the others as before.
+-- A grown pair, which is a pair after the append, keeps the rules of files, and agrees with the other pairs of its section as before.
 use Rattle.std.proofs.Common.{◌≡◌, ◌≢◌, ℕ, zero, suc, ◌+◌, ◌*◌, ◌/◌, ◌<◌, ◌≤◌, Bool, eqb, not, List, [], ◌∷◌, drop, length, map, get_or, sum, refl, ap, sym, ◌∙◌, subst, arith}
 use Rattle.std.specs.Prelude.{slice_index_or}
 use Rattle.std.specs.List.{All, AllByRecursion, AllPairs, count_by, filter, flat_map, list_any, range_with_len, zip}
@@ -29,7 +29,6 @@ use Rattle.stats_file_of_query.proofs.Lists.{where_listed, whole_listed}
 use Rattle.appended_stats.specs.Grown.{grown_pair, is_frequent, list_of_any, list_with, lists_of_nodes, other_values, rank_sums, with_new_rows}
 use Rattle.appended_stats.proofs.NewLists.{added_listed, all_added_listed, any_listed, node_counts, nodes_listed, nodes_many, sum-list_of_any, sums_many, sums_of_sums}
 
--- a pair of a table that had rows has all its nodes
 pub nodes_all : (kd : Kind) (n : ℕ) (cuts : List Datum) (nodes : List (List ℕ)) → 0 < n → IsHistogramOf kd n cuts nodes → length nodes ≡ 63
 nodes_all kd zero cuts nodes some is = absurd (omega (arith, some))
 nodes_all kd (suc n) cuts nodes some is = is.all
@@ -106,7 +105,7 @@ first_same x y xs ys same = ap (λ (s : List _). get_or s 0 x) same
 others_same : {X : Type 0} (x y : X) (xs ys : List X) → (let s : List X = x ∷ xs in s) ≡ y ∷ ys → xs ≡ ys
 others_same x y xs ys same = ap (λ (s : List _). drop 1 s) same
 
--- equal values and equal totals, to each of which the same is added by its value
+-- the number that is added depends on the value alone, so equal sums stay equal
 totals_from : (more : Datum → ℕ) (a b : List (Datum × List ℕ)) → values_of a ≡ values_of b → totals_of a ≡ totals_of b
     → map (λ (f : Datum × List ℕ). sum f.1 + more f.0) a ≡ map (λ (f : Datum × List ℕ). sum f.1 + more f.0) b
 totals_from more [] [] values totals = refl
@@ -123,7 +122,7 @@ any_by_value value [] = refl
 any_by_value value (f ∷ frequent) = rw (any_by_value value frequent) refl
 
 module _ (of_row : ℕ → Value) (k : ℕ) (rows others : List (ℕ × ℕ)) (same : filter_values rows ≡ filter_values others) (a b : Pair) (agreed : HaveSameFilterCounts a b) where
-  -- how many new rows have a value, by the filter values alone
+  -- only the filter column is used, so the counts of two pairs with the same filter column are equal
   abbrev count_of : List ℕ → Datum → ℕ
   count_of column value = count_by (λ n. is_value (of_row n) value) column
 
@@ -137,7 +136,6 @@ module _ (of_row : ℕ → Value) (k : ℕ) (rows others : List (ℕ × ℕ)) (s
   values_kept : (pairs : List (ℕ × ℕ)) (frequent : List (Datum × List ℕ)) → values_of (map (with_new_rows of_row k pairs) frequent) ≡ values_of frequent
   values_kept pairs frequent = map_both (λ (f : Datum × List ℕ). f.0) (with_new_rows of_row k pairs) (λ (f : Datum × List ℕ). f.0) (λ f. refl) frequent
 
-  -- the values that aren't frequent
   abbrev others_by : List Datum → List ℕ → List ℕ
   others_by values column = different (filter (λ n. not (list_any (is_value (of_row n)) values)) column)
 
@@ -155,7 +153,6 @@ module _ (of_row : ℕ → Value) (k : ℕ) (rows others : List (ℕ × ℕ)) (s
       ∙ ap (λ n. sum pair.rest + n) (sum-list_of_any k pairs (other_values of_row pairs pair.frequent)
       ∙ ap (λ (s : List ℕ). greatest (map (degree (filter_values pairs)) s)) (others_are pairs pair.frequent))
 
-  -- the leaf of a value, by cuts
   abbrev leaf_by : List Datum → ℕ → ℕ
   leaf_by cuts n = last_place (λ leaf. value_le (value_of (slice_index_or cuts leaf (datum.Text []))) (of_row n)) (range_with_len 0 (length cuts))
 

@@ -1,4 +1,4 @@
--- A grown pair as it is made of cells.
+-- The pair that the code makes from cells is `grown_pair`, the pair after the append.
 use Rattle.std.proofs.Common.{◌≡◌, ℕ, ◌+◌, ◌*◌, ◌/◌, ◌<◌, ◌≤◌, ◌^◌, Bool, List, [], ◌∷◌, length, map, get_or, sum, Some, slice_get, refl, ap, sym, ◌∙◌, subst, arith, inl, inr}
 use Rattle.std.specs.List.{All, flat_map, range_with_len, zip}
 use Rattle.std.proofs.Math.Path.{fun_ext}
@@ -30,7 +30,7 @@ use Rattle.appended_stats.specs.Conditions.{MayGrow}
 use Rattle.appended_stats.specs.Grown.{grown_pair, list_of_any, lists_of_nodes, other_values, rank_sums, with_new_rows}
 use Rattle.appended_stats.proofs.NewLists.{any_listed, nodes_listed, nodes_many}
 
--- the rows whose leaf passes, by the leaves alone
+-- the code puts the rows' leaves beside their keys once. So the list of a node is made without the rows' values
 by_leaf : (p : ℕ → Bool) (f : ℕ → ℕ) (column joined : List ℕ) → keys_where p (zip (map f column) joined) ≡ keys_where (λ v. p (f v)) (zip column joined)
 by_leaf p f [] joined = refl
 by_leaf p f (v ∷ column) [] = refl
@@ -45,7 +45,6 @@ nodes_by_leaf k f column joined =
     (fun_ext (λ (size : ℕ). ap (λ (node : ℕ → List ℕ). map node (range_with_len 0 (32 / size)))
     (fun_ext (λ (i : ℕ). ap (λ (s : List ℕ). compressed k (degree_list s)) (by_leaf (λ leaf. in_node size (size * i) leaf) f column joined)))))
 
--- the kind and the cells of a pair's columns, as they are read
 pub record AreRead (texts : List (List ℕ)) (cells : Cells) (pair : Pair) (kd : Kind) (values keys : List ℕ) : Type 0 where
   pub are : AreCells texts cells
   pub may : MayGrow cells 1 pair

@@ -1,4 +1,4 @@
--- What new rows make of a pair is the same by their cells and by their values.
+-- If new rows are added to a pair, the new pair is the same whether the rows are given by their cells or by their values.
 use Rattle.std.proofs.Common.{◌≡◌, ℕ, ◌+◌, ◌*◌, ◌/◌, ◌<◌, Bool, true, eqb, not, List, [], ◌∷◌, length, map, get_or, pos, refl, ap, sym, ◌∙◌, subst, arith}
 use Rattle.std.specs.List.{All, AllByRecursion, Contains, filter, flat_map, range_with_len, zip}
 use Rattle.std.proofs.Math.Path.{fun_ext}
@@ -43,7 +43,6 @@ module _ (texts : List (List ℕ)) (differ : HaveDifferentCharacters texts) (kin
   abbrev keys : List Value
   keys = cell_values texts differ other joined are_joined
 
-  -- the first rows that have the values of cells
   abbrev row_of : ℕ → ℕ
   row_of = number_of texts differ kind column are_column
 
@@ -91,7 +90,6 @@ module _ (texts : List (List ℕ)) (differ : HaveDifferentCharacters texts) (kin
   abbrev of_row : ℕ → Value
   of_row n = value_of_row filters n
 
-  -- the value of a cell is that of its first row
   same_value : (cell : ℕ) → Contains column cell → of_row (row_of cell) ≡ of_cell cell
   same_value cell has =
       let low : has.0 < length column = has.1 in

@@ -1,4 +1,4 @@
--- Sections one after another: that of the table is grown, and each other one stays.
+-- In the loop over the sections, each step lets a section of the table grow and leaves each other section as it is.
 use Rattle.std.proofs.Common.{◌≡◌, ◌≢◌, ℕ, ◌+◌, ◌<◌, ◌==◌, Bool, true, false, cond, List, ◌++◌, drop, length, map, set, take, Some, slice_get, refl, ap, sym, ◌∙◌, subst}
 use Rattle.std.specs.List.{All}
 use Rattle.std.proofs.lemmas.Bool.{eq-eqb, ne_eqb}
@@ -15,7 +15,6 @@ module _ (texts : List (List ℕ)) (cells : Cells) (accuracy table : ℕ) (secti
   abbrev pub ArePassed : ℕ → List TableStats → Type 0
   ArePassed n changed = changed ≡ map one (take n sections) ++ drop n sections
 
-  -- a section that is read, and taken out if it is one of the table
   pub may_grow : (read taken : TableStats) → All (MayGrowWhere table cells) sections → ArePassed i ys → slice_get ys i ≡ Some read → read.table ≡ table → slice_get ys i ≡ Some taken
       → SectionMayGrow cells taken
   may_grow read taken may are at its out =

@@ -1,4 +1,4 @@
--- Numbers and lists that 128 bits hold.
+-- Some numbers and lists have only elements that fit into 128 bits, so saturation doesn't change them.
 use Rattle.std.proofs.Common.{◌≡◌, ℕ, suc, ◌+◌, ◌-◌, ◌<◌, ◌≤◌, ◌^◌, max, List, [], ◌∷◌, ◌++◌, map, length, take, sum, refl, ap, sym, ◌∙◌, arith}
 use Rattle.std.specs.List.{All, AllByRecursion}
 use Rattle.std.proofs.lemmas.List.Sums.{sum_by-cons}
@@ -18,7 +18,6 @@ saturated_small (x ∷ s) small =
     let here : saturated x ≡ x = omega (arith, small.0) in
     ap (λ (n : ℕ). n ∷ map saturated s) here ∙ ap (λ (t : List ℕ). x ∷ t) (saturated_small s small.1)
 
--- the elements of a list are at most its sum
 pub small_by_sum : (s : List ℕ) → sum s < 2 ^ 128 → AreSmall s
 small_by_sum [] few = tt
 small_by_sum (x ∷ s) few =
@@ -41,6 +40,5 @@ pub all_small_degrees : (groups : List (List ℕ)) → AllByRecursion (λ (keys 
 all_small_degrees [] all = tt
 all_small_degrees (keys ∷ groups) all = (small_degrees keys all.0, all_small_degrees groups all.1)
 
--- lists with few rows are added as they are
 pub added_exactly : (s t r : List ℕ) → sum s < 2 ^ 64 → sum t < 2 ^ 64 → r ≡ map saturated (rank_sum s t) → r ≡ rank_sum s t
 added_exactly s t r few also is = is ∙ saturated_small (rank_sum s t) (small_by_sum (rank_sum s t) (omega (arith, sum-rank_sum s t, few, also)))

@@ -1,4 +1,5 @@
--- What stood for rows stands for these and the new rows after them.
+-- Statistics that stood for rows stand, after the append, for these rows with the new rows after them. Statistics stand for rows if each list
+-- dominates the keys of the rows that the list is about.
 use Rattle.std.proofs.Common.{◌≡◌, ◌↔◌, ℕ, zero, suc, ◌+◌, ◌-◌, ◌*◌, ◌/◌, ◌<◌, ◌≤◌, ◌==◌, Bool, true, false, cond, eqb, List, [], ◌∷◌, ◌++◌, length, length-append, map, get_or, sum, None, Option, Some, find, option_map, pos, refl, ap, sym, ◌∙◌, subst, arith, inl, inr}
 use Rattle.std.specs.Option.{option_map_or}
 use Rattle.std.specs.List.{All, AllByRecursion, Contains, filter, flat_map, list_any, range_with_len, zip}
@@ -46,7 +47,7 @@ use Rattle.appended_stats.specs.Grown.{grown_pair, is_frequent, list_of_any, lis
 use Rattle.appended_stats.proofs.NewLists.{nodes_many}
 use Rattle.appended_stats.proofs.NewRows.{leaf_alike, rank_sum_dominates, rest_dominates, value_alike, where_dominates, whole_dominates}
 
--- ---- rows before and after others
+-- ---- numbers of old rows, and of new rows after them
 
 range_two : (first n m : ℕ) → range_with_len first (n + m) ≡ range_with_len first n ++ range_with_len (first + n) m
 range_two first zero m =
@@ -84,7 +85,6 @@ module _ (n m : ℕ) where
       let e : 0 + n ≡ n + 0 = omega arith in
       range_two 0 n m ∙ ap (λ (a : ℕ). old_rows ++ range_with_len a m) e ∙ ap (λ (s : List ℕ). old_rows ++ s) (range_moved 0 n m)
 
-  -- the keys of the rows that pass are those of the old ones and then those of the new ones
   pub keys_of_both : (test before later : ℕ → Bool) (key : ℕ → ℕ) → ((row : ℕ) → row < n → test row ≡ before row) → ((row : ℕ) → row < m → test (n + row) ≡ later row)
       → map key (filter test (range_with_len 0 (n + m))) ≡ map key (filter before old_rows) ++ map (λ row. key (n + row)) (filter later new_rows)
   keys_of_both test before later key told after =
@@ -139,7 +139,6 @@ get_or-sums (list ∷ lists) [] i same = absurd (omega (arith, same))
 get_or-sums (list ∷ lists) (other ∷ others) zero same = refl
 get_or-sums (list ∷ lists) (other ∷ others) (suc i) same = get_or-sums lists others i (omega (arith, same))
 
--- the list of a node by its place
 node_at : (leaf_of : ℕ → ℕ) (k : ℕ) (rows : List (ℕ × ℕ)) (size leaf : ℕ) → IsNodeSize size → leaf < 32
     → get_or (lists_of_nodes leaf_of k rows) (node_place size leaf) [] ≡ list_where k (λ n. in_node size leaf (leaf_of n)) rows
 node_at leaf_of k rows size leaf is low =
@@ -197,7 +196,6 @@ module _ (tables after : Tables) (entry : ℕ) (new : List Row) (are : after ent
         ap (λ (v : Value). is_equal v (value_in_row after entry joined (n + other))) (new_value joined row) ∙ ap (is_equal (value_in_row (alone new) 0 joined row)) (new_value joined other) in
         ((λ e. sym same ∙ both.0 e), (λ e. both.1 (same ∙ e)))
 
-    -- a list for the old rows that pass a test of their value, and one for the new rows
     both_dominated : (column : ℕ) (test : Value → Bool) (s t : List ℕ)
         → DominatesKeys s (map key (filter (λ row. test (value_in_row tables entry column row)) (range_with_len 0 n)))
         → DominatesKeys t (map new_key (filter (λ row. test (value_in_row (alone new) 0 column row)) (range_with_len 0 m)))

@@ -1,4 +1,4 @@
--- A section and a file that stood for rows stand for these and the new rows after them.
+-- A section and a file that stood for rows stand, after the append, for these rows with the new rows after them.
 use Rattle.std.proofs.Common.{◌≡◌, ℕ, zero, suc, ◌+◌, ◌<◌, ◌≤◌, ◌==◌, Bool, true, false, cond, eqb, List, [], ◌∷◌, ◌++◌, length, map, get_or, None, Option, Some, find, option_map, slice_get, inl, inr, refl, ap, sym, ◌∙◌, subst, arith}
 use Rattle.std.specs.List.{All}
 use Rattle.std.proofs.lemmas.Bool.{cases_Bool, eq-eqb, eqb-true, ne_eqb}
@@ -27,7 +27,7 @@ use Rattle.appended_stats.specs.Grown.{grown_pair}
 use Rattle.appended_stats.proofs.PairKept.{nodes_all}
 use Rattle.appended_stats.proofs.Stands.{count_is, grown_stands, tells_before}
 
--- what stands for rows stands for them, whichever entry has them
+-- it doesn't matter to which entry the rows of a pair belong. `alone` makes tables in which every entry has these rows
 pair_moved : (pair : Pair) (tables : Tables) (entry : ℕ) (key : ℕ → ℕ) → PairStandsFor pair (alone (tables entry)) 0 key → PairStandsFor pair tables entry key
 pair_moved pair tables entry key stands = record { rows = stands.rows; whole = stands.whole; value = stands.value; node = stands.node }
 
@@ -87,7 +87,7 @@ module _ (file : StatsFile) (table : ℕ) (new : List Row) where
   its_table : (section : TableStats) → (one section).table ≡ section.table
   its_table section = elim (cases_Bool (section.table == table)) [ inl e ↦ rw e refl | inr e ↦ rw e refl ]
 
-  -- the section of a table is what the old section of it has become
+  -- `one` is the function that the append applies to each section
   found_before : (sections : List TableStats) (t : ℕ) (section : TableStats) → find (λ (s : TableStats). s.table == t) (map one sections) ≡ Some section
       → (old : TableStats) × (find (λ (s : TableStats). s.table == t) sections ≡ Some old) × (section ≡ one old)
   found_before [] t section none = absurd (cc none)

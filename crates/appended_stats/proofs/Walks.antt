@@ -1,4 +1,4 @@
--- Walks along rows and along lists that are changed in place.
+-- The lemmas are about two kinds of loops: loops along the rows of two columns, and loops that change the items of a list in place.
 use Rattle.std.proofs.Common.{◌≡◌, ℕ, zero, suc, ◌+◌, ◌<◌, ◌≤◌, Bool, true, false, cond, List, [], ◌∷◌, ◌++◌, drop, length, length-take, map, get_or, set, take, Some, slice_get, refl, ap, sym, ◌∙◌, subst, arith, inl, inr}
 use Rattle.std.specs.List.{All, filter, zip}
 use Rattle.std.proofs.lemmas.Bool.{cases_Bool}
@@ -33,7 +33,6 @@ keys_where-append p rows others =
     ap joined_keys (filter-append (λ (row : ℕ × ℕ). p row.0) rows others)
     ∙ map-append (λ (row : ℕ × ℕ). row.1) (filter (λ (row : ℕ × ℕ). p row.0) rows) (filter (λ (row : ℕ × ℕ). p row.0) others)
 
--- a row that passes adds its key, and another one adds none
 pub one_key_more : (p : ℕ → Bool) (column joined before new : List ℕ) (i key : ℕ) → i < length column → length joined ≡ length column
     → before ≡ keys_where p (zip (take i column) (take i joined)) → p (get_or column i 0) ≡ true → key ≡ get_or joined i 0 → new ≡ before ++ key ∷ []
     → new ≡ keys_where p (zip (take (i + 1) column) (take (i + 1) joined))
@@ -61,7 +60,6 @@ all_keys p column joined keys i past same are =
     are ∙ ap (λ (s : List ℕ). keys_where p (zip s (take i joined))) (take_all i column past)
     ∙ ap (λ (s : List ℕ). keys_where p (zip column s)) (take_all i joined (omega (arith, past, same)))
 
--- no more keys than rows
 pub keys_few : (p : ℕ → Bool) (column joined keys : List ℕ) (n : ℕ) → length column < n → keys ≡ keys_where p (zip column joined) → length keys < n
 keys_few p column joined keys n few are =
     omega (
@@ -74,7 +72,7 @@ keys_few p column joined keys n few are =
       few,
     )
 
--- ---- lists side by side
+-- ---- two lists of lists, added place by place
 
 pub one_sum_more : (lists others before new : List (List ℕ)) (i : ℕ) (list other added : List ℕ) → i < length lists → length others ≡ length lists
     → before ≡ rank_sums (take i lists) (take i others) → list ≡ get_or lists i list → other ≡ get_or others i other → added ≡ rank_sum list other → new ≡ before ++ added ∷ []
@@ -91,20 +89,18 @@ one_sum_more lists others before new i list other added low same are its also is
 
 -- ---- lists that are changed in place
 
--- the item at a place is that of the list as it came
 pub at_place : {X : Type 0} (f : X → X) (xs : List X) (i : ℕ) (x d : X) → i < length xs → slice_get (map f (take i xs) ++ drop i xs) i ≡ Some x → x ≡ get_or xs i d
 at_place f [] i x d low at = absurd (omega (arith, low))
 at_place f (y ∷ xs) zero x d low at = sym (get_or_from_slice_get (y ∷ xs) 0 x d at)
 at_place f (y ∷ xs) (suc i) x d low at = at_place f xs i x d (omega (arith, low)) at
 
--- it is taken out, something stands in for it, and what is made of it goes back
+-- the item is taken out of the list, so `none` lies in its place for a while. Then what `f` makes of the item is put back
 pub one_changed : {X : Type 0} (f : X → X) (xs ys between new : List X) (i : ℕ) (x none made : X) → i < length xs → ys ≡ map f (take i xs) ++ drop i xs
     → slice_get ys i ≡ Some x → between ≡ set ys i none → made ≡ f x → new ≡ set between i made → new ≡ map f (take (i + 1) xs) ++ drop (i + 1) xs
 one_changed f xs ys between new i x none made low are at taken is back =
     back ∙ ap (λ s. set s i made) taken ∙ set-set ys i none made ∙ ap (set ys i) is
     ∙ map_over_more f xs ys i x low are (sym (get_or_from_slice_get ys i x x at))
 
--- nothing is done with it
 pub one_kept : {X : Type 0} (f : X → X) (xs ys new : List X) (i : ℕ) (x : X) → i < length xs → ys ≡ map f (take i xs) ++ drop i xs → slice_get ys i ≡ Some x → f x ≡ x → new ≡ ys
     → new ≡ map f (take (i + 1) xs) ++ drop (i + 1) xs
 one_kept f xs ys new i x low are at stays is =
@@ -136,11 +132,9 @@ length-changed f xs ys i are = ap (λ s. length s) are ∙ many f xs i
 some_same : {X : Type 0} (a b : X) → Some a ≡ Some b → a ≡ b
 some_same a b same = cc same
 
--- what is read at a place more than once is one thing
 pub read_twice : {X : Type 0} (xs : List X) (i : ℕ) (a b : X) → slice_get xs i ≡ Some a → slice_get xs i ≡ Some b → a ≡ b
 read_twice xs i a b one two = some_same a b (sym one ∙ two)
 
--- what holds of each item of the list as it came holds of one that hasn't been changed yet
 pub read_all : {X : Type 0} (P : X → Type 0) (f : X → X) (xs ys : List X) (i : ℕ) (x : X) → All P xs → i < length xs → ys ≡ map f (take i xs) ++ drop i xs → slice_get ys i ≡ Some x → P x
 read_all P f xs ys i x all low are at =
     let there : slice_get (map f (take i xs) ++ drop i xs) i ≡ Some x = ap (λ s. slice_get s i) (sym are) ∙ at in

@@ -10,7 +10,7 @@ use Rattle.table_stats.specs.Columns.{column_values, paired, value_of_row}
 use Rattle.stats_file_of_query.specs.Pairs.{pair_in_table}
 use Rattle.appended_stats.specs.Grown.{grown_pair}
 
--- the new rows as the table of every entry
+-- the tables in which each entry has these rows
 abbrev pub alone : List Row → Tables
 alone rows entry = rows
 
@@ -18,13 +18,13 @@ alone rows entry = rows
 abbrev pub values_in : List Row → ℕ → List Value
 values_in rows column = column_values (alone rows) 0 column
 
--- a pair after the append, if its table had `before` rows. If that is 0, it is made from the new rows alone
+-- a pair after the append, if its table had `before` rows. If `before` is 0, the pair is made from the new rows alone
 abbrev pub pair_after : ℕ → ℕ → List Row → Pair → Pair
 pair_after accuracy before rows pair =
     if before == 0 then pair_in_table (alone rows) accuracy 0 pair.filter pair.joined
     else grown_pair (value_of_row (values_in rows pair.filter)) accuracy (paired (values_in rows pair.filter) (values_in rows pair.joined)) pair
 
--- a section of the table that gets the rows, after the append
+-- the file's section for the table that gets the rows, as it is after the append
 abbrev pub section_after : ℕ → List Row → TableStats → TableStats
 section_after accuracy rows section = record {
   table = section.table;

@@ -17,12 +17,12 @@ use Rattle.stats_file.specs.Rules.{KeepsRules}
 use Rattle.stats_file_of_query.specs.Needs.{table_of}
 use Rattle.stats_file_of_query.specs.Files.{table_at}
 
--- if the section is one of this table, it has with the new rows at most as many rows as a table may have
+-- if the section is one of this table, its rows and the `more` new rows are together at most as many as a table may have
 abbrev pub HasRoom : ℕ → ℕ → TableStats → Type 0
 HasRoom table more section = section.table ≡ table → section.rows + more ≤ most_rows
 
--- when the new rows may be appended: the file keeps the rules, and the cells are cells of this table. The texts are UTF-8, no two of them have
--- the same characters, and no section gets too many rows
+-- when the new rows may be appended: the file keeps the rules, and the cells are cells of this table. The texts are UTF-8, no two texts have the same
+-- characters, and no section gets too many rows
 pub record MayAppend (schema : Schema) (file : StatsFile) (table : ℕ) (texts : List (List ℕ)) (cells : Cells) : Type 0 where
   pub rules : KeepsRules schema file
   pub cells_are : AreCellsOf (table_at schema table) texts cells
@@ -30,8 +30,8 @@ pub record MayAppend (schema : Schema) (file : StatsFile) (table : ℕ) (texts :
   pub differ : HaveDifferentCharacters texts
   pub room : All (HasRoom table cells.rows) file.tables
 
--- when a pair may grow: the cells have its two columns and fewer than 2^32 rows. It has at most 32 cuts, and the sum of each of its lists is
--- below 2^32. If its table had rows, it has 63 nodes
+-- when a pair may grow: the cells have its two columns and fewer than 2^32 rows. The pair has at most 32 cuts, and the sum of each of its lists is
+-- below 2^32. If its table had rows, the pair has 63 nodes
 pub record MayGrow (cells : Cells) (before : ℕ) (pair : Pair) : Type 0 where
   pub filter : pair.filter < length cells.kinds
   pub joined : pair.joined < length cells.kinds
@@ -51,7 +51,7 @@ pub record SectionMayGrow (cells : Cells) (section : TableStats) : Type 0 where
 abbrev pub MayGrowWhere : ℕ → Cells → TableStats → Type 0
 MayGrowWhere table cells section = section.table ≡ table → SectionMayGrow cells section
 
--- what a query's tables are after one table got new rows. Each entry of that table has them after its old rows, and every other entry has
+-- `after` has a query's tables after `table` got new rows: each entry of this table has the new rows after its old rows, and every other entry has
 -- the rows that it had
 abbrev pub HasNewRows : Query → ℕ → List Row → Tables → Tables → Type 0
 HasNewRows query table rows tables after =

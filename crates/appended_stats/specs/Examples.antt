@@ -17,10 +17,10 @@ of_itself column = pair_in_table (rows_of column) 1 0 0 0
 abbrev pub of_six : Pair
 of_six = of_itself (1 ∷ 1 ∷ 1 ∷ 2 ∷ 2 ∷ 3 ∷ [])
 
--- 1, 1, 1, 2, 2, 3, and then 1 and 4
+-- the pair of the column 1, 1, 1, 2, 2, 3 after 1 and 4 were appended
 abbrev pub of_eight : Pair
 of_eight = pair_after 1 6 (new_rows (1 ∷ 4 ∷ [])) of_six
 
--- 1, 2, 3, and then 99
+-- the pair of the column 1, 2, 3 after 99 was appended
 abbrev pub of_four : Pair
 of_four = pair_after 1 3 (new_rows (99 ∷ [])) (of_itself (1 ∷ 2 ∷ 3 ∷ []))

@@ -43,7 +43,7 @@ lists_of_size leaf_of accuracy rows size =
 abbrev pub lists_of_nodes : (ℕ → ℕ) → ℕ → List (ℕ × ℕ) → List (List ℕ)
 lists_of_nodes leaf_of accuracy rows = flat_map (lists_of_size leaf_of accuracy rows) node_sizes
 
--- ---- each list and that of the new rows, added rank by rank
+-- ---- old lists and the new rows' lists, added rank by rank
 
 abbrev pub with_new_rows : (ℕ → Value) → ℕ → List (ℕ × ℕ) → Datum × List ℕ → Datum × List ℕ
 with_new_rows value_of accuracy rows found = (found.0, rank_sum found.1 (list_with value_of accuracy rows found.0))
@@ -51,7 +51,8 @@ with_new_rows value_of accuracy rows found = (found.0, rank_sum found.1 (list_wi
 abbrev pub rank_sums : List (List ℕ) → List (List ℕ) → List (List ℕ)
 rank_sums lists others = map (λ (both : List ℕ × List ℕ). rank_sum both.0 both.1) (zip lists others)
 
--- the cuts and the frequent values stay. Values that aren't frequent count in the rest list, and the old cuts say in which leaf a value lies
+-- a pair after new rows: the cuts and the frequent values stay. New values that aren't frequent count in the rest list, and the old cuts say in which
+-- leaf a value lies
 abbrev pub grown_pair : (ℕ → Value) → ℕ → List (ℕ × ℕ) → Pair → Pair
 grown_pair value_of accuracy rows pair = record {
   filter = pair.filter;

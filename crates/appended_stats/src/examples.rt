@@ -6,8 +6,9 @@ ghost use Rattle.stats_file_of_query.specs.Standing.{list_of_node, list_of_value
 ghost use Rattle.appended_stats.specs.Appended.{pair_after};
 ghost use Rattle.appended_stats.specs.Examples.{new_rows, of_eight, of_four, of_itself, of_six};
 
-/// Appends 1 and 4 to the column 1, 1, 1, 2, 2, 3, paired with itself: 4 counts in the rest list and in the last leaf, where 3 lies. Appends
-/// 99 to the column 1, 2, 3. Rows appended to an empty column give the pair of these rows, and an append without rows changes nothing.
+/// The first example appends 1 and 4 to the column 1, 1, 1, 2, 2, 3, which is both the filter column and the joined column: 4 counts in the rest list
+/// and in the last leaf, where 3 lies. The second example appends 99 to the column 1, 2, 3. Rows that are appended to an empty column give the pair
+/// of these rows, and an append without rows changes nothing.
 pub fn small_appends()
     ensures whole { of_eight.whole ≡ 4 ∷ 4 ∷ [] }
     ensures frequent { of_eight.frequent ≡ (datum.Int (pos 1), 4 ∷ []) ∷ (datum.Int (pos 2), 2 ∷ []) ∷ (datum.Int (pos 3), 1 ∷ []) ∷ [] }

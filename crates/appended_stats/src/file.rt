@@ -16,7 +16,7 @@ use schema_types::Schema;
 use stats_file::{Pair, StatsFile, TableStats};
 use std::alloc::Global;
 
-// A pair that holds the place of another while that one is changed. It takes no memory.
+// A placeholder for a pair while the pair is changed. It takes no memory.
 fn no_pair(alloc: Global) -> Pair {
     Pair {
         filter: 0,
@@ -101,8 +101,8 @@ fn sections_after(
     Ok(after)
 }
 
-/// The file of statistics after rows were appended to a table of its schema. In that table's section the number of rows grows. Each list
-/// becomes its rank-wise sum with the compressed list of the new rows that it stands for. Cuts and frequent values stay. A table that had no
+/// The file of statistics after rows were appended to a table of its schema. In that table's section the number of rows grows. Each of the section's
+/// lists is added, rank by rank, to the compressed list of the new rows that belong to this list. Cuts and frequent values stay. A table that had no
 /// rows gets the statistics of the new rows. All other sections stay. If memory is wanting, the old file is dropped too.
 pub fn append_rows(
     alloc: Global,

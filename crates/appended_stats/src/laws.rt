@@ -1,4 +1,4 @@
-//! What a file after an append stands for: no law computes anything, and the contract is the law.
+//! For which rows a file of statistics stands after an append. These functions compute nothing: the contract of each one is a law.
 ghost use Rattle.std.specs.Prelude.{◌≡◌, ◌≢◌, ◌++◌, ◌<◌, ◌≤◌, ℕ, List, [], Some};
 ghost use Rattle.csv_tables.specs.Rows.{Row};
 ghost use Rattle.query_types.specs.declared.types.Query.{Query};
@@ -22,14 +22,15 @@ pub fn sections_still_stand()
         → SectionStandsFor (section_after accuracy rows section) after entry }
 {}
 
-/// If a file stands for the tables of a query, the file after the append stands for them with the new rows after those of the one table.
+/// If a file stands for the tables of a query, the file after the append stands for the tables of which one has the new rows after its old rows.
 pub fn files_still_stand()
     ensures { (schema : Schema) (query : Query) (file : StatsFile) (tables after : Tables) (table : ℕ) (rows : List Row)
         → KeepsRules schema file → StandsFor query file tables → HasNewRows query table rows tables after
         → StandsFor query (file_after file table rows) after }
 {}
 
-/// The rest list of a column is `list_of_any` for its values that aren't frequent. New rows add to it a list that is made in the same way.
+/// The rest list of a column is `list_of_any` for the column's values that aren't frequent. An append adds a list to the rest list, and this list is
+/// `list_of_any` too: for the values of the new rows that aren't frequent.
 pub fn the_rest_list_is_one_of_them()
     ensures { (accuracy : ℕ) (rows : List (ℕ × ℕ)) → rest accuracy rows ≡ list_of_any accuracy rows (remaining (filter_values rows)) }
 {}

@@ -1,8 +1,9 @@
-//! A file of statistics that follows its table: what it is after rows were appended, without a look at the rows that were there before.
+//! Makes a file of statistics follow its table: from the file and the appended rows it makes the new file, without a look at the rows that were there
+//! before.
 //!
-//! In: a `StatsFile`, and the cells of the new rows of one of its tables. Out: the file after these rows. Each list of that table is added, rank
-//! by rank, to the compressed list of those new rows that belong to it. Cuts and frequent values stay as they are. The time depends on the
-//! number of new rows and on the length of the file, and not on the table.
+//! In: a `StatsFile`, and the cells of the new rows of one of its tables. Out: the file after these rows. Each list of that table is added, rank by
+//! rank, to the compressed list of the new rows that belong to this list. Cuts and frequent values stay as they are. The time depends on the number
+//! of new rows and on the length of the file, and not on the table.
 //!
 //! Callers cite `file_after` (in `specs/Appended.antt`) for the file and `MayAppend` (in `specs/Conditions.antt`) for when it may be made. The
 //! laws say for which rows the new file stands.

@@ -17,7 +17,7 @@ use schema_types::Kind;
 use stats_file::Datum;
 use std::alloc::Global;
 
-/// Adds two lists rank by rank. Each has fewer than 2^64 rows.
+/// Adds two lists rank by rank. Each list sums to less than 2^64.
 pub(crate) fn added(list: &Pieces, other: &Pieces) -> Result<Pieces, NoMemory>
     requires list { sum list.now < 2 ^ 64 }
     requires other { sum other.now < 2 ^ 64 }
@@ -49,7 +49,7 @@ fn keys_with(
     Ok(keys)
 }
 
-// The list that the joined keys of these rows make, compressed at this accuracy.
+// The degree list of the joined keys of the rows whose cell has this value, compressed at this accuracy.
 fn list_with(
     alloc: Global,
     pool: &Pool,
@@ -70,7 +70,7 @@ fn list_with(
     whole_list(alloc, keys.as_slice(), accuracy)
 }
 
-/// The frequent values. To the list of each, the list of the new rows that have this value is added.
+/// Adds to each frequent value's list the list of the new rows that have this value.
 pub(crate) fn grown_frequent(
     alloc: Global,
     frequent: Seq<(Datum, Pieces)>,

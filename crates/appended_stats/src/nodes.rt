@@ -39,7 +39,7 @@ pub(crate) fn leaves(
     Ok(leaves)
 }
 
-// The joined keys of the rows whose leaf lies in one node: that of `size` leaves that holds `leaf`.
+// The joined keys of the rows whose leaf lies in the node of `size` leaves that contains `leaf`.
 fn keys_in_node(
     alloc: Global,
     leaves: &[u8],
@@ -61,7 +61,7 @@ fn keys_in_node(
     Ok(keys)
 }
 
-// Appends the lists of the nodes of one size.
+// Appends to `nodes` the list of each node of `size` leaves.
 fn add_size(
     alloc: Global,
     leaves: &[u8],
@@ -100,7 +100,7 @@ pub(crate) fn lists_of_nodes(
     Ok(nodes)
 }
 
-/// Adds to each list, rank by rank, the list at the same place of the others.
+/// Adds, rank by rank, each of `lists` and the list at the same place in `others`.
 pub(crate) fn all_added(
     alloc: Global,
     lists: &[Pieces],

@@ -65,7 +65,7 @@ fn grown_pair(
     })
 }
 
-/// The pair after the append, if its table had `before` rows. If that is 0, it is made from the new rows alone.
+/// The pair after the append, if its table had `before` rows. If `before` is 0, the pair is made from the new rows alone.
 pub(crate) fn pair_after(
     alloc: Global,
     pair: Pair,

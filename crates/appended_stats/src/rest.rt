@@ -1,4 +1,4 @@
-//! The list of the new rows for any value that isn't frequent.
+//! Makes the list that new rows add to the rest list, which is the list for the values that aren't frequent.
 ghost use Rattle.std.specs.Prelude.{◌≡◌, ◌++◌, ◌∷◌, [], ◌<◌, ◌^◌, All, IfOk, OnOk, not, length, map, nat_eq, slice_index_or, slice_set};
 ghost use Rattle.std.specs.List.{IsDistinct, filter, sum, zip};
 ghost use Rattle.csv_tables.specs.Cells.{IsCell, value_of_cell};
@@ -90,7 +90,7 @@ fn grouped(
     Ok(groups)
 }
 
-// The rank-wise maximum of the degree lists of groups, with no more rows than the largest of them, compressed.
+// The rank-wise maximum of the degree lists of the groups, cut at the number of keys in the largest group, and compressed.
 fn list_of_groups(
     alloc: Global,
     groups: &[Seq<u64>],
@@ -111,7 +111,7 @@ fn list_of_groups(
     compress_runs(alloc, &maxima.cap(most)?, accuracy)
 }
 
-/// The list of the rows of any value that isn't among the frequent ones.
+/// One list that serves for each value of the rows that isn't among the frequent ones.
 pub(crate) fn list_of_others(
     alloc: Global,
     pool: &Pool,

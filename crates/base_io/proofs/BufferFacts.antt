@@ -1,4 +1,5 @@
--- Texts on their way through a buffer.
+-- Several texts go through a buffer to a sink, one after another. After that the sink has taken all of the texts except the last bytes, which wait in the
+-- buffer.
 use Rattle.std.proofs.Common.{◌≡◌, ℕ, ◌+◌, ◌<◌, List, [], ◌∷◌, ◌++◌, take, length, get_or, Option, ap, sym, ◌∙◌, append_assoc, append-nil}
 use Rattle.std.specs.List.{flat_map}
 use Rattle.std.proofs.lemmas.Grind.{flat_map-append}
@@ -6,7 +7,6 @@ use Rattle.std.proofs.lemmas.List.{take_more}
 use Rattle.base_io.specs.Sinks.{appended, GrewByPrefix, TookBut}
 use Rattle.base_io.proofs.SinkFacts.{appended-appended}
 
--- a text, and then what follows it
 pub took_next : (old mid new : Option (List ℕ)) (first second text more : List ℕ)
     → TookBut old mid first text → TookBut mid new second (first ++ more) → TookBut old new second (text ++ more)
 took_next old mid new first second text more h k = record {
@@ -16,7 +16,6 @@ took_next old mid new first second text more h k = record {
   grew = k.grew ∙ ap (λ t. appended t k.front) h.grew ∙ appended-appended old h.front k.front;
 }
 
--- a text, and then a prefix of what follows it
 pub cut_next : (old mid new : Option (List ℕ)) (first text more : List ℕ)
     → TookBut old mid first text → GrewByPrefix mid new (first ++ more) → GrewByPrefix old new (text ++ more)
 cut_next old mid new first text more h k = record {
@@ -27,14 +26,12 @@ cut_next old mid new first text more h k = record {
   grew = k.grew ∙ ap (λ t. appended t k.front) h.grew ∙ appended-appended old h.front k.front;
 }
 
--- one part more
 pub parts_more : {X : Type 0} (f : X → List ℕ) (parts : List X) (i : ℕ) (d : X) → i < length parts
     → flat_map f (take i parts) ++ f (get_or parts i d) ≡ flat_map f (take (i + 1) parts)
 parts_more f parts i d lt =
     ap (λ x. flat_map f (take i parts) ++ x) (sym (append-nil (f (get_or parts i d))))
     ∙ sym (flat_map-append f (take i parts) (get_or parts i d ∷ [])) ∙ ap (flat_map f) (sym (take_more parts i d lt))
 
--- the bytes that wait go on, whole or cut
 pub went_on : (old mid new : Option (List ℕ)) (waiting text : List ℕ) → TookBut old mid waiting text → new ≡ appended mid waiting → new ≡ appended old text
 went_on old mid new waiting text h whole =
     whole ∙ ap (λ t. appended t waiting) h.grew ∙ appended-appended old h.front waiting ∙ ap (appended old) h.whole

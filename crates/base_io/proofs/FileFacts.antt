@@ -1,11 +1,10 @@
--- What reads in turn give of a file.
+-- Several reads, one after another, give the first bytes of a file.
 use Rattle.std.proofs.Common.{◌≡◌, ℕ, ◌+◌, ◌≤◌, List, ◌++◌, take, drop, length, ap, sym, Option, Ok, ◌∙◌, arith, append_assoc}
 use Rattle.std.proofs.lemmas.Grind.{common_steps}
 use Rattle.std.proofs.lemmas.List.{take-take, take-append-le}
 use Rattle.std.proofs.Math.Seq.{take-add, take-append-add}
 use Rattle.base_io.specs.Files.{Files, told, ReadsAt, FileAnswer, Nothing, Absent, Present, MayHaveRead, IsFront}
 
--- the first n bytes of a block that was read in behind the items, in a buffer cut to those
 pub block_kept : (items grown into after rest : List ℕ) (at n len : ℕ) → at ≡ length items → take at grown ≡ items → n ≤ length into → at + n ≤ len
     → take (at + n) (take len ((take at grown ++ (into ++ after)) ++ rest)) ≡ items ++ take n into
 block_kept items grown into after rest at n len e front fits within =
@@ -22,13 +21,12 @@ front_of all items into n le first more =
     ap (λ x. x ++ take n into) first ∙ ap (λ x. take (length items) all ++ x) more
     ∙ sym (take-add (length items) n all) ∙ ap (λ k. take k all) (sym long)
 
--- the front of a file, and what a read there gave, are a longer front
 pub front_more : (file : FileAnswer) (items into : List ℕ) (n : ℕ) → n ≤ length into → IsFront file items → MayHaveRead file (length items) n into → IsFront file (items ++ take n into)
 front_more Nothing items into n le front gives = tt
 front_more Absent items into n le front gives = absurd gives
 front_more (Present all) items into n le front gives = front_of all items into n le front gives.same
 
--- the same, where the files are those of an earlier moment
+-- `now` and `before` are the files of one store at two moments, and they are equal
 pub front_more_since : (before now : Option Files) (name items into : List ℕ) (place n : ℕ) → now ≡ before → place ≡ length items
     → ReadsAt (told now name) place (Ok n) into → IsFront (told before name) items → IsFront (told before name) (items ++ take n into)
 front_more_since before now name items into place n same at reads front =

@@ -1,4 +1,4 @@
--- What writes in turn append.
+-- Several writes, one after another, append to a sink. The lemmas say what they append together: a whole text, or a prefix of it if a write failed.
 use Rattle.std.proofs.Common.{◌≡◌, ℕ, ◌+◌, List, [], ◌++◌, take, drop, length, get_or, subst, ◌∷◌, ◌-◌, ◌<◌, Option, None, Some, refl, ap, sym, ◌∙◌, append_assoc, append-nil, arith}
 use Rattle.std.specs.List.{flat_map}
 use Rattle.std.proofs.lemmas.List.{take-append-drop, take_more}
@@ -6,7 +6,6 @@ use Rattle.std.proofs.Math.Seq.{take-add}
 use Rattle.std.proofs.lemmas.Grind.{common_steps, flat_map-append}
 use Rattle.base_io.specs.Sinks.{appended, GrewByPrefix}
 
--- one text after another is both as one text
 pub appended-appended : (old : Option (List ℕ)) (a b : List ℕ) → appended (appended old a) b ≡ appended old (a ++ b)
 appended-appended None a b = refl
 appended-appended (Some before) a b = ap Some (append_assoc before a b)
@@ -15,22 +14,19 @@ pub appended-nil : (old : Option (List ℕ)) → appended old [] ≡ old
 appended-nil None = refl
 appended-nil (Some before) = ap Some (append-nil before)
 
--- `&bytes[a..]` is the bytes after the first a
+-- the left side is how `&bytes[a..]` is defined
 to_the_end : (a : ℕ) (bytes : List ℕ) → take (length bytes - a) (drop a bytes) ≡ drop a bytes
 to_the_end a bytes = grind (arith, common_steps)
 
--- the first a bytes and then n of the rest are the first a + n
 pub took_more : (t0 t1 t2 : Option (List ℕ)) (bytes : List ℕ) (a n : ℕ)
     → t1 ≡ appended t0 (take a bytes) → t2 ≡ appended t1 (take n (take (length bytes - a) (drop a bytes))) → t2 ≡ appended t0 (take (a + n) bytes)
 took_more t0 t1 t2 bytes a n first next =
     next ∙ ap (λ rest. appended t1 (take n rest)) (to_the_end a bytes) ∙ ap (λ t. appended t (take n (drop a bytes))) first
     ∙ appended-appended t0 (take a bytes) (take n (drop a bytes)) ∙ ap (appended t0) (sym (take-add a n bytes))
 
--- the first bytes of a text are a prefix of it
 pub grew_by_take : (old new : Option (List ℕ)) (bytes : List ℕ) (a : ℕ) → new ≡ appended old (take a bytes) → GrewByPrefix old new bytes
 grew_by_take old new bytes a grew = record { front = take a bytes; rest = drop a bytes; whole = take-append-drop a bytes; grew = grew }
 
--- a prefix of the first of two texts is a prefix of both
 pub prefix_of_first : (old new : Option (List ℕ)) (a b : List ℕ) → GrewByPrefix old new a → GrewByPrefix old new (a ++ b)
 prefix_of_first old new a b h = record {
   front = h.front;
@@ -39,7 +35,6 @@ prefix_of_first old new a b h = record {
   grew = h.grew;
 }
 
--- the first of two texts and a prefix of the second are a prefix of both
 pub prefix_after_first : (old mid new : Option (List ℕ)) (a b : List ℕ) → mid ≡ appended old a → GrewByPrefix mid new b → GrewByPrefix old new (a ++ b)
 prefix_after_first old mid new a b first h = record {
   front = a ++ h.front;
@@ -48,19 +43,15 @@ prefix_after_first old mid new a b first h = record {
   grew = h.grew ∙ ap (λ t. appended t h.front) first ∙ appended-appended old a h.front;
 }
 
--- two whole texts in turn
 pub whole_after_first : (old mid new : Option (List ℕ)) (a b : List ℕ) → mid ≡ appended old a → new ≡ appended mid b → new ≡ appended old (a ++ b)
 whole_after_first old mid new a b first second = second ∙ ap (λ t. appended t b) first ∙ appended-appended old a b
 
--- a whole text is a prefix of itself
 pub prefix_of_all : (old new : Option (List ℕ)) (a : List ℕ) → new ≡ appended old a → GrewByPrefix old new a
 prefix_of_all old new a grew = record { front = a; rest = []; whole = append-nil a; grew = grew }
 
--- taking nothing is a prefix of each text
 pub prefix_of_none : (old : Option (List ℕ)) (a : List ℕ) → GrewByPrefix old old a
 prefix_of_none old a = record { front = []; rest = a; whole = refl; grew = sym (appended-nil old) }
 
--- the parts before place i, the one there and those behind it are all parts
 pub parts_split : {X : Type 0} (f : X → List ℕ) (parts : List X) (i : ℕ) (d : X) → i < length parts
     → (flat_map f (take i parts) ++ f (get_or parts i d)) ++ flat_map f (drop (i + 1) parts) ≡ flat_map f parts
 parts_split f parts i d lt =
@@ -71,7 +62,6 @@ parts_split f parts i d lt =
     ∙ ap (λ x. x ++ flat_map f (drop (i + 1) parts)) (flat_map-append f (take i parts) (get_or parts i d ∷ [])
     ∙ ap (λ x. flat_map f (take i parts) ++ x) (append-nil (f (get_or parts i d)))))
 
--- a prefix of the part at place i, after the parts before it, is a prefix of all parts
 pub prefix_at_part : {X : Type 0} (f : X → List ℕ) (old mid new : Option (List ℕ)) (parts : List X) (i : ℕ) (d : X) → i < length parts
     → mid ≡ appended old (flat_map f (take i parts)) → GrewByPrefix mid new (f (get_or parts i d)) → GrewByPrefix old new (flat_map f parts)
 prefix_at_part f old mid new parts i d lt e h =

@@ -1,4 +1,4 @@
--- Steps that write, one after the other.
+-- If steps that write come one after another, the promises `Wrote` or `Put` of the steps give this promise for all of them together.
 use Rattle.std.proofs.Common.{◌≡◌, ℕ, ◌+◌, ◌<◌, ◌≤◌, List, [], ◌++◌, take, drop, length, get_or, Option, Result, Ok, Err, ap, sym, ◌∙◌, append_assoc, append-nil, subst, arith}
 use Rattle.std.specs.Prelude.{OnOk, OnErr}
 use Rattle.std.specs.List.{flat_map}
@@ -14,11 +14,9 @@ use Rattle.base_io.proofs.SinkFacts.{appended-nil, parts_split, prefix_after_fir
 abbrev Written : Type 0
 Written = Result (Unit {0}) Failed
 
--- a sink by what it took and by its counts
 abbrev pub between : Option (List ℕ) → Option (List ℕ) → ℕ → ℕ → Growth
 between t0 t1 f0 f1 = record { taken_before = t0; taken_after = t1; faults_before = f0; faults_after = f1 }
 
--- what follows from a success, and from a failure
 where_ok : (r : Written) (P Q : Type 0) → (P → Q) → OnOk r P → OnOk r Q
 where_ok (Ok u) P Q f h = f h
 where_ok (Err e) P Q f h = tt
@@ -32,15 +30,12 @@ rose_earlier f0 f1 f2 r le = where_err r (Rose f1 f2) (Rose f0 f2) (later_then_r
 
 -- ---- straight to the sink
 
--- a failure under another name
 pub wrote_failed : {g : Growth} {a : List ℕ} {x y : Failed} {r : Written} → r ≡ Err y → Wrote g a (Err x) → Wrote g a r
 wrote_failed {g} {a} {x} {y} {r} e h = subst (λ (v : Written). Wrote g a v) (sym e) (record { ok = tt; prefix = h.prefix; later = h.later; failed = h.failed })
 
--- the same text, written otherwise
 pub wrote_as : {g : Growth} {a : List ℕ} {r : Written} (b : List ℕ) → a ≡ b → Wrote g a r → Wrote g b r
 wrote_as {g} {a} {r} b e h = subst (λ (x : List ℕ). Wrote g x r) e h
 
--- a text, and then what follows it
 pub wrote_then : {t0 t1 t2 : Option (List ℕ)} {f0 f1 f2 : ℕ} {a b : List ℕ} {u : Unit {0}} {r : Written} → Wrote (between t0 t1 f0 f1) a (Ok u)
     → Wrote (between t1 t2 f1 f2) b r → Wrote (between t0 t2 f0 f2) (a ++ b) r
 wrote_then {t0} {t1} {t2} {f0} {f1} {f2} {a} {b} {u} {r} h k = record {
@@ -50,7 +45,6 @@ wrote_then {t0} {t1} {t2} {f0} {f1} {f2} {a} {b} {u} {r} h k = record {
   failed = rose_earlier f0 f1 f2 r h.later k.failed;
 }
 
--- the items before place i, and then a prefix of the one there
 pub wrote_part_cut : {X : Type 0} {t0 t1 t2 : Option (List ℕ)} {f0 f1 f2 : ℕ} {e : Failed} (f : X → List ℕ) (items : List X) (i : ℕ) (d : X) → i < length items
     → t1 ≡ appended t0 (flat_map f (take i items)) → f0 ≤ f1 → Wrote (between t1 t2 f1 f2) (f (get_or items i d)) (Err e) → Wrote (between t0 t2 f0 f2) (flat_map f items) (Err e)
 wrote_part_cut {X} {t0} {t1} {t2} {f0} {f1} {f2} {e} f items i d lt took le h = record {
@@ -62,7 +56,6 @@ wrote_part_cut {X} {t0} {t1} {t2} {f0} {f1} {f2} {e} f items i d lt took le h = 
 
 -- ---- through a buffer
 
--- nothing was put
 pub put_none : (t : Option (List ℕ)) (f : ℕ) (w : List ℕ) → Put (between t t f f) w w [] (Ok tt)
 put_none t f w = record {
   ok = record { front = []; whole = sym (append-nil w); grew = sym (appended-nil t) };
@@ -71,15 +64,12 @@ put_none t f w = record {
   failed = tt;
 }
 
--- the same text, written otherwise
 pub put_as : {g : Growth} {w w' a : List ℕ} {r : Written} (b : List ℕ) → a ≡ b → Put g w w' a r → Put g w w' b r
 put_as {g} {w} {w'} {a} {r} b e h = subst (λ (x : List ℕ). Put g w w' x r) e h
 
--- a failure under another name
 pub put_err : {g : Growth} {w w' a : List ℕ} {x y : Failed} {r : Written} → r ≡ Err y → Put g w w' a (Err x) → Put g w w' a r
 put_err {g} {w} {w'} {a} {x} {y} {r} e h = subst (λ (v : Written). Put g w w' a v) (sym e) (record { ok = tt; prefix = h.prefix; later = h.later; failed = h.failed })
 
--- a text, and then what follows it
 pub put_then : {t0 t1 t2 : Option (List ℕ)} {f0 f1 f2 : ℕ} {w0 w1 w2 a b : List ℕ} {u : Unit {0}} {r : Written} → Put (between t0 t1 f0 f1) w0 w1 a (Ok u)
     → Put (between t1 t2 f1 f2) w1 w2 b r → Put (between t0 t2 f0 f2) w0 w2 (a ++ b) r
 put_then {t0} {t1} {t2} {f0} {f1} {f2} {w0} {w1} {w2} {a} {b} {u} {r} h k = record {
@@ -90,7 +80,6 @@ put_then {t0} {t1} {t2} {f0} {f1} {f2} {w0} {w1} {w2} {a} {b} {u} {r} h k = reco
   failed = rose_earlier f0 f1 f2 r h.later k.failed;
 }
 
--- a text of which the first part was cut
 pub put_cut : {t0 t1 : Option (List ℕ)} {f0 f1 : ℕ} {w0 w1 a : List ℕ} {x : Failed} (b : List ℕ) → Put (between t0 t1 f0 f1) w0 w1 a (Err x)
     → Put (between t0 t1 f0 f1) w0 w1 (a ++ b) (Err x)
 put_cut {t0} {t1} {f0} {f1} {w0} {w1} {a} {x} b h = record {
@@ -100,32 +89,29 @@ put_cut {t0} {t1} {f0} {f1} {w0} {w1} {a} {x} b h = record {
   failed = h.failed;
 }
 
--- the texts that are done, and then one that was cut
 pub put_cut_next : {t0 t1 t2 : Option (List ℕ)} {f0 f1 f2 : ℕ} {w0 w1 w2 done next : List ℕ} {u : Unit {0}} {x : Failed} (left all : List ℕ) → done ++ (next ++ left) ≡ all
     → Put (between t0 t1 f0 f1) w0 w1 done (Ok u) → Put (between t1 t2 f1 f2) w1 w2 next (Err x) → Put (between t0 t2 f0 f2) w0 w2 all (Err x)
 put_cut_next {t0} {t1} {t2} {f0} {f1} {f2} {w0} {w1} {w2} {done} {next} {u} {x} left all whole h k =
     put_as all (append_assoc done next left ∙ whole) (put_cut {a = done ++ next} left (put_then h k))
 
--- ---- items, one after the other
+-- ---- items that are written one after another
 
 parts_whole : {X : Type 0} (f : X → List ℕ) (parts : List X) (i : ℕ) (d : X) → i < length parts
     → flat_map f (take i parts) ++ (f (get_or parts i d) ++ flat_map f (drop (i + 1) parts)) ≡ flat_map f parts
 parts_whole f parts i d lt =
     sym (append_assoc (flat_map f (take i parts)) (f (get_or parts i d)) (flat_map f (drop (i + 1) parts))) ∙ parts_split f parts i d lt
 
--- the items before place i, and then the one there; an element that is a number has no name
 pub put_part : {X : Type 0} {t0 t1 t2 : Option (List ℕ)} {f0 f1 f2 : ℕ} {w0 w1 w2 : List ℕ} {u v : Unit {0}} (f : X → List ℕ) (items : List X) (i : ℕ) (d : X)
     → i < length items → Put (between t0 t1 f0 f1) w0 w1 (flat_map f (take i items)) (Ok u) → Put (between t1 t2 f1 f2) w1 w2 (f (get_or items i d)) (Ok v)
     → Put (between t0 t2 f0 f2) w0 w2 (flat_map f (take (i + 1) items)) (Ok tt)
 put_part f items i d lt h k = put_as (flat_map f (take (i + 1) items)) (parts_more f items i d lt) (put_then h k)
 
--- the items before place i, and then a prefix of the one there
 pub put_part_cut : {X : Type 0} {t0 t1 t2 : Option (List ℕ)} {f0 f1 f2 : ℕ} {w0 w1 w2 : List ℕ} {u : Unit {0}} {e : Failed} (f : X → List ℕ) (items : List X) (i : ℕ) (d : X)
     → i < length items → Put (between t0 t1 f0 f1) w0 w1 (flat_map f (take i items)) (Ok u) → Put (between t1 t2 f1 f2) w1 w2 (f (get_or items i d)) (Err e)
     → Put (between t0 t2 f0 f2) w0 w2 (flat_map f items) (Err e)
 put_part_cut f items i d lt h k = put_cut_next (flat_map f (drop (i + 1) items)) (flat_map f items) (parts_whole f items i d lt) h k
 
--- the same, where the item has a name
+-- `put_item` and `put_item_cut` are `put_part` and `put_part_cut` for an item and a text that have names
 pub put_item : {X : Type 0} {t0 t1 t2 : Option (List ℕ)} {f0 f1 f2 : ℕ} {w0 w1 w2 text : List ℕ} {u v : Unit {0}} (f : X → List ℕ) (items : List X) (i : ℕ) (x : X)
     → i < length items → x ≡ get_or items i x → text ≡ f x → Put (between t0 t1 f0 f1) w0 w1 (flat_map f (take i items)) (Ok u) → Put (between t1 t2 f1 f2) w1 w2 text (Ok v)
     → Put (between t0 t2 f0 f2) w0 w2 (flat_map f (take (i + 1) items)) (Ok tt)
@@ -136,9 +122,8 @@ pub put_item_cut : {X : Type 0} {t0 t1 t2 : Option (List ℕ)} {f0 f1 f2 : ℕ} 
     → Put (between t0 t2 f0 f2) w0 w2 (flat_map f items) (Err e)
 put_item_cut f items i x lt at' is h k = put_part_cut f items i x lt h (put_as (f (get_or items i x)) (is ∙ ap f at') k)
 
--- ---- what waits goes on to the sink
+-- ---- the waiting bytes go on to the sink
 
--- what waits, and then a text that goes past the buffer
 pub put_past : {t0 t1 t2 : Option (List ℕ)} {f0 f1 f2 : ℕ} {w w' text : List ℕ} {u : Unit {0}} {r : Written} → w' ≡ [] → Wrote (between t0 t1 f0 f1) w (Ok u)
     → Wrote (between t1 t2 f1 f2) text r → Put (between t0 t2 f0 f2) w w' text r
 put_past {t0} {t1} {t2} {f0} {f1} {f2} {w} {w'} {text} {u} {r} empty h k =
@@ -151,12 +136,10 @@ put_past {t0} {t1} {t2} {f0} {f1} {f2} {w} {w'} {text} {u} {r} empty h k =
       failed = both.failed;
     }
 
--- what waits was cut
 pub put_stuck : {t0 t1 : Option (List ℕ)} {f0 f1 : ℕ} {w w' : List ℕ} {x : Failed} (text : List ℕ) → Wrote (between t0 t1 f0 f1) w (Err x)
     → Put (between t0 t1 f0 f1) w w' text (Err x)
 put_stuck {t0} {t1} {f0} {f1} {w} {w'} {x} text h = record { ok = tt; prefix = prefix_of_first t0 t1 w text h.prefix; later = h.later; failed = h.failed }
 
--- after a buffer that began empty
 pub flushed : {t0 t1 t2 : Option (List ℕ)} {f0 f1 f2 : ℕ} {w0 w1 a : List ℕ} {u : Unit {0}} {r : Written} → w0 ≡ [] → Put (between t0 t1 f0 f1) w0 w1 a (Ok u)
     → Wrote (between t1 t2 f1 f2) w1 r → Wrote (between t0 t2 f0 f2) a r
 flushed {t0} {t1} {t2} {f0} {f1} {f2} {w0} {w1} {a} {u} {r} empty h k =
@@ -168,7 +151,6 @@ flushed {t0} {t1} {t2} {f0} {f1} {f2} {w0} {w1} {a} {u} {r} empty h k =
       failed = rose_earlier f0 f1 f2 r h.later k.failed;
     }
 
--- a buffer that began empty was cut before its last bytes went on
 pub wrote_err : {t0 t1 : Option (List ℕ)} {f0 f1 : ℕ} {w0 w1 a : List ℕ} {x y : Failed} {r : Written} → w0 ≡ [] → r ≡ Err y → Put (between t0 t1 f0 f1) w0 w1 a (Err x)
     → Wrote (between t0 t1 f0 f1) a r
 wrote_err {t0} {t1} {f0} {f1} {w0} {w1} {a} {x} {y} {r} empty e h =

@@ -5,6 +5,6 @@ use Rattle.std.specs.Prelude.{ℕ, ◌+◌, ◌-◌, ◌^◌, ◌<◌, ◌≡◌
 abbrev pub Rose : ℕ → ℕ → Type 0
 Rose before now = (before < now) ⊎ (now ≡ 2 ^ 64 - 1)
 
--- one more; the greatest number of 64 bits stays as it is
+-- a count with one more; the greatest number of 64 bits stays as it is
 abbrev pub one_more : ℕ → ℕ
 one_more count = max count (min (count + 1) (2 ^ 64 - 1))

@@ -2,7 +2,7 @@
 use Rattle.std.specs.Prelude.{ℕ, List, Option}
 use Rattle.base_io.specs.Files.{Files}
 
--- a sink before and after a call: the bytes that it took, if it tells them, and its count of faults
+-- a sink before and after a call: the bytes that the sink took, if it tells them, and its count of faults
 pub record Growth : Type 0 where
   pub taken_before : Option (List ℕ)
   pub taken_after : Option (List ℕ)
@@ -17,7 +17,7 @@ growth taken faults before after = record {
   faults_after = faults after;
 }
 
--- a store before and after a call: its files, if it tells them, and its counts of faults and misses
+-- a store before and after a call: the store's files, if it tells them, and its counts of faults and misses
 pub record Reading : Type 0 where
   pub files : Option Files
   pub files_after : Option Files

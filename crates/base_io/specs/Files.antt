@@ -1,4 +1,4 @@
--- The files of a store, if it tells them, and what reading one of them answers.
+-- The files of a store, if it tells them, and what reading a file answers.
 use Rattle.std.specs.Prelude.{ℕ, ◌≡◌, ◌+◌, ◌<◌, ◌≤◌, ◌∷◌, [], List, length, take, drop, Option, None, Some, Result, Ok, Err, if◌then◌else◌, ⊤}
 use Rattle.std.specs.Str.{bytes_eq}
 use Rattle.base_io.specs.declared.errors.StoreError.{StoreError}
@@ -35,7 +35,7 @@ pub record Fills (bytes : List ℕ) (place count : ℕ) (into : List ℕ) : Type
   pub within : 0 < count → place + count ≤ length bytes
   pub end : count ≡ 0 → length bytes ≤ place
 
--- a read may have answered Ok with this many bytes; for an absent file it never answers Ok, not even with 0 bytes
+-- a read may have answered Ok with this many bytes; a read of an absent file never answers Ok, not even with 0 bytes
 abbrev pub MayHaveRead : FileAnswer → ℕ → ℕ → List ℕ → Type 0
 MayHaveRead Nothing place count into = ⊤
 MayHaveRead Absent place count into = ⊥
@@ -47,7 +47,7 @@ IsAbsent Nothing = ⊥
 IsAbsent Absent = ⊤
 IsAbsent (Present bytes) = ⊥
 
--- what a read at a place answers, and what it leaves in the buffer
+-- what a read at a place answers, and what the read leaves in the buffer
 abbrev pub ReadsAt : FileAnswer → ℕ → Result ℕ StoreError → List ℕ → Type 0
 ReadsAt file place (Ok count) into = (count ≤ length into) × MayHaveRead file place count into
 ReadsAt file place (Err store.Missing) into = IsAbsent file

@@ -1,7 +1,7 @@
 -- The model of a sink in memory.
 use Rattle.std.specs.Prelude.{ℕ, List}
 
--- the bytes taken, how many more fit, the calls that fail, and the counts of calls and faults
+-- the bytes taken, how many more bytes fit, the numbers of the calls that fail, and the counts of calls and faults
 pub record Contents : Type 0 where
   pub taken : List ℕ
   pub room : ℕ

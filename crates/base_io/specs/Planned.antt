@@ -1,4 +1,4 @@
--- The calls at which a store or a sink over memory fails.
+-- Which calls of a store or a sink in memory fail.
 use Rattle.std.specs.Prelude.{ℕ, Bool, true, false, List, Result, Ok, Err, nat_eq}
 use Rattle.std.specs.List.{list_any}
 use Rattle.base_io.specs.declared.errors.StoreError.{StoreError}
@@ -8,7 +8,7 @@ use Rattle.base_io.specs.declared.errors.StoreError.TheVariants as store
 abbrev pub is_listed : ℕ → List ℕ → Bool
 is_listed call fail_at = list_any (λ listed. nat_eq listed call) fail_at
 
--- the answer is a failure, and not that the file is absent
+-- the call failed. An absent file is no failure
 abbrev pub has_failed : Result ℕ StoreError → Bool
 has_failed (Ok count) = false
 has_failed (Err store.Missing) = false

@@ -5,15 +5,16 @@ use Rattle.base_io.specs.Sinks.{appended, GrewByPrefix, TookBut}
 use Rattle.base_io.specs.declared.errors.Failed.{Failed}
 use Rattle.base_io.specs.Devices.{Growth}
 
--- The whole promise of a step that writes a text. If it succeeds, the sink has taken the whole text; in each case it has taken a prefix. The
--- count of faults doesn't fall, and if the step fails, it has risen.
+-- The whole promise of a step that writes a text. If the step succeeds, the sink has taken the whole text. If the step fails, the sink has taken a
+-- prefix of the text, and the count of faults has risen. The count never falls.
 pub record Wrote (sink : Growth) (text : List ℕ) (result : Result (Unit {0}) Failed) : Type 0 where
   pub ok : OnOk result (sink.taken_after ≡ appended sink.taken_before text)
   pub prefix : GrewByPrefix sink.taken_before sink.taken_after text
   pub later : sink.faults_before ≤ sink.faults_after
   pub failed : OnErr result (Rose sink.faults_before sink.faults_after)
 
--- the same for a step that writes through a buffer: the last bytes may wait there
+-- the same promise for a step that writes through a buffer. `waiting` are the bytes that wait in the buffer before the step, and `left` the bytes
+-- that wait after it
 pub record Put (sink : Growth) (waiting left text : List ℕ) (result : Result (Unit {0}) Failed) : Type 0 where
   pub ok : OnOk result (TookBut sink.taken_before sink.taken_after left (waiting ++ text))
   pub prefix : GrewByPrefix sink.taken_before sink.taken_after (waiting ++ text)

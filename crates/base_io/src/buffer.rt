@@ -7,11 +7,11 @@ ghost use Rattle.base_io.specs.Writes.{Put, Wrote};
 use crate::{Failed, Sink, write_all};
 use std::marker::Model;
 
-// The buffer is large enough that a text takes few calls of its sink.
+// The buffer is large, so that a text takes few calls of the sink.
 const ROOM: usize = 8192;
 
-/// Gathers small writes, so that a sink is called once for many of them. Contracts see the bytes that
-/// wait for the sink. It lies on the stack and allocates nothing. After `Failed` it must not be used again.
+/// Gathers small writes, so that a sink is called once for many writes. Contracts see the bytes that wait for the sink. The buffer lies on the stack
+/// and allocates nothing. After `Failed` the buffer must not be used again.
 #[derive(Drop)]
 pub struct Buffer {
     bytes: [u8; ROOM],
@@ -59,8 +59,8 @@ impl Buffer {
         Ok(())
     }
 
-    /// Adds bytes. If there is no room for them, it first hands what waits to the sink. More bytes than the buffer
-    /// holds go straight to the sink.
+    /// Adds bytes. If the buffer has no room for them, it first hands its waiting bytes to the sink. If there are more bytes than the whole buffer
+    /// takes, they go straight to the sink.
     pub fn put<N: Sink>(&mut self, sink: &mut N, bytes: &[u8]) -> Result<(), Failed>
         ensures { Put (growth N.taken N.faults sink.old sink.new) self.old self.new bytes.now result }
     {

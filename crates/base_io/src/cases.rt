@@ -4,9 +4,9 @@ ghost use Rattle.base_io.specs.Causes.{Rose, one_more};
 ghost use Rattle.base_io.specs.Files.{Absent, Nothing, Present, told};
 ghost use Rattle.base_io.specs.Sinks.{appended};
 
-/// Theorems by computation. It does nothing.
+/// Theorems by computation. The function does nothing.
 pub fn examples()
-    // Of two files with one name the first counts.
+    // If two files have one name, the first file counts.
     ensures first { told (Some ((82 ∷ [], 1 ∷ []) ∷ (82 ∷ [], 2 ∷ []) ∷ [])) (82 ∷ []) ≡ Present (1 ∷ []) }
     ensures empty { told (Some ((82 ∷ [], []) ∷ [])) (82 ∷ []) ≡ Present [] }
     ensures absent { told (Some ((82 ∷ [], 1 ∷ []) ∷ [])) (83 ∷ []) ≡ Absent }

@@ -4,10 +4,9 @@
 //! The first stage of a query reads each file whole, with `read_file`. The last stage writes its texts with `write_all` and
 //! `write_parts`.
 //!
-//! Callers cite `told` (what a store knows about a name) and `ReadsFile` (what reading a file answers). Of sinks
-//! they cite `appended` and `GrewByPrefix` (what a sink took), `Wrote` and `Put` (what is true after a step that
-//! writes). `Rose` says that a count of faults rose. They see `Seq` as the list of its items, `Boxed` as its value
-//! and `Name` as its bytes.
+//! Callers cite `told` (what a store tells about a name) and `ReadsFile` (what reading a file answers). About sinks they cite `appended` and
+//! `GrewByPrefix` (what a sink took), `Wrote` and `Put` (what is true after a step that writes). `Rose` says that a count of faults rose. Contracts
+//! see `Seq` as the list of its items, `Boxed` as its value and `Name` as its bytes.
 #![tactic(auto)]
 
 mod boxed;

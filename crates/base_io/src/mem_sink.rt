@@ -9,9 +9,8 @@ use std::marker::Model;
 
 /// A sink in memory that has room for a limited number of bytes.
 ///
-/// Calls are counted from 1, and those whose numbers are in `fail_at` fail. A call also fails if the piece has
-/// bytes and no room is left. The counts of calls and faults begin at 0 and do not rise above the greatest
-/// value of their type. No write allocates memory.
+/// Calls are counted from 1, and a call fails if its number is in `fail_at`. A call also fails if the piece has bytes and no room is left. The counts
+/// of calls and faults begin at 0 and do not rise above the greatest value of their type. No write allocates memory.
 #[derive(Drop)]
 pub struct MemSink {
     taken: Vec<u8>,
@@ -64,7 +63,7 @@ impl Sink for MemSink {
 
     ghost faults = { λ s. s.faults };
 
-    /// Writes as every sink does, and takes as many of the bytes as it has room for.
+    /// Writes as every sink does, and takes as many of the bytes as there is room for.
     fn write(&mut self, bytes: &[u8]) -> Result<usize, Failed>
         ensures bound { IfOk result (λ n. n ≤ length bytes.now) }
         ensures progress { 0 < length bytes.now → IfOk result (λ n. 0 < n) }
@@ -73,7 +72,7 @@ impl Sink for MemSink {
         ensures later { self.old.faults ≤ self.new.faults }
         ensures failed { OnErr result (Rose self.old.faults self.new.faults) }
 
-        // Only the listed calls fail, and those that find no room. Each failure is counted.
+        // Only two kinds of calls fail: the listed calls, and calls with bytes if no room is left. Each failure is counted.
         ensures calls { self.new.calls ≡ one_more self.old.calls }
         ensures fail_at { self.new.fail_at ≡ self.old.fail_at }
         ensures fails { is_err result ≡ (is_listed self.new.calls self.old.fail_at

@@ -8,8 +8,8 @@ use crate::{Name, Seq, Store, StoreError};
 
 /// Files in memory. If two files have the same name, the first one is read.
 ///
-/// Calls are counted from 1, and those whose numbers are in `fail_at` fail. The three counts begin at 0 and
-/// do not rise above the greatest value of their type.
+/// Calls are counted from 1, and a call fails if its number is in `fail_at`. The three counts begin at 0 and do not rise above the greatest value of
+/// their type.
 #[derive(Drop)]
 pub struct MemStore {
     pub files: Seq<(Name, Seq<u8>)>,

@@ -2,7 +2,7 @@ ghost use Rattle.std.specs.Prelude.{◌≡◌, None, Ok, length};
 
 use crate::{Failed, Sink};
 
-/// A sink that takes every byte and keeps none. Its count of faults is always 0.
+/// A sink that takes every byte and stores no byte. Its count of faults is always 0.
 #[derive(Clone, Copy, Debug)]
 pub struct NullSink;
 

@@ -12,8 +12,8 @@ const BLOCK: usize = 65_536;
 
 /// Reads a whole file of at most `limit` bytes.
 ///
-/// It reads each block straight into the list that it answers, without a buffer between them. The list grows by
-/// doubling. It answers `Fault` only if the store's count of faults rose.
+/// Each block is read straight into the list that is returned, without a buffer between. The list grows by doubling. The result is `Fault` only if
+/// the store's count of faults rose.
 pub fn read_file<S: Store>(
     alloc: Global,
     store: &mut S,
@@ -22,7 +22,7 @@ pub fn read_file<S: Store>(
 ) -> Result<Seq<u8>, ReadError>
     requires { limit ≤ most_file }
 
-    // The whole file, or the answer that fits what the store tells of the name.
+    // The whole file, or the error that fits what the store tells about the name.
     ensures read { ReadsFile (told (S.files store.old) name.now) limit result }
     ensures files { S.files store.new ≡ S.files store.old }
     ensures later { S.faults store.old ≤ S.faults store.new }
@@ -33,7 +33,7 @@ pub fn read_file<S: Store>(
     ensures misses { (IsErrOf result ReadError.Missing → ⊥) → S.misses store.new ≡ S.misses store.old }
 {
     let mut items = Vec::new(alloc);
-    // Each turn of the loop but the last reads at least one byte, and the limit bounds the number of turns.
+    // Each round of the loop but the last reads at least one byte, so that `limit` rounds and one more are enough.
     'turns: for _turn in 0..=limit {
         let at = items.len();
         items.resize(at + BLOCK, 0)?;

@@ -4,8 +4,7 @@ use crate::NoMemory;
 use std::alloc::Global;
 use std::marker::Model;
 
-/// A growable list. Contracts speak of its items, and not of its capacity. A recursive type may have a field that is a `Seq` of that same
-/// type.
+/// A growable list. Contracts speak of its items, and not of its capacity. A recursive type may have a field that is a `Seq` of this type.
 #[derive(Debug, Drop)]
 pub struct Seq<T> {
     items: Vec<T>,

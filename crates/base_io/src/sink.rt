@@ -7,17 +7,17 @@ use crate::Failed;
 
 /// Takes bytes in the order in which they come.
 pub trait Sink {
-    /// The bytes taken so far, where the sink tells them.
+    /// The bytes taken so far, if the sink tells them.
     ghost taken: { Self → Option (List ℕ) };
 
     /// How often a write has failed.
     ghost faults: { Self → ℕ };
 
-    /// Takes bytes from the front of a piece, and answers how many.
+    /// Takes bytes from the front of a piece, and returns how many it took.
     fn write(&mut self, bytes: &[u8]) -> Result<usize, Failed>
         ensures bound { IfOk result (λ n. n ≤ length bytes.now) }
 
-        // If the piece has bytes and the sink takes none of them, the call has failed.
+        // If the piece has bytes and the sink takes no byte, the call has failed.
         ensures progress { 0 < length bytes.now → IfOk result (λ n. 0 < n) }
 
         ensures took { IfOk result (λ n. taken self.new ≡ appended (taken self.old) (take n bytes.now)) }

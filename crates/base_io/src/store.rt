@@ -10,7 +10,7 @@ use crate::StoreError;
 ///
 /// Some stores do not tell which files they have. Such a store counts an absent file as a failed read.
 pub trait Store {
-    /// The files, where the store tells them.
+    /// The files, if the store tells them.
     ghost files: { Self → Option Files };
 
     /// How often a read has failed.
@@ -19,8 +19,8 @@ pub trait Store {
     /// How often a file was missing.
     ghost misses: { Self → ℕ };
 
-    /// Reads bytes of a file, from the place `at` on, into the front of a buffer, and answers how many it read.
-    /// It answers 0 exactly where `at` is the end of the file or lies past it.
+    /// Reads bytes of a file, from the place `at` on, into the front of a buffer, and returns how many bytes were read. The result is 0 exactly if
+    /// `at` is the end of the file or lies past the end.
     fn read_at(&mut self, name: &str, at: u64, into: &mut [u8]) -> Result<usize, StoreError>
         requires place { at ≤ most_file }
         requires room { 0 < length into.old }

@@ -5,7 +5,7 @@ ghost use Rattle.base_io.specs.Writes.{Wrote};
 
 use crate::{Failed, Sink};
 
-/// Writes all bytes. If it answers `Failed`, the sink took a prefix of them. It allocates nothing.
+/// Writes all bytes. On `Failed` the sink has taken a prefix of them. Nothing is allocated.
 #[tactic(auto, using(crate::proofs::SinkFacts::took_more, crate::proofs::SinkFacts::grew_by_take, crate::proofs::SinkFacts::prefix_of_all))]
 pub fn write_all<N: Sink>(sink: &mut N, bytes: &[u8]) -> Result<(), Failed>
     ensures { Wrote (growth N.taken N.faults sink.old sink.new) bytes.now result }
@@ -17,8 +17,7 @@ pub fn write_all<N: Sink>(sink: &mut N, bytes: &[u8]) -> Result<(), Failed>
     Ok(())
 }
 
-/// Writes all bytes of several parts, in order. If it answers `Failed`, the sink took a prefix of them. It
-/// allocates nothing.
+/// Writes all bytes of several parts, in order. On `Failed` the sink has taken a prefix of them. Nothing is allocated.
 #[tactic(auto, using(crate::proofs::SinkFacts::prefix_of_all))]
 pub fn write_parts<N: Sink>(sink: &mut N, parts: &[&[u8]]) -> Result<(), Failed>
     ensures { Wrote (growth N.taken N.faults sink.old sink.new) (flat_map (λ part. part.now) parts.now) result }

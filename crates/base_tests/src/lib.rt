@@ -1,4 +1,4 @@
-//! Tests of the low crates: each call that takes memory, once and with ample memory, and devices in memory.
+//! Tests of calls in the lowest crates that take memory, each with ample memory, and of stores and sinks in memory.
 //!
 //! What the calls answer is proved. The tests have a crate of their own, so that no crate that they test is proved a second time.
 #![tactic(auto)]

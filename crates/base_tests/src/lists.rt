@@ -33,12 +33,12 @@ fn sets_gain_and_lose_entries(rt: HostRuntime) {
     }
 }
 
-// The degrees of three different keys, which stand five times, three times and once.
+// The degrees of three different keys, which occur five times, three times and once.
 fn degrees(alloc: Global) -> Result<Seq<u64>, NoMemory> {
     falling(alloc, &[8, 8, 8, 8, 8, 2, 2, 2, 5])
 }
 
-// These degrees compressed at accuracy 1: the elements 5 and 4, each a piece.
+// The degrees 5, 3 and 1 compressed at accuracy 1: the elements 5 and 4, each a piece.
 fn compressed(alloc: Global) -> Result<Pieces, NoMemory> {
     compress(alloc, &[5, 3, 1], Accuracy::of(1))
 }
@@ -52,8 +52,8 @@ fn counts_fall(rt: HostRuntime) -> Result<(), Fail> {
     Ok(())
 }
 
-// The list with these runs, each a degree and its number of keys. It answers NoMemory, which fails the test, where a degree is above the
-// one before it, a degree or a number is 0, or the numbers sum to more than 64 bits hold.
+// The list with these runs, each a degree and its number of keys. No degree is above the degree before it, no degree and no number is 0, and the
+// numbers sum to less than 2^64. Otherwise the result is `NoMemory`, which fails the test.
 fn of_runs(alloc: Global, runs: &[(u64, u64)]) -> Result<Pieces, NoMemory> {
     let mut list = Pieces::empty(alloc);
     let mut last = u64::MAX;
@@ -72,9 +72,9 @@ fn of_runs(alloc: Global, runs: &[(u64, u64)]) -> Result<Pieces, NoMemory> {
 // Ten billion rows: 6,000 keys have 1,000,000 rows each, 5,000 keys have 600,001 each, and 999,995 keys have 1,000 each.
 const MANY_ROWS: [(u64, u64); 3] = [(1_000_000, 6_000), (600_001, 5_000), (1_000, 999_995)];
 
-// These rows compressed at accuracy 1. The second degree is more than half of the first, so its 3,000,005,000 rows are counted at the first
-// degree. With 995,000 rows of the third they are 3,001 more keys of 1,000,000 rows. Of the third degree 999,000,000 rows are left, which
-// are 999,000 keys of 1,000 rows.
+// `MANY_ROWS` compressed at accuracy 1. The second degree is more than half of the first, so the 3,000,005,000 rows of the second degree are counted
+// at the first degree. With 995,000 rows of the third degree they make 3,001 more keys of 1,000,000 rows. Of the third degree 999,000,000 rows are
+// left, which are 999,000 keys of 1,000 rows.
 fn many_compressed(alloc: Global) -> Result<Pieces, NoMemory> {
     let list = of_runs(alloc, &MANY_ROWS)?;
     if list.total() != 10_000_000_000 {

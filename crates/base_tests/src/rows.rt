@@ -23,8 +23,8 @@ fn reserved_rows_are_pushed(rt: HostRuntime) -> Result<(), Fail> {
     Ok(())
 }
 
-// Where 7 stands among the keys 7, 9, 7, 7: its first place, and the next one. Then the keys 8, 7 replace these: again the
-// first place of 7, and the next one.
+// The places of 7 among the keys 7, 9, 7, 7: the first place and the next one. Then the keys 8, 7 replace these keys, and again: the first place of 7
+// and the next one.
 fn places_of_seven(alloc: Global) -> Result<[Option<u32>; 4], NoMemory> {
     let mut chains = Chains::with_room(alloc, 4, 3)?;
     chains.load(&[7, 9, 7, 7]);

@@ -1,7 +1,7 @@
-//! Keys that are all different, all equal, or about as unequal as words of a text. bench/degree_lists.rs makes the same keys.
+//! Keys that are all different, all equal, or repeated about as unevenly as the words of a text. bench/degree_lists.rs makes the same keys.
 use std::alloc::{AllocError, Global};
 
-/// How unequal keys are.
+/// How often keys repeat: never, always, or unevenly.
 #[derive(Clone, Copy)]
 pub enum Kind {
     Different,

@@ -1,7 +1,7 @@
 //! Measures the proved code of degree_lists; bench/degree_lists.rs measures plain Rust for the same work.
 //!
-//! Without an argument it makes each call over 100 keys and writes nothing. With one, say `time`, it writes a line for each kind of keys: the
-//! kind, the number of keys, the length of the answer, and the nanoseconds of the fastest call.
+//! Without an argument the program makes each call over 100 keys and writes nothing. With an argument, say `time`, it writes a line for each kind of
+//! keys: the kind, the number of keys, the length of the answer, and the nanoseconds of the fastest call.
 #![tactic(auto)]
 
 mod keys;

@@ -1,9 +1,9 @@
 //! Measures the proved code of bound_fold and set_bounds; bench/fold.rs measures plain Rust for the same work.
 //!
-//! Without an argument it writes the bounds of two small queries. With one, say `time`, it writes a line for each measure.
-//! A line has the shape, the number of entries, of pieces of each list and of trees that are folded, the bound, and the
-//! least nanoseconds of one bound. With two, say `time sets`, it measures the bounds of all sets of twelve entries. Then a
-//! line has the shape, the sum of the bounds, and the nanoseconds.
+//! Without an argument the program writes the bounds of two small queries. With one argument, say `time`, it writes a line for each measure: the
+//! shape, the number of entries, the number of pieces of each list, the number of trees that are folded, the bound, and the least nanoseconds of one
+//! bound. With two arguments, say `time sets`, it measures the bounds of all sets of twelve entries, and writes a line for each shape: the shape, the
+//! sum of the bounds, and the nanoseconds.
 #![tactic(auto)]
 
 mod queries;

@@ -21,9 +21,9 @@ pub struct Query {
 pub enum Shape {
     /// Column 1 of each entry is equal to column 0 of the next one.
     Chain,
-    /// Entry 1 is joined with each of the others, with each by a different column of its own. In the tree it stands below entry 0.
+    /// Entry 1 is joined with each other entry, by a different column of entry 1 for each of them. In the join tree entry 1 is below entry 0.
     Star,
-    /// A star in which entry 0 is also joined, by its one column, with each entry from 3 on.
+    /// A star in which the one column of entry 0 is also joined with each entry from 3 on.
     JoinedStar,
     /// The first columns of all entries are equal.
     OneClass,
@@ -85,7 +85,7 @@ fn place(entry: u8, column: u32) -> Place {
     Place { entry, column }
 }
 
-/// The equality of two columns. The number of its entry stands before each column.
+/// The equality of two columns. Each column is given by its entry and its number.
 pub fn edge(left: u8, left_column: u32, right: u8, right_column: u32) -> Edge {
     Edge {
         left: place(left, left_column),
@@ -170,7 +170,8 @@ pub fn query_of(alloc: Global, edges: &[Edge], rows: &[u64]) -> Result<Query, No
     })
 }
 
-/// Adds the list of a column. It is left out if the entry has no row bound, if its sum isn't that bound, or if the column has a list already.
+/// Adds the list of a column. The list is left out if the entry has no row bound, if the list's sum isn't the entry's row bound, or if the column has
+/// a list already.
 pub fn add_list(
     lists: &mut EntryLists,
     entry: u8,

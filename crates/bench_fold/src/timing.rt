@@ -53,8 +53,8 @@ fn bound_once(rt: &impl Clock, alloc: Global, query: &Query, subset: EntrySet) -
     Ok(Timing { bound, nanos })
 }
 
-/// The bound of a set of entries, with the least time of so many rounds. The error is `InvalidInput` where an entry has no row bound
-/// or a joined column no list, and `OutOfMemory` where memory is wanting.
+/// The bound of a set of entries, with the least time of `rounds` rounds. The error is `InvalidInput` if an entry has no row bound or a joined column
+/// has no list, and `OutOfMemory` if memory is wanting.
 pub fn timed(
     rt: &impl Clock,
     alloc: Global,
@@ -90,8 +90,8 @@ fn sets_once(rt: &impl Clock, alloc: Global, query: &Query) -> io::Result<Timing
     Ok(Timing { bound, nanos })
 }
 
-/// The sum of the bounds of all sets of a query's first twelve entries, modulo 2^128, with the least time of so many rounds. The time is
-/// that of the bounds without the sum. Errors are those of `timed`.
+/// The sum of the bounds of all sets of a query's first twelve entries, modulo 2^128, with the least time of `rounds` rounds. The summing isn't
+/// timed. The errors are the same as in `timed`.
 pub fn timed_sets(
     rt: &impl Clock,
     alloc: Global,

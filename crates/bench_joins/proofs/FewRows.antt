@@ -1,4 +1,4 @@
--- A join has at most so many rows for each row of the left table as the right one has each key.
+-- If the right table has each key at most `times` times, a join has at most `times` rows for each row of the left table.
 use Rattle.std.proofs.Common.{◌≡◌, ℕ, zero, suc, ◌+◌, ◌-◌, ◌*◌, ◌/◌, ◌%◌, ◌<◌, ◌≤◌, ◌^◌, Bool, true, false, not, eqb, ◌||◌, Option, Some, None, List, [], ◌∷◌, ◌++◌, length, map, get_or, refl, ap, sym, ◌∙◌, subst, arith, inl, inr}
 use Rattle.std.specs.Prelude.{All, IsUtf8}
 use Rattle.std.specs.List.{filter, range_with_len, AllByRecursion, AllZip, IsDistinct}
@@ -38,7 +38,7 @@ use Rattle.bench_joins.specs.Tables.{compared, join_of, repeated, table_of, tabl
 
 -- ---- how many rows have a key
 
--- of the numbers from s on, at most m lie from a to below a + m
+-- if only numbers from a to below a + m pass a test, at most a + m - s of the numbers from s on pass it
 in_stretch : (p : ℕ → Bool) (a m : ℕ) → ((x : ℕ) → p x ≡ true → (a ≤ x) × (x < a + m)) → (n s : ℕ) → a ≤ s → length (filter p (range_with_len s n)) ≤ a + m - s
 in_stretch p a m near zero s low = omega arith
 in_stretch p a m near (suc n) s low =
@@ -61,7 +61,7 @@ before_stretch p a m near (suc n) s = elim (cases_lt s a) [
   | inr high ↦ (let rest : length (filter p (range_with_len s (suc n))) ≤ a + m - s = in_stretch p a m near (suc n) s high in omega (arith, rest))
 ]
 
--- a row of the repeated numbers has the key where it lies in the key's stretch
+-- if a row of `repeated` has a key, the row lies in the key's stretch: from key * times to below key * times + times
 in_key : (key times row : ℕ) → 0 < times → eqb (row / times) key ≡ true → (key * times ≤ row) × (row < key * times + times)
 in_key key times row some hit =
     let same : row / times ≡ key = eqb-true (row / times) key hit in
@@ -94,7 +94,7 @@ filtered_twice p q (x ∷ xs) =
       ]
     ]
 
--- of any part of the rows, at most so many have the key
+-- of any part of the rows, at most `times` rows have the key
 few_keys : (rows times key : ℕ) (own : ℕ → Bool) → 0 < times → length (filter (λ row. eqb (get_or (repeated rows times) row 0) key) (filter own (range_with_len 0 rows))) ≤ times
 few_keys rows times key own some =
     let p : ℕ → Bool = λ row. eqb (get_or (repeated rows times) row 0) key in
@@ -106,7 +106,8 @@ few_keys rows times key own some =
 
 -- ---- a level
 
--- where all that passes below a choice has the choice's key
+-- suppose that a row passes `q` if the choice with this row after it passes `p`. Then at most as many such choices pass `p` as rows of the list pass
+-- `q`
 few_below : (p : List ℕ → Bool) (q : ℕ → Bool) (Q : ℕ → Type 0) (choice : List ℕ) → ((row : ℕ) → Q row → p (choice ++ row ∷ []) ≡ true → q row ≡ true) → (list : List ℕ) → AllByRecursion Q list
     → length (filter p (map (λ row. choice ++ row ∷ []) list)) ≤ length (filter q list)
 few_below p q Q choice only [] all = omega arith
@@ -265,7 +266,7 @@ module _ (left right times : ℕ) (values : Option Op) (lk lv rv : List ℕ) (ar
       (λ choice p. omega (arith, fewer (completed_hold conjuncts [] 0) (map (λ row. choice ++ row ∷ []) (scan_of q db 0)), length-map (scan_of q db 0) (λ row. choice ++ row ∷ []))) above (nothing_asked above) in
       omega (arith, ap (λ (s : List (List ℕ)). length s) next, few_all, at_most_one (length (scan_of q db 0)) (length above) some_above, first_scan)
 
-  -- a row that is joined has the key of the left row
+  -- a right row that is joined with a left row has the left row's key
   has_key : (x row : ℕ) → x < row_counts (tables_of db) 0 → row < row_counts (tables_of db) 1 → completed_hold conjuncts (0 ∷ []) 1 (x ∷ row ∷ []) ≡ true → eqb (get_or (repeated right times) row 0) (get_or lk x 0) ≡ true
   has_key x row low_x low_row hit =
       let row_of : ℕ → ℕ = row_in (0 ∷ 1 ∷ []) (x ∷ row ∷ []) in
@@ -279,7 +280,7 @@ module _ (left right times : ℕ) (values : Option Op) (lk lv rv : List ℕ) (ar
       let none : All IsUtf8 [] = All-from_recursion IsUtf8 [] tt in
       sym (key_holds db row_of (0 ∷ []) (1 ∷ []) 0 (compared op.Eq 0) key is_key fits.tables (λ i j d low high same. absurd (omega arith)) none (askable op.Eq 0 (omega arith)) (omega (arith, low_x, rows_are db 0)) (omega (arith, low_row, rows_are db 1))) ∙ holds
 
-  -- below one choice
+  -- after one choice of a left row, at most `times` right rows are joined
   below_choice : (choice : List ℕ) → IsChoiceOf (row_counts (tables_of db)) (0 ∷ []) choice → length (filter (completed_hold conjuncts (0 ∷ []) 1) (map (λ row. choice ++ row ∷ []) (scan_of q db 1))) ≤ times
   below_choice [] p = absurd p
   below_choice (x ∷ y ∷ choice) p = absurd p.1

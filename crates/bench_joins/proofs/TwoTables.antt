@@ -1,4 +1,4 @@
--- Two tables and their query, however they were made.
+-- The facts of FewRows, for any database that `AreTwo` describes and any query that is `join_of`.
 use Rattle.std.proofs.Common.{◌≡◌, ℕ, ◌*◌, ◌<◌, ◌≤◌, Option, List, [], ◌∷◌, ap, sym, ◌∙◌, subst}
 use Rattle.std.specs.Prelude.{All}
 use Rattle.std.specs.List.{AllZip}

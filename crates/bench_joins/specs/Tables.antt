@@ -58,7 +58,7 @@ pub record HasRepeated (rows times : ℕ) (cells : Cells) : Type 0 where
   pub is : cells ≡ table_of rows (repeated rows times) values
   pub are_values : AreNumbers rows values
 
--- two tables of these sizes; the right one has each key at most `times` times
+-- two tables of these sizes; the right table has each key at most `times` times
 pub record AreTwo (left right times : ℕ) (db : Database) : Type 0 where
   pub first : Cells
   pub second : Cells

@@ -1,8 +1,8 @@
 //! Measures the proved code of hash_join; bench/joins.rs measures plain Rust for the same work.
 //!
-//! It joins pairs of tables, and writes for each pair how many rows the join has and a checksum of their row numbers. Without an argument
-//! the tables are small. With one, say `time`, they have up to 1,000,000 rows, and it writes to standard error the nanoseconds of the
-//! fastest of three executions.
+//! The program joins pairs of tables, and writes for each pair how many rows the join has and a checksum of their row numbers. Without an argument
+//! the tables are small. With an argument, say `time`, they have up to 1,000,000 rows, and the program also writes to standard error the nanoseconds
+//! of the fastest of three executions.
 #![tactic(auto)]
 
 ghost use Rattle.std.specs.Prelude.{◌≡◌, ◌*◌, ◌<◌, ◌≤◌, [], ◌∷◌, IfOk, length};
@@ -64,8 +64,8 @@ fn lists_for(alloc: Global, sizes: Sizes) -> Result<Vec<RowBuf<u32>>, NoMemory>
     row_buffers(alloc, &[sizes.left as u64, sizes.right as u64])
 }
 
-// Buffers with room for the join. The right table has each key at most `times` times, so each row of the left one is joined with at most
-// `times` rows.
+// Buffers with room for the join. The right table has each key at most `times` times, so each row of the left table is joined with at most `times`
+// rows.
 fn reserved_for(alloc: Global, sizes: Sizes) -> Result<Reserved, NoMemory>
     requires left { sizes.left ≤ 4000000 }
     requires right { sizes.right ≤ 4000000 }
@@ -150,7 +150,7 @@ fn least_of(
     Ok(least)
 }
 
-// A name, how many rows the left and the right table have, how often the right one has each key, and how values are compared, if they are.
+// A name, the numbers of rows of the left and the right table, how often the right table has each key, and the operator that compares values, if any.
 #[derive(Clone, Copy)]
 struct Case<'a>(&'a str, u32, u32, u32, Option<Op>);
 
@@ -171,7 +171,7 @@ const LARGE: [Case<'static>; 8] = [
     Case("heavy-both", 10_000, 10_000, 1_000, Some(Op::Eq)),
 ];
 
-// Refuses tables and joins of more rows than a plan may have.
+// Measures a case. If the tables or the join have more rows than a plan may have, the case is refused.
 fn measured(rt: &impl Clock, alloc: Global, case: Case<'_>, rounds: u32) -> io::Result<Joined> {
     let Case(_, left, right, times, values) = case;
     let most = u64::from(times) * u64::from(left);

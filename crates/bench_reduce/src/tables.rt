@@ -53,8 +53,8 @@ fn add(
     files.push((Name::from_str(alloc, name)?, Seq::from_vec(file)))
 }
 
-/// The tables of the chain: A, B and D, each of `rows` rows. A and B have every number below `rows`, D the multiples of 100 from 0 on. In each
-/// table the rows stay whose number is a multiple of 100 below `rows`.
+/// The tables of the chain: A, B and D, each of `rows` rows. A and B have every number below `rows`, D the multiples of 100 from 0 on. In each table
+/// the rows that have a multiple of 100 below `rows` stay.
 pub(crate) fn chain(alloc: Global, rows: u32) -> Result<MemStore, Failed>
     requires { rows ≤ 1000000 }
 {

@@ -1,8 +1,8 @@
 //! Measures the proved code of column_stats and cond_stats; bench/stats.rs measures plain Rust for the same work.
 //!
-//! It makes all lists of a pair of columns at once, and then the lists of one value and of one range on demand. For both it writes how many
-//! runs the lists have. Without an argument the columns have 100 rows. With one, say `time`, they have 1,000,000 rows, and it also writes to
-//! standard error the nanoseconds of each, the least of three.
+//! The program makes all lists of a pair of columns at once, and then the lists of one value and of one range on demand. For both it writes how many
+//! runs the lists have. Without an argument the columns have 100 rows. With an argument, say `time`, they have 1,000,000 rows, and the program also
+//! writes to standard error the nanoseconds of each, the least of three.
 #![tactic(auto)]
 
 ghost use Rattle.std.specs.Prelude.{◌≡◌, ◌<◌, ◌^◌, length, IfOk};
@@ -61,7 +61,7 @@ fn sorted<'a>(
     FilterColumn::new(alloc, pool, kind, cells)
 }
 
-// How many runs two lists have: that of the value of the middle row, and that of the range from leaf 8 to leaf 15.
+// How many runs two lists have: the list of the value of the middle row, and the list of the range from leaf 8 to leaf 15.
 fn on_demand(alloc: Global, pool: &Pool, kind: Kind, pair: &Pair) -> Result<u64, NoMemory> {
     let cells = pair.filter.as_slice();
     let joined = pair.joined.as_slice();

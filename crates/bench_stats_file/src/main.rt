@@ -1,7 +1,7 @@
 //! Measures the proved code of stats_reading; bench/stats_file.rs measures plain Rust for the same work.
 //!
-//! Without an argument it reads a small file and writes nothing. With one, say `time`, it reads a file of nearly the
-//! greatest length. Then it writes how many bytes and pairs the file has, and the milliseconds of the fastest `read_stats`.
+//! Without an argument the program reads a small file and writes nothing. With an argument, say `time`, it reads a file of nearly the greatest
+//! length. Then it writes how many bytes and pairs the file has, and the milliseconds of the fastest `read_stats`.
 #![tactic(auto)]
 
 ghost use Rattle.std.specs.Prelude.{◌≤◌, length, IfOk};

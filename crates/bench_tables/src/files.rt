@@ -50,7 +50,7 @@ fn push_number(file: &mut String, state: &mut State) -> Result<(), AllocError> {
     write!(file, "{size}")
 }
 
-// A text that is new, and then one of those before.
+// A new text, and then a text that the file has already.
 fn push_texts(file: &mut String, state: &mut State) -> Result<(), AllocError> {
     let new = state.texts;
     state.texts = new.wrapping_add(1);

@@ -1,8 +1,8 @@
 //! Measures the proved code of csv_tables; bench/tables.rs measures plain Rust for the same work.
 //!
-//! Without an argument it reads small files and writes nothing. With one, say `time`, it writes a line for each file. A
-//! line says whether the file has numbers or texts, how many rows and how many different texts. A checksum of the cells
-//! follows, and the milliseconds of the fastest `read_table`.
+//! Without an argument the program reads small files and writes nothing. With an argument, say `time`, it writes a line for each file. A line says
+//! whether the file has numbers or texts, how many rows and how many different texts. A checksum of the cells follows, and the milliseconds of the
+//! fastest `read_table`.
 #![tactic(auto)]
 
 ghost use Rattle.std.specs.Prelude.{◌≤◌, length};

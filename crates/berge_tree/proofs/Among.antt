@@ -1,4 +1,4 @@
--- An entry that is one of a list, by the list's parts.
+-- An entry is in two lists put together (`xs ++ ys`) exactly if it is in one of them. The code tests the first list, and then the second one.
 use Rattle.std.proofs.Common.{◌≡◌, ◌≢◌, ℕ, Bool, true, false, eqb, List, [], ◌∷◌, ◌++◌, refl, ap, sym, ◌∙◌, inl, inr}
 use Rattle.std.specs.Prelude.{◌||◌}
 use Rattle.std.proofs.lemmas.Bool.{cases_Bool, eqb-true}

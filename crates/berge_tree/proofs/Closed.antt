@@ -1,4 +1,4 @@
--- A tree that follows the equalities has each entry that they join to one of its entries.
+-- A tree that follows the equalities has each entry that the equalities join to an entry of the tree.
 use Rattle.std.proofs.Common.{◌≡◌, ◌≢◌, ℕ, List, [], ◌∷◌, ◌++◌, refl, ap, sym, ◌∙◌, subst, ◌⊎◌, inl, inr, Option, Some, None}
 use Rattle.std.specs.List.{Contains}
 use Rattle.std.proofs.lemmas.Bool.{cases_Bool}
@@ -14,9 +14,8 @@ use Rattle.berge_tree.specs.Rooted.{class_columns, member_places, AreItsColumns,
 use Rattle.berge_tree.proofs.NoCycle.{same_place-true, merged-yes, merged-no}
 use Rattle.berge_tree.proofs.Steps.{are_same, none_some}
 
--- ---- a column that is in a class with another one is named
+-- ---- if a column is in a class with another column, an equality names it
 
--- the column names its own class, and no other column is in it
 abbrev pub IsAlone : (Place → Place) → Place → Type 0
 IsAlone h u = (h u ≡ u) × ((p : Place) → p ≢ u → h p ≢ u)
 
@@ -35,7 +34,6 @@ merged_alone h l r u alone not_l not_r = (own, other)
       | inr n ↦ alone.1 p ne (sym (merged-no same_place h l r p n) ∙ is)
     ]
 
--- a column that is alone stays so, unless an equality names it
 pub named_or_alone : (es : List Edge) (h : Place → Place) (u : Place) → IsAlone h u → Contains (places_of es) u ⊎ IsAlone (classes_from h es) u
 named_or_alone [] h u alone = inr alone
 named_or_alone (e ∷ es) h u alone = elim (are_same u e.left) [
@@ -55,7 +53,7 @@ named es u v e ne = elim (named_or_alone es (λ p. p) u (refl, λ p d. d)) [
   | inr a ↦ absurd (a.1 v (λ is. ne (sym is)) (sym e ∙ a.0))
 ]
 
--- ---- closed
+-- ---- if the tree has an entry of a class, it has all entries of the class
 
 member_in : (ms : Members) (q : Place) → Contains (member_places ms) q → Contains (entries_within ms) q.entry
 member_in (one_member entry column below) q k = elim (one_in (place entry column) [] q k) [
@@ -68,7 +66,6 @@ member_in (and_member entry column below rest) q k = elim (one_in (place entry c
 ]
 
 module _ (es : List Edge) where
-  -- all columns of the class of r are those of the members and r
   within_class : (r : Place) (ms : Members) → AreItsOthers es r ms → (q : Place) → class_of es r ≡ class_of es q → Contains (entries_within ms) q.entry ⊎ (q.entry ≡ r.entry)
   within_class r ms h q e = elim (are_same q r) [
     | inl is ↦ inr (ap (λ (u : Place). u.entry) is)
@@ -89,7 +86,6 @@ module _ (es : List Edge) where
     ]
   ]
 
-  -- at an entry: by its column above or by one below
   at_entry : (z : ℕ) (above : Option ℕ) (below : Classes) → AreItsColumns es z above (class_columns below) → FollowsBelow es z below → (q q' : Place) → q.entry ≡ z → class_of es q ≡ class_of es q'
       → above ≢ Some q.column → Contains (entries_below below) q'.entry ⊎ (q'.entry ≡ z)
   at_entry z above below columns f q q' q_at e off = elim (are_same q q') [

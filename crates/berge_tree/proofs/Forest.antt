@@ -1,4 +1,4 @@
--- One tree for each component.
+-- `forest` makes one tree for each component of the entries: the trees have each entry once.
 use Rattle.std.proofs.Common.{◌≡◌, ◌≢◌, ℕ, true, false, eqb, List, [], ◌∷◌, ◌++◌, ◌+◌, ◌<◌, ◌≤◌, arith, refl, sym, ◌∙◌, subst, ◌⊎◌, inl, inr, None}
 use Rattle.std.specs.List.{Contains, AllByRecursion, AllPairs}
 use Rattle.std.specs.List.Sorted.{IsStrictlyIncreasing}
@@ -51,7 +51,7 @@ distinct_avoiding (x ∷ xs) ys dx dy h = (
   distinct_avoiding xs ys dx.1 dy (all_map (λ e. Contains (x ∷ xs) e → ⊥) (λ e. Contains xs e → ⊥) (λ e k m. k (in_rest x xs e m)) ys h),
 )
 
--- a set of entries that has with one column of a class the others
+-- if the set has one entry of a class, it has all entries of the class
 abbrev pub IsClosed : List Edge → List ℕ → Type 0
 IsClosed es done = (u v : Place) → class_of es u ≡ class_of es v → Contains done u.entry → Contains done v.entry
 

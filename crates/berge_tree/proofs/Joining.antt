@@ -11,7 +11,6 @@ use Rattle.berge_tree.proofs.Steps.{same_place-is}
 abbrev at_place : (ℕ → ℕ → ℕ) → Place → ℕ
 at_place key p = key p.entry p.column
 
--- what is equal along the equalities is equal at a column and at the name of its class
 named : (key : ℕ → ℕ → ℕ) (h : Place → Place) → ((p : Place) → at_place key (h p) ≡ at_place key p) → (es : List Edge)
     → AllByRecursion (λ e. key e.left.entry e.left.column ≡ key e.right.entry e.right.column) es → (p : Place) → at_place key (classes_from h es p) ≡ at_place key p
 named key h same [] all p = same p
@@ -43,7 +42,6 @@ joins h l r = left ∙ sym (merged-yes same_place h l r r (same_place-is (h r) (
     left : merged h l r l ≡ h l
     left = elim (cases_Bool (same_place (h l) (h r))) [ inl t ↦ merged-yes same_place h l r l t | inr n ↦ merged-no same_place h l r l n ]
 
--- columns that are equal wherever all equalities hold have one class
 pub class_of-joined : (es : List Edge) (p q : Place) → AreInOneClass es p q → class_of es p ≡ class_of es q
 class_of-joined es p q joined =
     by_parts (class_of es p) (class_of es q)

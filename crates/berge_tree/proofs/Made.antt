@@ -1,4 +1,4 @@
--- The walk makes a tree that follows the equalities.
+-- The walk makes a tree that follows the equalities: below an entry stand its other classes, and below a class its other entries.
 use Rattle.std.proofs.Common.{◌≡◌, ◌≢◌, ℕ, Bool, true, false, not, eqb, List, [], ◌∷◌, ◌+◌, ◌<◌, ◌≤◌, zero, suc, length, map, arith, refl, ap, sym, ◌∙◌, subst, inl, inr, Option, Some, None}
 use Rattle.std.specs.Prelude.{filter}
 use Rattle.std.specs.List.{Contains, AllByRecursion, IsDistinct, list_any}
@@ -85,7 +85,6 @@ mapped : (f : Column → ℕ) (n : ℕ) (cs : List Column) → AllByRecursion (�
 mapped f n [] h = tt
 mapped f n (c ∷ cs) h = (h.0, mapped f n cs h.1)
 
--- later columns of one entry have greater numbers
 columns_increase : (y : ℕ) (cs : List Column) → Ascend cs → AllByRecursion (λ c. c.place.entry ≡ y) cs → IsStrictlyIncreasing (map (λ (c : Column). c.place.column) cs)
 columns_increase y [] h at = λ k l. absurd (omega (arith, l))
 columns_increase y (c ∷ cs) h at = rising c.place.column (map (λ (d : Column). d.place.column) cs) (mapped (λ d. d.place.column) c.place.column cs (greater cs h.0 at.1)) (columns_increase y cs h.1 at.1)
@@ -94,7 +93,6 @@ columns_increase y (c ∷ cs) h at = rising c.place.column (map (λ (d : Column)
     greater [] k m = tt
     greater (d ∷ ds) k m = (elim (before_cases c.place d.place k.0) [ inl less ↦ absurd (omega (arith, less, at.0, m.0)) | inr same ↦ same.1 ], greater ds k.1 m.1)
 
--- where no two are of one entry, later columns are of greater entries
 entries_increase : (cs : List Column) → Ascend cs → ((c d : Column) → Contains cs c → Contains cs d → c.place.entry ≡ d.place.entry → c.place ≡ d.place) → IsStrictlyIncreasing (map (λ (c : Column). c.place.entry) cs)
 entries_increase [] h one = λ k l. absurd (omega (arith, l))
 entries_increase (c ∷ cs) h one =
@@ -151,7 +149,7 @@ map_map : (cs : List Column) → map (λ (p : Place). p.entry) (map (λ (c : Col
 map_map [] = refl
 map_map (c ∷ cs) = ap (λ xs. c.place.entry ∷ xs) (map_map cs)
 
--- ---- what the tests say
+-- ---- what it means that a test is true or false
 
 above_false : (above : Option ℕ) (c : ℕ) → is_above above c ≡ false → above ≢ Some c
 above_false None c e f = none_some c f
@@ -277,7 +275,7 @@ classes_made es y members (c ∷ cs) at good =
     let c_is : c.place ≡ place y c.place.column = by_parts c.place (place y c.place.column) (at c (in_front c cs c refl)) refl in
     rw g.is (ap (λ ns. c.place.column ∷ ns) rest.0, (subst (λ u. AreItsOthers es u g.members) c_is g.others, g.follows, rest.1))
 
--- ---- the fuel is enough
+-- ---- the depth is enough
 
 apart : (x : ℕ) (xs : List ℕ) → AllByRecursion (λ y. x ≢ y) xs → AllByRecursion (λ y. eqb x y ≡ false) xs
 apart x [] h = tt
@@ -303,7 +301,6 @@ not_in y [] h = tt
 not_in y (x ∷ xs) h = (λ is. h (in_front x xs y is), not_in y xs (λ k. h (in_rest x xs y k)))
 
 module _ (es : List Edge) (nc : HasNoCycle (class_of es)) (differ : Differ es) (columns : List Column) (are : AreColumnsOf es columns) (n : ℕ) (small : (p : Place) → Contains (places_of es) p → p.entry < n) where
-  -- one level, over what stands below it
   level : (depth : ℕ) (y : ℕ) (above : Option ℕ)
       → ((c : Column) → Contains columns c → c.place.entry ≡ y → above ≢ Some c.place.column → (d : Column) → Contains columns d → class_of es c.place ≡ class_of es d.place → d.place ≢ c.place
       → AreItsColumns es d.place.entry (Some d.place.column) (class_columns (walked depth columns d.place.entry (Some d.place.column))) × FollowsBelow es d.place.entry (walked depth columns d.place.entry (Some d.place.column)))
@@ -338,7 +335,7 @@ module _ (es : List Edge) (nc : HasNoCycle (class_of es)) (differ : Differ es) (
   less_left : (k depth : ℕ) → n ≤ k + suc depth → n ≤ suc k + depth
   less_left k depth h = omega (arith, h)
 
-  -- the depth is enough, since the entries above are different
+  -- each step down the walk goes to an entry that isn't yet above, so `depth` is never used up
   pub walked_follows : (depth : ℕ) (P : List ℕ) (y : ℕ) (above : Option ℕ) → IsReached (class_of es) P y above → Distinct P → AllByRecursion (λ x. x < n) P → y < n → n ≤ length P + depth
       → AreItsColumns es y above (class_columns (walked depth columns y above)) × FollowsBelow es y (walked depth columns y above)
   walked_follows zero P y above reached d low y_low enough =

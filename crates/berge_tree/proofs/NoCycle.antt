@@ -6,7 +6,7 @@ use Rattle.berge_tree.specs.declared.edges.Place.{Place}
 use Rattle.berge_tree.specs.declared.edges.Edge.{Edge}
 use Rattle.berge_tree.specs.Equalities.{same_place, merged, classes_from, class_of, side_seen, IsBridge, HasNoCycle, AreApart, ClosesNoCycleAfter, ClosesNoCycle}
 
--- where a and b become joined, the part of b takes the name of the part of a
+-- `name` gives names of parts. If a and b become joined, the part of b takes the name of the part of a
 abbrev pub merged_by : {A : Type 0} → (A → A → Bool) → (A → A) → A → A → A → A
 merged_by same name a b x = cond (same (name x) (name b)) (name a) (name x)
 
@@ -49,7 +49,7 @@ flip-not : (d b : Bool) → not (flip d b) ≡ flip d (not b)
 flip-not true b = refl
 flip-not false b = refl
 
--- what is known while equalities are read: the parts of entries and of columns
+-- after some equalities were read, `g` names the part of each entry, and `h` the class of each column
 record Sound (g : ℕ → ℕ) (h : Place → Place) : Type 0 where
   part : (p q : Place) → h p ≡ h q → g p.entry ≡ g q.entry
   one : (p q : Place) → h p ≡ h q → p.entry ≡ q.entry → p ≡ q
@@ -62,7 +62,7 @@ module _ (g : ℕ → ℕ) (h : Place → Place) (l r : Place) (s : Sound g h) (
   abbrev h' : Place → Place
   h' = merged_by same_place h l r
 
-  -- how two columns come to be in one class
+  -- after an equality between l and r was read, two columns can be in one class in these three ways
   data Met (p q : Place) : Type 0 where
     before : h p ≡ h q → Met p q
     first : h p ≡ h r → h q ≡ h l → Met p q
@@ -143,11 +143,10 @@ module _ (g : ℕ → ℕ) (h : Place → Place) (l r : Place) (s : Sound g h) (
     bridge = λ p. bridge_of p (s.bridge p);
   }
 
--- each equality lies on one side
 abbrev pub LiesTogether : (ℕ → Bool) → List Edge → Type 0
 LiesTogether side es = AllByRecursion (λ e. side e.left.entry ≡ side e.right.entry) es
 
--- sides that equalities keep together can't tell an entry from the name of its part
+-- let the entries be put on two sides so that each earlier equality is within one side. Then an entry is on the side of the entry that names its part
 abbrev AreParts : (ℕ → ℕ) → List Edge → Type 0
 AreParts g earlier = (side : ℕ → Bool) → LiesTogether side earlier → (x : ℕ) → side (g x) ≡ side x
 
@@ -182,12 +181,10 @@ has_no_cycle es closes =
     let sound : (c : ℕ → ℕ) × Sound c (class_of es) = sound_after (λ e. e) (λ p. p) [] es start_sound (λ side all x. refl) closes in
     record { one_column = sound.1.one; bridges = sound.1.bridge }
 
--- an equality never joins two columns of one entry
 pub ends_differ : (earlier es : List Edge) → ClosesNoCycleAfter earlier es → AllByRecursion (λ e. e.left.entry ≢ e.right.entry) es
 ends_differ earlier [] closes = tt
 ends_differ earlier (e ∷ es) closes = ((λ same. closes.0.across (ap closes.0.side same)), ends_differ (e ∷ earlier) es closes.1)
 
--- names that the equalities keep equal, but a and b don't share, tell that nothing connects a with b
 pub apart_by : (es : List Edge) (a b : ℕ) (name : ℕ → ℕ) → AllByRecursion (λ e. name e.left.entry ≡ name e.right.entry) es → name a ≢ name b → AreApart es a b
 apart_by es a b name same differ = record {
   side = λ x. eqb (name x) (name a);

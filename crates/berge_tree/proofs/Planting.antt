@@ -1,4 +1,4 @@
--- The trees of a set are planted one after another.
+-- The loop makes the trees of a set, one after another. After its last step it has all trees of `forest`.
 use Rattle.std.proofs.Common.{◌≡◌, ℕ, suc, ◌+◌, Bool, true, false, eqb, List, [], ◌∷◌, ◌++◌, map, cond, refl, ap, sym, ◌∙◌, subst, inl, inr}
 use Rattle.std.specs.Prelude.{◌||◌}
 use Rattle.std.specs.Int.{bit_at}
@@ -18,7 +18,7 @@ use Rattle.berge_tree.proofs.Among.{among-append}
 use Rattle.berge_tree.proofs.Listing.{columns_are}
 use Rattle.berge_tree.proofs.Forest.{all_trees}
 
--- ---- what stands in the trees
+-- ---- which entries are in the trees
 
 abbrev stands_among : List BergeTree → ℕ → Bool
 stands_among [] x = false
@@ -38,9 +38,9 @@ stands_push : (ts : List BergeTree) (t : BergeTree) (x : ℕ) → stands_among (
 stands_push [] t x = refl
 stands_push (u ∷ ts) t x = ap (λ b. is_among (entries u) x || b) (stands_push ts t x) ∙ or_swap (is_among (entries u) x) (is_among (entries t) x) (stands_among ts x)
 
--- ---- planting
+-- ---- one step of the loop
 
--- the trees so far, with those still to come, are the whole
+-- the trees that were made so far and the trees that are still to come are together `whole`
 pub record Planting (columns : List Column) (trees : List Tree) (rest : List ℕ) (whole : List BergeTree) : Type 0 where
   pub done : List ℕ
   pub same : (e : ℕ) → is_among done e ≡ stands_in trees e
@@ -88,7 +88,7 @@ planting_more columns trees more subset first count left whole left_is bit is so
     planted columns trees more first (entries_from subset (first + 1) count) whole is
     (subst (λ xs. Planting columns trees xs whole) (ap (entries_from subset first) left_is ∙ from_next subset first count bit) so_far)
 
--- ---- all are planted
+-- ---- all trees are made
 
 module _ (es : List Edge) (closes : ClosesNoCycle es) (subset : ℕ) (inside : AreWithin (entries_of_set subset) es) where
   all_planted : AreAllTreesOf es (entries_of_set subset) (forest 16 (columns_of es) [] (entries_of_set subset))

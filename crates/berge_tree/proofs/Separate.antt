@@ -55,7 +55,7 @@ entry_in (and_member entry column below rest) q k = elim (one_in (record { entry
   | inr is ↦ in_front entry (member_entries rest) q.entry (ap (λ (u : Place). u.entry) is)
 ]
 
--- one side for the columns of each class that no entry of P has
+-- the columns of a class are on one side, unless an entry of P has a column in the class
 abbrev pub ConstOutside : (Place → Place) → List ℕ → (ℕ → Bool) → Type 0
 ConstOutside class P side = (u v : Place) → class u ≡ class v → ((p : Place) → Contains P p.entry → class p ≡ class u → ⊥) → side u.entry ≡ side v.entry
 
@@ -75,7 +75,6 @@ module _ (es : List Edge) (nc : HasNoCycle (class_of es)) where
   others_rest : (r : Place) (entry column : ℕ) (below : Classes) (rest : Members) → AreOthers r (and_member entry column below rest) → AreOthers r rest
   others_rest r entry column below rest h q k = h q (in_rest (place entry column) (member_places rest) q k)
 
-  -- the entry of a member is reached
   next : (P : List ℕ) (y : ℕ) (above : Option ℕ) → IsReached (class_of es) P y above → (r s : Place) → r.entry ≡ y → above ≢ Some r.column → (class_of es r ≡ class_of es s) × (s ≢ r)
       → IsReached (class_of es) (y ∷ P) s.entry (Some s.column)
   next P y above reached r s r_at r_off h = step (class_of es) nc P y above reached r s r_at r_off h.0 h.1
@@ -203,7 +202,6 @@ module _ (es : List Edge) (nc : HasNoCycle (class_of es)) where
         once_below [] t.root None (root_reached (class_of es) t.root) t.below (AllPairs-from_increasing (class_columns t.below) columns.ascending) off f,
       )
 
-  -- where each class has one side, the tree has one
   pub one_side : (t : BergeTree) → AreItsColumns es t.root None (class_columns t.below) → FollowsBelow es t.root t.below
       → (side : ℕ → Bool) → ((u v : Place) → class_of es u ≡ class_of es v → side u.entry ≡ side v.entry) → AllByRecursion (λ e. side e ≡ side t.root) (entries t)
   one_side t columns f side const = (

@@ -1,4 +1,4 @@
--- One step of a walk from an entry through a class.
+-- A walk goes from an entry through a class to another entry. If the equalities close no cycle, each step leads to an entry that isn't above (`IsReached`).
 use Rattle.std.proofs.Common.{◌≡◌, ◌≢◌, ℕ, Bool, true, false, not, List, [], ◌∷◌, ◌<◌, suc, arith, refl, ap, sym, ◌∙◌, subst, ◌⊎◌, inl, inr, Option, Some, None}
 use Rattle.std.specs.Prelude.{⊤}
 use Rattle.std.specs.List.{Contains}
@@ -67,12 +67,10 @@ pub avoided : (class : Place → Place) (P : List ℕ) (y : ℕ) (above : Option
 avoided class P y None h k = h.fresh (record { entry = y; column = 0 }) refl (none_some 0) (record { entry = y; column = 0 }) k refl
 avoided class P y (Some c) h k = h.fresh (record { entry = y; column = suc c }) refl (another c) (record { entry = y; column = suc c }) k refl
 
--- away from the class of r its bridge has one side
 pub off_class : (class : Place → Place) (r : Place) (b : IsBridge class r) (u v : Place) → class u ≡ class v → class u ≢ class r → b.side u.entry ≡ b.side v.entry
 off_class class r b u v e differ =
     sym (seen_off b.side r u (λ is. differ (ap class is))) ∙ b.together u v e ∙ seen_off b.side r v (λ is. differ (e ∙ ap class is))
 
--- the other columns of r's class are on the far side
 pub far : (class : Place → Place) (r : Place) (b : IsBridge class r) (s : Place) → class r ≡ class s → s ≢ r → b.side s.entry ≡ not (b.side r.entry)
 far class r b s same ne = sym (seen_off b.side r s ne) ∙ b.together s r (sym same) ∙ seen_at b.side r
 

@@ -1,4 +1,4 @@
--- What the tests by computation show.
+-- The tests `joins_parts` and `has_entries` can be run. If they give true, the equalities close no cycle, and they name only entries of the set.
 use Rattle.std.proofs.Common.{◌≡◌, ℕ, true, false, not, ◌&&◌, eqb, ltb, List, [], ◌∷◌, refl, sym, ◌∙◌, subst, inl, inr}
 use Rattle.std.specs.Int.{bit_at}
 use Rattle.std.specs.List.{AllByRecursion}

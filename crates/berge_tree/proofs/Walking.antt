@@ -1,4 +1,4 @@
--- One step down a walk.
+-- The specification matches on `suc depth`, and the code subtracts one. Both make the same step.
 use Rattle.std.proofs.Common.{◌≡◌, ℕ, zero, suc, ◌-◌, ◌≤◌, List, ap, arith}
 use Rattle.std.specs.Prelude.{Option}
 use Rattle.berge_tree.specs.declared.columns.Column.{Column}

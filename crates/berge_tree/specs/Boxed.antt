@@ -1,4 +1,4 @@
--- The tree that boxes hold: the same, without the boxes' addresses.
+-- The tree that boxes contain, without the boxes' addresses.
 use Rattle.std.specs.Prelude.{Option, Some, None}
 use Rattle.berge_tree.specs.declared.tree.Classes.{Classes as ClassBoxes}
 use Rattle.berge_tree.specs.declared.tree.Classes.TheVariants as classes
@@ -16,7 +16,7 @@ abbrev mutual
   members_of (members.One entry column below) = one_member entry column (classes_of below)
   members_of (members.And' entry column below p rest) = and_member entry column (classes_of below) (members_of rest)
 
--- members, where there are any
+-- the members, if there are any
 abbrev pub some_members_of : Option MemberBoxes → Option Members
 some_members_of None = None
 some_members_of (Some members) = Some (members_of members)

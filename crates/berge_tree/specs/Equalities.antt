@@ -21,13 +21,13 @@ AreWithin set es = AllByRecursion (λ e. Contains set e.left.entry × Contains s
 
 -- ---- connected entries
 
--- no equalities connect a with b: the entries can be put on two sides so that each equality is within a side, but a and b are on different ones
+-- no equalities connect a with b: the entries can be put on two sides so that each equality is within a side, but a and b are on different sides
 pub record AreApart (es : List Edge) (a b : ℕ) : Type 0 where
   pub side : ℕ → Bool
   pub together : AllByRecursion (λ e. side e.left.entry ≡ side e.right.entry) es
   pub across : side a ≢ side b
 
--- each further equality joins two entries that nothing before it connects
+-- each of these equalities joins two entries that the equalities before it don't connect
 abbrev pub ClosesNoCycleAfter : List Edge → List Edge → Type 0
 ClosesNoCycleAfter earlier [] = ⊤
 ClosesNoCycleAfter earlier (e ∷ es) = AreApart earlier e.left.entry e.right.entry × ClosesNoCycleAfter (e ∷ earlier) es
@@ -37,7 +37,7 @@ ClosesNoCycle es = ClosesNoCycleAfter [] es
 
 -- ---- classes of columns
 
--- each column has the name of its class. Where a and b become equal, the class of b takes the name of the class of a
+-- `name` gives each column the name of its class. If the columns a and b become equal, the class of b takes the name of the class of a
 abbrev pub merged : (Place → Place) → Place → Place → Place → Place
 merged name a b p = if same_place (name p) (name b) then name a else name p
 
@@ -49,7 +49,7 @@ classes_from name (e ∷ es) = classes_from (merged name e.left e.right) es
 abbrev pub class_of : List Edge → Place → Place
 class_of es = classes_from (λ p. p) es
 
--- whenever keys are equal in the two columns of each equality, they are equal in these two columns
+-- p and q are in one class: whenever keys are equal in the two columns of each equality, the keys in p and q are equal
 abbrev pub AreInOneClass : List Edge → Place → Place → Type 0
 AreInOneClass es p q =
     (key : ℕ → ℕ → ℕ) → AllByRecursion (λ e. key e.left.entry e.left.column ≡ key e.right.entry e.right.column) es
@@ -57,7 +57,7 @@ AreInOneClass es p q =
 
 -- ---- no cycle of entries and classes
 
--- the side of the entry of column q, but for p itself the other side
+-- the side of column q: the side of its entry, but the other side for the column p itself
 abbrev pub side_seen : (ℕ → Bool) → Place → Place → Bool
 side_seen side p q = if same_place q p then not (side q.entry) else side q.entry
 

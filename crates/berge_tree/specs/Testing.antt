@@ -1,14 +1,14 @@
--- Tests by computation. If they are true of equalities, `rooted` may be called with them.
+-- Tests by computation. If they are true of equalities, `rooted` may be called with these equalities.
 use Rattle.std.specs.Prelude.{ℕ, Bool, true, not, ◌&&◌, ◌==◌, if◌then◌else◌, List, [], ◌∷◌}
 use Rattle.entry_sets.specs.Sets.{has_entry}
 use Rattle.berge_tree.specs.declared.edges.Edge.{Edge}
 use Rattle.berge_tree.specs.Equalities.{place}
 
--- each entry has the name of its part. Where a and b become connected, the part of b takes the name of the part of a
+-- `name` gives each entry the name of its part. If the entries a and b become connected, the part of b takes the name of the part of a
 abbrev pub joined_parts : (ℕ → ℕ) → ℕ → ℕ → ℕ → ℕ
 joined_parts name a b x = if name x == name b then name a else name x
 
--- each equality in turn joins two parts
+-- each equality in turn joins two different parts
 abbrev pub joins_parts : (ℕ → ℕ) → List Edge → Bool
 joins_parts name [] = true
 joins_parts name (e ∷ es) = not (name e.left.entry == name e.right.entry) && joins_parts (joined_parts name e.left.entry e.right.entry) es

@@ -1,4 +1,4 @@
--- How the code finds the trees. What a tree is, and which trees they are, is said in Trees and Rooted.
+-- How the code finds the trees. Trees says what a tree is, and Rooted says which trees equalities have.
 use Rattle.std.specs.Prelude.{◌≡◌, ◌≢◌, ℕ, zero, suc, ◌+◌, ◌<◌, ◌≤◌, Bool, true, false, not, ◌&&◌, ◌||◌, ◌==◌, nat_lt, if◌then◌else◌, ⊤, List, [], ◌∷◌, ◌++◌, length, map, filter, drop, slice_index_or, Option, Some, None}
 use Rattle.std.specs.List.{AllByRecursion, Contains}
 use Rattle.berge_tree.specs.declared.edges.Place.{Place}
@@ -67,7 +67,7 @@ is_at entry above c = (c.place.entry == entry) && not (is_above above c.place.co
 abbrev pub is_other : Column → Column → Bool
 is_other above c = same_place above.class c.class && not (same_place above.place c.place)
 
--- one more member, before the others if there are any
+-- one more member is put before the other members, if there are any
 abbrev pub joined_members : ℕ → ℕ → Classes → Option Members → Option Members
 joined_members entry column below None = Some (one_member entry column below)
 joined_members entry column below (Some rest) = Some (and_member entry column below rest)
@@ -84,25 +84,25 @@ abbrev pub classes_with : (Column → Option Members) → List Column → Classe
 classes_with members [] = no_class
 classes_with members (c ∷ cs) = joined_classes c.place.column (members c) (classes_with members cs)
 
--- the classes below an entry, to a depth
+-- the classes below an entry, down to a depth
 abbrev pub walked : ℕ → List Column → ℕ → Option ℕ → Classes
 walked zero columns entry above = no_class
 walked (suc depth) columns entry above =
     classes_with (λ c. members_with (λ d. walked depth columns d.place.entry (Some d.place.column)) (filter (is_other c) columns))
     (filter (is_at entry above) columns)
 
--- the classes below an entry for those of its columns that stand at place `from` or later, with all that is below them to a depth
+-- the classes below an entry, for those of the entry's columns that stand in `columns` at place `from` or later, each down to a depth
 abbrev pub classes_at : ℕ → List Column → ℕ → ℕ → Option ℕ → Classes
 classes_at depth columns from entry above =
     classes_with (λ c. members_with (λ d. walked depth columns d.place.entry (Some d.place.column)) (filter (is_other c) columns))
     (filter (is_at entry above) (drop from columns))
 
--- those members of a class whose columns stand at place `from` or later
+-- the members of the class of `above` whose columns stand in `columns` at place `from` or later
 abbrev pub members_at : ℕ → List Column → ℕ → Column → Option Members
 members_at depth columns from above =
     members_with (λ d. walked depth columns d.place.entry (Some d.place.column)) (filter (is_other above) (drop from columns))
 
--- each column has another one in its class
+-- each column has another column in its class
 abbrev pub HaveOthers : List Column → Type 0
 HaveOthers columns = (c : Column) → Contains columns c → filter (is_other c) columns ≢ []
 
@@ -123,7 +123,7 @@ abbrev pub is_among : List ℕ → ℕ → Bool
 is_among [] x = false
 is_among (y ∷ ys) x = if y == x then true else is_among ys x
 
--- a tree for each entry that no tree before has
+-- a tree for each entry that isn't in an earlier tree
 abbrev pub forest : ℕ → List Column → List ℕ → List ℕ → List BergeTree
 forest depth columns done [] = []
 forest depth columns done (x ∷ xs) =

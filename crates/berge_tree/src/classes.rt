@@ -8,7 +8,7 @@ use base_io::{NoMemory, Seq};
 use std::alloc::Global;
 use std::marker::Model;
 
-/// Equalities, with the classes of columns that they make. Contracts see it as the equalities alone.
+/// Equalities, with the classes of columns that they make. Contracts see only the equalities.
 #[derive(Drop)]
 pub struct Classed {
     edges: Seq<Edge>,
@@ -43,7 +43,7 @@ impl Classed {
         self.edges.as_slice()
     }
 
-    /// Whether both columns of another equality are in one class of these.
+    /// Whether both columns of an equality are in one class of these equalities.
     pub fn are_in_one(&self, edge: Edge) -> bool
         ensures { result ≡ same_place (class_of self.now edge.left) (class_of self.now edge.right) }
     {

@@ -15,19 +15,20 @@ pub fn classes_are_joined_columns()
     ensures { (es : List Edge) (p q : Place) → (class_of es p ≡ class_of es q) ↔ AreInOneClass es p q }
 {}
 
-/// Where equalities close no cycle between entries, no class has two columns of one entry, and entries and classes make no cycle.
+/// If equalities close no cycle between entries, no class has two columns of one entry, and entries and classes make no cycle.
 pub fn no_cycle_of_classes()
     ensures { (es : List Edge) → ClosesNoCycle es → HasNoCycle (class_of es) }
 {}
 
-/// Two entries are apart if they have different names, and each equality joins entries of the same name.
+/// Two entries are apart, that is, no equalities connect them, if entries can be named like this: each equality joins entries of one name, and the
+/// two entries have different names.
 pub fn names_keep_entries_apart()
     ensures { (es : List Edge) (a b : ℕ) (name : ℕ → ℕ)
         → AllByRecursion (λ e. name e.left.entry ≡ name e.right.entry) es
         → name a ≢ name b → AreApart es a b }
 {}
 
-/// Equalities close no cycle if each in turn joins two parts.
+/// Equalities close no cycle if `joins_parts` is true of them: each equality in turn joins two different parts.
 pub fn joined_parts_close_no_cycle()
     ensures { (es : List Edge) → joins_parts (λ e. e) es ≡ true → ClosesNoCycle es }
 {}
@@ -38,7 +39,7 @@ pub fn bits_tell_what_a_set_has()
         → AreWithin (entries_of_set subset) es }
 {}
 
-/// A tree of equalities is a component: it has every entry that they connect with its root, no other entry, and each entry once.
+/// A tree of equalities is a component: it has every entry that the equalities connect with its root, no other entry, and each entry once.
 pub fn a_tree_is_a_component()
     ensures whole { (es : List Edge) (t : BergeTree) → IsTreeOf es t
         → (p q : Place) → Contains (entries t) p.entry → class_of es p ≡ class_of es q

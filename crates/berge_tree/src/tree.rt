@@ -1,6 +1,6 @@
 //! Join trees, each part in a box of its own.
 
-/// The classes below an entry, each with the entry's column in it, the entries below it and the classes beside it.
+/// A list of the classes below an entry. Each item has the entry's column in the class, the entries below the class, and the rest of the list.
 #[cycle(trees)]
 #[derive(Drop)]
 pub enum Classes {
@@ -8,7 +8,8 @@ pub enum Classes {
     And(u32, Box<Members>, Box<Classes>),
 }
 
-/// The entries below a class, one or more, each with its column in the class, the classes below it and the entries beside it.
+/// A list of the entries below a class, one or more. Each item has the entry, its column in the class, the classes below the entry, and the rest of
+/// the list.
 #[cycle(trees)]
 #[derive(Drop)]
 pub enum Members {

@@ -17,7 +17,7 @@ use std::alloc::Global;
 // An entry stands once in a tree, and there are at most sixteen entries, so no tree is deeper.
 const DEPTH: u8 = 16;
 
-// Whether this is a column of the entry, but not its column in the class above.
+// Whether the column is a column of the entry, but not the entry's column in the class above.
 fn is_at(column: Column, entry: u8, above: Option<u32>) -> bool
     ensures { result ≡ is_at entry above column }
 {
@@ -57,7 +57,7 @@ fn next_other(columns: &[Column], from: usize, above: Column) -> Option<usize>
     None
 }
 
-// The classes below an entry for those of its columns that stand at place `from` or later.
+// The classes below an entry, for those of the entry's columns that stand in `columns` at place `from` or later.
 #[cycle(walk)]
 fn classes_at(
     alloc: Global,
@@ -85,7 +85,8 @@ fn classes_at(
     }
 }
 
-// The members of a class whose columns stand at place `from` or later, each with all that is below it. `None` if there are no such members.
+// The members of the class of `above` whose columns stand in `columns` at place `from` or later, each with the classes below it. `None` if there is
+// no member.
 #[cycle(walk)]
 fn members_at(
     alloc: Global,
@@ -110,7 +111,7 @@ fn members_at(
     }
 }
 
-// The classes below an entry, to a depth.
+// The classes below an entry, down to a depth.
 #[cycle(walk)]
 fn walked(
     alloc: Global,

@@ -1,4 +1,5 @@
--- The lists of what stands below an entry and below a class, part by part.
+-- The fold composes lists from the leaves of a join tree up. The lemmas are about its steps: the lists of the classes below an entry, and of the entries
+-- below a class.
 use Rattle.std.proofs.Common.{◌≡◌, ℕ, zero, suc, ◌^◌, ◌<◌, List, [], ◌∷◌, ◌++◌, length, get_or, map, refl, ap, sym, ◌∙◌, subst, sum, arith}
 use Rattle.std.specs.Borrow.{Bor}
 use Rattle.std.specs.Prelude.{Option, Some, None, IsSome, Result, Ok, Err, IfOk, unwrap_or}
@@ -34,7 +35,6 @@ total_of : (lists : EntryLists) (entry column : ℕ) (o : Option (List ℕ)) →
 total_of lists entry column None e h = absurd (cc h)
 total_of lists entry column (Some list) e h = sym (ap (λ (o : Option ℕ). unwrap_or o 0) (lists.sums entry column list e).1)
 
--- a list that is there sums to the row bound of its entry
 pub listed_total : (lists : EntryLists) (entry column : ℕ) → IsSome (list_of lists entry column) → sum ((bounds_of lists).list entry column) ≡ (bounds_of lists).rows entry
 listed_total lists entry column h = total_of lists entry column (list_of lists entry column) refl h
 
@@ -45,7 +45,6 @@ small_rows lists entry (Some n) e = lists.bounds entry n e
 rows_small : (lists : EntryLists) (entry : ℕ) → (bounds_of lists).rows entry < 2 ^ 64
 rows_small lists entry = small_rows lists entry (rows_of lists entry) refl
 
--- a list that was found has a small sum
 pub found_small : (lists : EntryLists) (entry column : ℕ) (list : List ℕ) → list ≡ (bounds_of lists).list entry column → IsSome (list_of lists entry column) → sum list < 2 ^ 64
 found_small lists entry column list is h = subst (λ n. n < 2 ^ 64) (sym (ap sum is ∙ listed_total lists entry column h)) (rows_small lists entry)
 
@@ -60,7 +59,6 @@ module _ (lists : EntryLists) (entry : ℕ) where
   each_total no_class h = tt
   each_total (and_class column members rest) h = (listed_total lists entry column h.0, each_total rest h.2)
 
-  -- the columns of all children sum to the row bound of the entry
   pub columns_total : (cs : Classes) (total : ℕ) (children : List Child) → EachColumnBelow (λ e c. IsSome (list_of lists e c)) entry cs
       → map lists_of children ≡ map saturated_class (child_lists (bounds_of lists) entry cs) → (bounds_of lists).rows entry ≡ total
       → (k : ℕ) (d : Child) → k < length children → sum (get_or children k d).column ≡ total
@@ -68,16 +66,14 @@ module _ (lists : EntryLists) (entry : ℕ) where
       at_each (λ c. sum c.column ≡ (bounds_of lists).rows entry) children
       (subst (AllByRecursion (λ (c : ChildLists). sum c.column ≡ (bounds_of lists).rows entry)) (sym same) (each_total cs h)) k d within ∙ is
 
--- ---- what becomes of them
+-- ---- the lists of an entry, of a class and of the root
 
--- what was gathered from nothing on
 pub gathered : (b : EntryBounds) (entry : ℕ) (cs : Classes) (none all children : List Child) → children ≡ all → map lists_of all ≡ map lists_of none ++ map saturated_class (child_lists b entry cs) → none ≡ []
     → map lists_of children ≡ map saturated_class (child_lists b entry cs)
 gathered b entry cs none all children is made empty =
     ap (map lists_of) is ∙ made ∙ ap (λ (start : List Child). map lists_of start ++ map saturated_class (child_lists b entry cs)) empty
 
 module _ (b : EntryBounds) (entry column : ℕ) where
-  -- one more class below an entry
   pub one_more_class : (ms : Members) (rest : Classes) (old pushed new : List Child) (own class : List ℕ) → own ≡ b.list entry column → class ≡ map saturated (class_list b ms)
       → pushed ≡ old ++ (let child : Child = record { column = own; class = class } in child) ∷ [] → map lists_of new ≡ map lists_of pushed ++ map saturated_class (child_lists b entry rest)
       → map lists_of new ≡ map lists_of old ++ map saturated_class (child_lists b entry (and_class column ms rest))
@@ -91,7 +87,6 @@ module _ (b : EntryBounds) (entry column : ℕ) where
       ∙ ap (λ (s : List ℕ). map lists_of old ++ (let c : ChildLists = record { column = s; class = class } in c) ∷ others) is_own
       ∙ ap (λ (s : List ℕ). map lists_of old ++ (let c : ChildLists = record { column = b.list entry column; class = s } in c) ∷ others) is_class
 
-  -- an entry, composed with what is below it
   pub entry_done : (cs : Classes) (children : List Child) (parent list : List ℕ) → map lists_of children ≡ map saturated_class (child_lists b entry cs) → parent ≡ b.list entry column
       → list ≡ map saturated (composed parent (map lists_of children)) → list ≡ map saturated (composed (b.list entry column) (child_lists b entry cs))
   entry_done cs children parent list same is_parent is_list =
@@ -100,7 +95,6 @@ module _ (b : EntryBounds) (entry column : ℕ) where
       ∙ saturated-composed parent (child_lists b entry cs)
       ∙ ap (λ (s : List ℕ). map saturated (composed s (child_lists b entry cs))) is_parent
 
-  -- a class with more than one entry
   pub class_done : (below : Classes) (rest : Members) (own others list : List ℕ) → own ≡ map saturated (composed (b.list entry column) (child_lists b entry below))
       → others ≡ map saturated (class_list b rest) → list ≡ map saturated (rank_product own others) → list ≡ map saturated (class_list b (and_member entry column below rest))
   class_done below rest own others list is_own is_others is_list =
@@ -110,7 +104,6 @@ module _ (b : EntryBounds) (entry column : ℕ) where
       ∙ ap (λ (s : List ℕ). map saturated (rank_product (map saturated first) s)) is_others
       ∙ saturated-rank_product first (class_list b rest)
 
--- the root weighs its rows
 pub root_done : (b : EntryBounds) (t : BergeTree) (rows n : ℕ) (children : List Child) → map lists_of children ≡ map saturated_class (child_lists b t.root t.below) → rows ≡ b.rows t.root
     → n ≡ saturated (root_total (map lists_of children) rows) → n ≡ saturated (bound_of_tree b t)
 root_done b t rows n children same is_rows is_n =

@@ -1,4 +1,4 @@
--- What the answer of the fold bounds.
+-- The number that the fold computes for a tree is never below the number of choices.
 use Rattle.std.proofs.Common.{◌≡◌, ◌⊎◌, ℕ, ◌-◌, ◌^◌, ◌≤◌, List, [], length, refl, sym, subst}
 use Rattle.std.specs.Prelude.{Option, Some, None, IsSome, unwrap_or}
 use Rattle.std.specs.List.{AllByRecursion}
@@ -14,7 +14,7 @@ use Rattle.bound_fold.specs.declared.lists.EntryLists.{EntryLists}
 use Rattle.bound_fold.specs.Lists.{bounds_of, list_of, IsListed}
 use Rattle.bound_fold.proofs.Below.{listed_total}
 
--- ---- what holds at each column
+-- ---- if Q implies R, and Q is true of each column of a tree, R is true of each column
 
 abbrev mutual
   pub carried_below : (Q R : ℕ → ℕ → Type 0) → ((entry column : ℕ) → Q entry column → R entry column) → (entry : ℕ) (cs : Classes) → EachColumnBelow Q entry cs → EachColumnBelow R entry cs
@@ -29,7 +29,6 @@ falls_there : (lists : EntryLists) (entry column : ℕ) (o : Option (List ℕ)) 
 falls_there lists entry column None e h = absurd (cc h)
 falls_there lists entry column (Some list) e h = (lists.sums entry column list e).0
 
--- a list that is there is a list of its entry
 pub has_list : (lists : EntryLists) (entry column : ℕ) → IsSome (list_of lists entry column) → HasList (bounds_of lists) entry column
 has_list lists entry column h = record { falls = falls_there lists entry column (list_of lists entry column) refl h; total = listed_total lists entry column h }
 
@@ -37,7 +36,7 @@ has_lists : (lists : EntryLists) (t : BergeTree) → IsListed lists t → TreeHa
 has_lists lists t listed =
     carried_below (λ entry column. IsSome (list_of lists entry column)) (HasList (bounds_of lists)) (has_list lists) t.root t.below listed.columns
 
--- ---- never under
+-- ---- the result is never below the number of choices
 
 pub choices_bounded : (lists : EntryLists) (t : BergeTree) (n : ℕ) → IsListed lists t → n ≡ saturated (bound_of_tree (bounds_of lists) t)
     → (tables : KeyedTables) → TreeDominates (bounds_of lists) tables t → (choices : List (ℕ → ℕ)) → AllByRecursion (Agrees tables t) choices → ChoicesAreDifferent (entries t) choices

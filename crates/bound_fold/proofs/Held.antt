@@ -1,4 +1,4 @@
--- Maps of row bounds and lists, before and after one more key.
+-- Row bounds and lists are kept in maps. The lemmas say what a map gives for each key after one key was put in.
 use Rattle.std.proofs.Common.{◌≡◌, ◌≢◌, ◌⊎◌, inl, inr, ℕ, ◌<◌, ◌^◌, Bool, true, false, ◌&&◌, List, Option, Some, None, refl, ap, sym, ◌∙◌, subst, sum}
 use Rattle.std.specs.Prelude.{Result, Ok, Err, OnOk, OnErr, nat_eq, if◌then◌else◌}
 use Rattle.std.specs.HashMap.{get, Updates, IsUnchanged}
@@ -7,7 +7,7 @@ use Rattle.std.proofs.lemmas.Bool.{eqb-true}
 use Rattle.degree_sequences.specs.Falling.{IsFalling}
 use Rattle.bound_fold.specs.Known.{MapOf, same_pair, rows_in, list_in, AreBounds, AreListsOf}
 
--- the map is as it was, or one key has a new value
+-- either the insertion failed and the map is as it was, or one key has a new value
 abbrev pub Puts : {K X : Type 0} → (K → K → Bool) → MapOf K X → MapOf K X → K → X → Type 0
 Puts {K} same old new k v = ((q : K) → get same new q ≡ get same old q) ⊎ ((q : K) → get same new q ≡ (if same k q then Some v else get same old q))
 
@@ -24,7 +24,6 @@ same_is a b e = by (nat_eq a.0 b.0) (nat_eq a.1 b.1) refl refl e
     by true false p q h = absurd (cc h)
     by false y p q h = absurd (cc h)
 
--- what a key has after it: the new value at the same key, or what it had
 at_key : {X : Type 0} (t : Bool) (v : X) (before : Option X) (x : X) → (if t then Some v else before) ≡ Some x → ((t ≡ true) × (v ≡ x)) ⊎ ((t ≡ false) × (before ≡ Some x))
 at_key true v before x e = inl (refl, cc e)
 at_key false v before x e = inr (refl, e)

@@ -1,4 +1,4 @@
--- An entry below which no class stands: nothing is composed with its list.
+-- If no class is below an entry, composing its list with nothing leaves the list as it is.
 use Rattle.std.proofs.Common.{◌≡◌, ℕ, ◌+◌, ◌^◌, ◌<◌, List, [], ◌∷◌, map, refl, ap, sym, ◌∙◌, sum, arith}
 use Rattle.std.specs.List.{All}
 use Rattle.std.proofs.lemmas.List.Sums.{sum_by-cons}
@@ -7,7 +7,6 @@ use Rattle.degree_sequences.specs.Falling.{IsFalling}
 use Rattle.degree_sequences.specs.Saturation.{saturated}
 use Rattle.piece_math.proofs.Composing.{All-recursion, composed-none}
 
--- numbers of a small sum fit
 fits : (s : List ℕ) → sum s < 2 ^ 64 → map saturated s ≡ s
 fits [] small = refl
 fits (x ∷ s) small =

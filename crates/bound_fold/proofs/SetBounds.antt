@@ -1,4 +1,4 @@
--- The bound of a set, tree by tree and turn by turn.
+-- The bound of a set is computed tree by tree and turn by turn. The lemmas are about the steps of both loops.
 use Rattle.std.proofs.Common.{◌≡◌, ◌⊎◌, ℕ, zero, suc, ◌+◌, ◌-◌, ◌*◌, ◌^◌, ◌<◌, ◌≤◌, min, List, [], ◌∷◌, ◌++◌, get_or, length, map, take, refl, ap, sym, ◌∙◌, subst, arith, add-one}
 use Rattle.std.specs.Prelude.{Result, Ok, Err, IfOk}
 use Rattle.std.specs.List.{AllByRecursion}
@@ -24,7 +24,6 @@ use Rattle.bound_fold.proofs.SetTrees.{set_has_lists, turn_listed}
 -- ---- the product over trees
 
 module _ (lists : EntryLists) where
-  -- each tree has its lists
   pub tree_listed : (trees : List Tree) (i : ℕ) (d : Tree) → AllByRecursion (IsListed lists) (map tree_of trees) → i < length trees → IsListed lists (tree_of (get_or trees i d))
   tree_listed [] i d h l = absurd (omega arith)
   tree_listed (tree ∷ trees) zero d h l = h.0
@@ -81,7 +80,7 @@ module _ (b : EntryBounds) (es : List Edge) (subset : ℕ) where
       let last : turn - 1 ≡ turn_count subset es - 1 = omega arith in
       before ∙ ap (λ j. saturated (least_to (bound_of_turn b es subset) j)) last
 
--- ---- never under
+-- ---- the bound of a set is never below the number of choices
 
 pub set_never_under : (lists : EntryLists) (es : List Edge) (subset n : ℕ) → SetIsListed lists es subset → n ≡ saturated (bound_of_set (bounds_of lists) es subset)
     → (tables : KeyedTables) → SetDominates (bounds_of lists) tables es subset → (choices : List (ℕ → ℕ))

@@ -1,4 +1,4 @@
--- Where a set has its lists, each tree of a turn has them, and they are lists of the set's entries.
+-- If a set has its lists, each tree of a turn has its lists. The lists of the set fall, and each sums to the row bound of its entry.
 use Rattle.std.proofs.Common.{ℕ, List, [], ◌∷◌, ◌++◌}
 use Rattle.std.specs.Prelude.{IsSome}
 use Rattle.std.specs.List.{AllByRecursion}
@@ -48,7 +48,7 @@ module _ (lists : EntryLists) (es : List Edge) (subset turn : ℕ) (h : SetIsLis
   pub turn_listed : (ts : List BergeTree) → AreAllTreesOf (kept_of subset turn es) (entries_of_set subset) ts → AllByRecursion (IsListed lists) ts
   turn_listed ts all = each_listed ts all.trees (in_trees es subset turn ts all HasRows h.rows)
 
--- ---- the lists of a set are lists of its entries
+-- ---- what a set's lists are
 
 pub set_has_lists : (lists : EntryLists) (es : List Edge) (subset : ℕ) → SetIsListed lists es subset → SetHasLists (bounds_of lists) es subset
 set_has_lists lists es subset h =

@@ -1,4 +1,5 @@
--- What holds of each entry whose bit is set, and of each equality, holds of a set.
+-- The code tests each entry number and each equality of the query. The tests of the entries whose bits are set say what is true of the set's entries. The
+-- tests of the equalities within the set say what is true of the set's equalities.
 use Rattle.std.proofs.Common.{Bor, zero, ◌≡◌, ℕ, suc, ◌+◌, ◌<◌, Bool, true, false, eqb, ltb, List, [], ◌∷◌, get_or, length, refl, ap, ◌∙◌, sym, subst, arith, inl, inr}
 use Rattle.std.specs.Prelude.{Option, Some, None, IsSome, IsTrue, MatchBool, ◌↔◌, is_some}
 use Rattle.std.specs.Option.{option_copied}
@@ -31,7 +32,6 @@ module _ (P : ℕ → Type 0) (subset : ℕ) where
       at : (k : ℕ) → (k < 16) × (bit_at subset k ≡ 1) → P k
       at k bits = h k bits.0 (has_it k bits.0 bits.1)
 
--- a fact of each equality
 pub edge_more : (P : Edge → Type 0) (es : List Edge) (i : ℕ) (e : Edge) → ((k : ℕ) (d : Edge) → k < i → P (get_or es k d)) → P (get_or es i e) → i < length es
     → (k : ℕ) (d : Edge) → k < i + 1 → P (get_or es k d)
 edge_more P es i e before here inside k d h = elim (cases_lt k i) [
@@ -39,7 +39,6 @@ edge_more P es i e before here inside k d h = elim (cases_lt k i) [
   | inr top ↦ (let same : k ≡ i = omega arith in subst P (get_or_default es i e d inside ∙ ap (λ j. get_or es j d) (sym same)) here)
 ]
 
--- at both columns of an equality, if it is one of the set
 abbrev pub AtBoth : (ℕ → ℕ → Type 0) → ℕ → Edge → Type 0
 AtBoth Q subset e = joins_within subset e ≡ true → Q e.left.entry e.left.column × Q e.right.entry e.right.column
 
@@ -53,7 +52,6 @@ each_named Q subset (e ∷ es) h =
       | inr apart ↦ rw apart later
     ]
 
--- what an equality of the set does not have, the set does not have
 pub named_at : (Q : ℕ → ℕ → Type 0) (subset : ℕ) (es : List Edge) → EachNamedColumn Q (equalities_within subset es) → (k : ℕ) (d : Edge) → k < length es → AtBoth Q subset (get_or es k d)
 named_at Q subset [] h k d low joins = absurd (omega arith)
 named_at Q subset (e ∷ es) h zero d low joins =
@@ -74,13 +72,12 @@ named_at Q subset (e ∷ es) h (suc k) d low joins = named_at Q subset es (later
     later true is = let named : EachNamedColumn Q (e ∷ equalities_within subset es) = subst (EachNamedColumn Q) (kept is) h in named.1.1
     later false is = subst (EachNamedColumn Q) (passed is) h
 
--- what an entry of the set does not have, the set does not have
 pub entry_at : (P : ℕ → Type 0) (subset : ℕ) → AllByRecursion P (entries_of_set subset) → (k : ℕ) → has_entry subset k ≡ true → P k
 entry_at P subset h k has =
     let bits : (ltb k 16 ≡ true) × (eqb (bit_at subset k) 1 ≡ true) = and_parts (ltb k 16) (eqb (bit_at subset k) 1) has in
     each P (entries_of_set subset) h k (set_bits_only subset k (ltb-true k 16 bits.0, eqb-true (bit_at subset k) 1 bits.1))
 
--- ---- answers of tests
+-- ---- results of tests
 
 pub some_or_not : {X : Type 0} (r o : Option X) (b : Bool) → r ≡ o → b ≡ is_some r → MatchBool b (IsSome o) (¬ IsSome o)
 some_or_not r (Some x) true e f = refl

@@ -1,4 +1,4 @@
--- Row bounds by entry, and lists by entry and column, as maps hold them.
+-- Row bounds by entry, and lists by entry and column, in hash maps.
 use Rattle.std.specs.Prelude.{◌≡◌, ℕ, ◌<◌, ◌^◌, ◌&&◌, nat_eq, Bool, List, Option, Some}
 use Rattle.std.specs.List.{sum}
 use Rattle.std.specs.declared.hash.FoldHasher.{FoldHasher}
@@ -10,7 +10,7 @@ use Rattle.degree_sequences.specs.Falling.{IsFalling}
 abbrev pub MapOf : Type 0 → Type 0 → Type 0
 MapOf K X = HashMap K X (BuildHasherDefault FoldHasher)
 
--- equal pairs
+-- whether two pairs are equal
 abbrev pub same_pair : ℕ × ℕ → ℕ × ℕ → Bool
 same_pair a b = nat_eq a.0 b.0 && nat_eq a.1 b.1
 

@@ -1,4 +1,4 @@
--- What an `EntryLists` holds, how it is read as `EntryBounds`, and what a tree needs of it.
+-- The row bounds and lists of an `EntryLists`, how they are read as `EntryBounds`, and which of them a tree needs.
 use Rattle.std.specs.Prelude.{ℕ, List, [], Option, unwrap_or, IsSome}
 use Rattle.std.specs.List.{AllByRecursion}
 use Rattle.berge_tree.specs.Trees.{BergeTree, entries}
@@ -23,7 +23,7 @@ bounds_of lists = record {
       (list_of lists entry column) [];
 }
 
--- every entry of a tree has its row bound, and every column of it its list
+-- every entry of a tree has its row bound, and every column of the tree has its list
 pub record IsListed (lists : EntryLists) (t : BergeTree) : Type 0 where
   pub rows : AllByRecursion (λ entry. IsSome (rows_of lists entry)) (entries t)
   pub columns : EachColumn (λ entry column. IsSome (list_of lists entry column)) t

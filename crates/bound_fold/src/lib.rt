@@ -3,12 +3,12 @@
 //! In: a tree of entries and classes, and for each entry a row bound and falling lists of its joined columns, as pieces. Out: one number
 //! of 128 bits.
 //!
-//! The fold goes from the leaves up. A class multiplies the lists of the entries below it, rank by rank. An entry composes its own list with
-//! the lists of the classes below it. The root sums the weights of its rows; this sum is the bound of the tree. In each turn a set of entries
-//! keeps some equalities, and multiplies the bounds of their trees. The least product of all turns is the bound of the set.
+//! The fold goes from the leaves up. A class multiplies the lists of the entries below it, rank by rank. An entry composes its own list with the
+//! lists of the classes below it. The root sums the weights of its rows; this sum is the bound of the tree. In each turn a set of entries keeps some
+//! equalities, and the bounds of the trees of these equalities are multiplied. The least product of all turns is the bound of the set.
 //!
-//! Callers cite `rows_of` and `list_of` for what an `EntryLists` holds, and `bounds_of` for the same as `EntryBounds`. They cite `IsListed` for
-//! what a tree needs of it, and `SetIsListed` for what a set needs.
+//! Callers cite `rows_of` and `list_of` for the row bounds and lists of an `EntryLists`, and `bounds_of` for the same numbers as `EntryBounds`. They
+//! cite `IsListed` for what a tree needs of an `EntryLists`, and `SetIsListed` for what a set needs of it.
 #![tactic(auto)]
 
 mod listed;

@@ -18,7 +18,7 @@ fn has_rows(lists: &EntryLists, entry: u8) -> bool
     lists.rows(entry).is_some()
 }
 
-// Whether an entry has its row bound, if it is in the set.
+// Whether an entry has its row bound or isn't in the set.
 fn may_have_rows(lists: &EntryLists, subset: EntrySet, entry: u8) -> bool
     ensures { MatchBool result (has_entry subset entry ≡ true → IsSome (rows_of lists.now entry))
         ((has_entry subset entry ≡ true) × ¬ IsSome (rows_of lists.now entry)) }
@@ -59,7 +59,7 @@ fn has_lists(lists: &EntryLists, edge: Edge) -> bool
     has_list(lists, edge.right)
 }
 
-// Whether both columns of an equality have their lists, if it joins entries of the set.
+// Whether both columns of an equality have their lists, or the equality joins an entry outside the set.
 fn may_have_lists(lists: &EntryLists, subset: EntrySet, edge: Edge) -> bool
     ensures { MatchBool result (joins_within subset edge ≡ true → HaveLists lists.now edge)
         ((joins_within subset edge ≡ true) × ¬ HaveLists lists.now edge) }
@@ -84,8 +84,8 @@ fn all_have_lists(lists: &EntryLists, subset: EntrySet, edges: &[Edge]) -> bool
     true
 }
 
-/// Whether each entry of a set has its row bound, and each column that an equality of the set names has its list. If
-/// so, `set_bound` may be called. It takes no memory.
+/// Whether each entry of a set has its row bound, and each column that an equality of the set names has its list. If so, `set_bound` may be called.
+/// The test takes no memory.
 pub fn is_listed(parts: &Parts, subset: EntrySet, lists: &EntryLists) -> bool
     ensures { IsTrue result ↔ SetIsListed lists.now parts.now.equalities subset }
 {

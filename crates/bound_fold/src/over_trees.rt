@@ -84,7 +84,7 @@ fn entry_list(
     }
 }
 
-// The list of an entry below which no class stands: nothing is composed with it.
+// The list of an entry that has no class below it. Nothing is composed with this list.
 fn own_list(list: &Pieces) -> Result<Pieces, NoMemory>
     requires { sum list.now < 2 ^ 64 }
     ensures { IfOk result (λ own. own ≡ map saturated (composed list.now [])) }

@@ -50,9 +50,9 @@ pub fn turn_bound(
 
 /// The bound of a set of entries, or `u128::MAX` where it is larger.
 ///
-/// In each turn the set keeps some equalities, and its bound is the product of the bounds of their trees. Of all turns the
-/// least bound counts (SafeBound, SIGMOD 2023). The equalities that a turn leaves out can only make the rows fewer. Where
-/// the lists dominate tables, no join of the set's tables by all its equalities has more rows.
+/// In each turn the set keeps some equalities. The bound of the turn is the product of the bounds of these equalities' trees. The least bound of all
+/// turns is the bound of the set (SafeBound, SIGMOD 2023). The equalities that a turn leaves out can only make the rows fewer. Where the lists
+/// dominate tables, no join of the set's tables by all its equalities has more rows.
 pub fn set_bound(
     alloc: Global,
     parts: &Parts,

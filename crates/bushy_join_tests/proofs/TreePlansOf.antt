@@ -28,7 +28,7 @@ leaf_fits rows said bound same small = omega (arith, length-map rows (λ row. ro
 level_fits : (rows said : List (List ℕ)) (bound : ℕ) → rows ≡ said → length said ≤ bound → length rows ≤ bound
 level_fits rows said bound same small = omega (arith, ap (λ (s : List (List ℕ)). length s) same, small)
 
--- each node is named once but the root
+-- `named` is the number of all nodes but the root, so each of these nodes is named by one join
 abbrev NamedOnce : ℕ → BushyPlan → Type 0
 NamedOnce named plan = (node : ℕ) → node < named → count_by (λ other. eqb other node) (joined_nodes plan.joins) ≡ 1
 

@@ -6,7 +6,7 @@ use Rattle.tree_plans.specs.declared.bushy.BushyPlan.{BushyPlan}
 use Rattle.tree_plans.specs.Examples.{join, plan_of}
 use Rattle.hash_join.specs.Examples.{cond_of, numbers, one_is_two, tables_are}
 
--- a query that no row answers: FROM these tables, which are given by their numbers, WHERE 1 = 2. It selects no column
+-- a query that has no answer rows: FROM these tables, which are given by their numbers, WHERE 1 = 2. It selects no column
 abbrev pub never : List ℕ → Query
 never tables = record {
   from = map (λ table. record { table = table; alias = [] }) tables;
@@ -22,7 +22,7 @@ three = tables_are (numbers 3 ((1 ∷ 2 ∷ 3 ∷ []) ∷ []) ∷ [])
 abbrev pub pair_plan : BushyPlan
 pair_plan = plan_of (join 0 1 12 ∷ []) (6 ∷ 5 ∷ []) 12
 
--- a plan for three entries by the tree (0, (1, 2)): node 3 joins entries 1 and 2, and then entry 0 is joined with it
+-- a plan for three entries by the tree (0, (1, 2)): node 3 joins entries 1 and 2, and the root joins entry 0 and node 3
 abbrev pub triangle_plan : BushyPlan
 triangle_plan = plan_of (join 1 2 5 ∷ join 0 3 9 ∷ []) (3 ∷ 3 ∷ 3 ∷ []) 9
 
@@ -30,6 +30,6 @@ triangle_plan = plan_of (join 1 2 5 ∷ join 0 3 9 ∷ []) (3 ∷ 3 ∷ 3 ∷ []
 abbrev pub alone : BushyPlan
 alone = plan_of [] (3 ∷ []) 3
 
--- a plan that joins two such entries
+-- a plan that joins two entries of at most three rows each
 abbrev pub twice : BushyPlan
 twice = plan_of (join 0 1 9 ∷ []) (3 ∷ 3 ∷ []) 9

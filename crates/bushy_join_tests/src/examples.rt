@@ -23,7 +23,8 @@ pub fn triangles()
         ≡ (0 ∷ 0 ∷ 0 ∷ []) ∷ (0 ∷ 1 ∷ 1 ∷ []) ∷ (1 ∷ 0 ∷ 2 ∷ []) ∷ (2 ∷ 2 ∷ 0 ∷ []) ∷ [] }
 {}
 
-/// A condition that names no entry and fails. A root that is a leaf is empty, and so is an inner node, but a leaf that is joined is not.
+/// A query with a condition that names no entry and fails. A root that is a leaf is empty, and an inner node is empty too, but a leaf that is joined
+/// has its rows.
 pub fn constants()
     ensures plan_alone { IsTreePlanOf (never (0 ∷ [])) (tables_of three) (scans_of (never (0 ∷ [])) (tables_of three)) alone }
     ensures alone { whole_rows (never (0 ∷ [])) (tables_of three) alone 0 ≡ [] }

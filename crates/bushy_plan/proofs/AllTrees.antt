@@ -1,4 +1,4 @@
--- All trees over n entries: the last entry is put beside each node of each tree of the others.
+-- To make all trees over n entries, the last entry is joined to each node of each tree over the other entries.
 use Rattle.std.proofs.Common.{◌≡◌, ℕ, zero, suc, ◌+◌, ◌-◌, ◌^◌, ◌<◌, Bool, true, false, cond, refl, ap, sym, ◌∙◌, subst, arith, inl, inr}
 use Rattle.std.specs.Prelude.{◌⊎◌}
 use Rattle.std.specs.Int.{bit_at}
@@ -26,7 +26,6 @@ each_tree (suc (suc n)) test = each_tree (suc n) (λ t. each_with (suc n) test t
 
 -- ---- the last entry is taken out of a split
 
--- the first entry of the rest is the first of all
 pub first_stays : (set last first : ℕ) → set < 2 ^ suc last → bit_at set last ≡ 1 → IsFirstEntry (set - 2 ^ last) first → (first < last) × IsFirstEntry set first
 first_stays set last first fits has is_first = (
   below,
@@ -95,7 +94,7 @@ split_without_left set left right last fits split has more = record {
     in_set : bit_at set last ≡ 1
     in_set = omega (arith, split.apart last, bit_at-lt set last)
 
--- the left side isn't the last entry alone
+-- the set's first entry is on the left side, and the right side has a later entry. So the first entry isn't the last one
 left_has_more : (set last : ℕ) (left right : PlanTree) → set < 2 ^ suc last → IsTreeOver set (node left right) → bit_at (leaf_set left) last ≡ 1 → 0 < leaf_set left - 2 ^ last
 left_has_more set last left right fits is_tree has = elim (cases_lt (2 ^ last) (leaf_set left)) [
   | inl more ↦ omega arith
@@ -121,7 +120,7 @@ left_has_more set last left right fits is_tree has = elim (cases_lt (2 ^ last) (
 
 -- ---- the last entry is taken out of a tree
 
--- the second tree is the first one with the last entry beside one of its nodes
+-- `tree` is the first tree with the last entry joined to one of its nodes
 abbrev pub IsWith : ℕ → PlanTree → PlanTree → Type 0
 IsWith last (leaf entry) tree = tree ≡ node (leaf entry) (leaf last)
 IsWith last (node left right) tree =
@@ -206,7 +205,6 @@ without set last (node left right) fits has more is_tree = elim (cases_eq (bit_a
           is_with = inr (inr (right, rest.is_with, refl));
         }
 
--- of all entries but the last
 pub without_last : (n : ℕ) (tree : PlanTree) → IsTreeOver (all_of (suc (suc n))) tree → (rest : PlanTree) × IsTreeOver (all_of (suc n)) rest × IsWith (suc n) rest tree
 without_last n tree is_tree =
     let rest : Without (all_of (suc (suc n))) (suc n) tree =

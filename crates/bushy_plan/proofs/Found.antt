@@ -1,4 +1,4 @@
--- The least cost stands in the first table, and the best tree is read off the second.
+-- The search fills two tables. The least cost stands in the first table, and the best tree is read off the second.
 use Rattle.std.proofs.Common.{◌≡◌, ℕ, zero, suc, ◌+◌, ◌-◌, ◌^◌, ◌<◌, ◌≤◌, List, [], ◌∷◌, ◌++◌, length, get_or, refl, ap, sym, ◌∙◌, subst, arith, inl, inr}
 use Rattle.std.proofs.lemmas.List.{append-nil, append_assoc, length-append}
 use Rattle.std.proofs.lemmas.Nat.{pow_pos}
@@ -16,7 +16,7 @@ use Rattle.bushy_plan.proofs.Numbering.{count_of_all, length-joins_from}
 use Rattle.bushy_plan.proofs.ReadingOff.{first_of_one, node_over}
 use Rattle.bushy_plan.proofs.Splitting.{no_split_of_one, one_first, tree_set}
 
--- ---- the joins of a node, behind those of its sides
+-- ---- the joins of a node come after the joins of its two sides
 
 pub read_node : (w : Weight) (bounds : List ℕ) (next set right_set : ℕ) (old middle all new : List Join) (left_root right_root number : ℕ)
     → (left : IsReadOff w bounds next (set - right_set) old middle left_root) → (right : IsReadOff w bounds next right_set middle all right_root)
@@ -56,7 +56,6 @@ pub room_right : (set right_set count : ℕ) (left : PlanTree) → IsTreeOver (s
 room_right set right_set count left left_tree split room tree is_tree =
     omega (arith, room (node left tree) (node_over set right_set left tree split left_tree is_tree))
 
--- behind the joins of the left side
 count_after : (w : Weight) (bounds : List ℕ) (next set : ℕ) (old new : List Join) (root : ℕ) → (read : IsReadOff w bounds next set old new root) → length new ≡ length old + inner_count read.tree
 count_after w bounds next set old new root read =
     omega (arith, ap length read.joins, length-append {A = Join} old (joins_from bounds (next + length old) read.tree), length-joins_from bounds (next + length old) read.tree)
@@ -76,7 +75,6 @@ few_numbers w bounds next set right_set old middle all left_root right_root left
       room_behind w bounds next set right_set old middle left_root left split room right.tree right.is_first.is_tree,
     )
 
--- a set of one entry has no joins
 pub read_leaf : (w : Weight) (bounds : List ℕ) (next set first : ℕ) (old : List Join) → IsFirstEntry set first → (behind : ℕ) → IsBehindFirst set behind → behind ≡ 0
     → IsReadOff w bounds next set old old first
 read_leaf w bounds next set first old is_first behind b none =
@@ -109,7 +107,7 @@ least_cost_from bounds table n least more size is_table is =
       none_cheaper = λ other is_tree. omega (arith, is, whole.none_lighter other is_tree, weighs_greatest bounds other, cost_inside bounds n other more is_tree);
     }
 
--- a tree within the least cost weighs its sum, which isn't the heaviest
+-- weights saturate at 2^128 - 1, and this sum is far below it
 weighs_small : (bounds : List ℕ) (n least : ℕ) (tree : PlanTree) → n ≤ 12 → least ≤ 2 ^ 59 → IsTreeOver (all_of n) tree → inner_greatest bounds tree ≤ least
     → (weight_of (weight.SumWithin least) bounds tree ≡ inner_sum bounds tree) × (inner_sum bounds tree < 2 ^ 63)
 weighs_small bounds n least tree few small is_tree low =
@@ -131,7 +129,6 @@ sum_is_light bounds table n least some few small found size is_table =
     is_table (length bounds - 1) (omega (arith, last, some_of_all n some)) (omega (arith, pow_pos n)) in
     omega (arith, lightest.none_lighter found.tree (subst (λ (k : ℕ). IsTreeOver k found.tree) (sym last) found.is_tree), weighs.0, weighs.1)
 
--- a first lightest tree over all entries is the best
 best_of_one : (bounds : List ℕ) (tree : PlanTree) → IsTreeOver 1 tree → IsBest bounds 1 tree
 best_of_one bounds tree is_tree = record {
   is_tree = is_tree;
@@ -204,7 +201,6 @@ joins_of_best bounds n least root joins some few small found size read =
       is_its = sym best.1;
     }
 
--- of one entry the bound of its set is the least cost
 pub least_cost_alone : (bounds : List ℕ) → IsLeastCost bounds 1 (get_or bounds 1 0)
 least_cost_alone bounds = record {
   tree = leaf 0;

@@ -1,4 +1,4 @@
--- Each left-deep order is a join tree of no greater cost.
+-- For each left-deep order there is a join tree of no greater cost.
 use Rattle.std.proofs.Common.{◌≡◌, ℕ, ◌+◌, ◌*◌, ◌-◌, ◌^◌, ◌<◌, ◌≤◌, max, List, [], ◌∷◌, get_or, refl, ap, sym, ◌∙◌, subst, arith, inl, inr}
 use Rattle.std.specs.Prelude.{bit_and, bit_or}
 use Rattle.std.specs.Int.{bit_at}
@@ -15,7 +15,6 @@ use Rattle.bushy_plan.specs.BestTree.{all_of, cost, inner_greatest}
 use Rattle.bushy_plan.specs.PlanTrees.{IsFirstEntry, IsSplit, IsTreeOver, PlanTree, leaf, node, leaf_set}
 use Rattle.bushy_plan.proofs.Splitting.{first_of_power, one_first, some_entries, tree_set}
 
--- the bits of a set and another entry
 pub bit_with : (set x entry : ℕ) → bit_at set x ≡ 0 → bit_at (set + 2 ^ x) entry ≡ bit_at set entry + bit_at (2 ^ x) entry
 bit_with set x entry out =
     let none : bit_and set (2 ^ x) ≡ 0 = omega (arith, and_pow set x, ap (λ k. k * 2 ^ x) out) in
@@ -25,7 +24,6 @@ bit_with set x entry out =
       | inr apart ↦ omega (arith, combined, bit_at_or set (2 ^ x) entry, bit_at-pow_other x entry apart)
     ]
 
--- the first entry of two sets together is the first of the one whose first comes first
 first_of_both : (set left right a b : ℕ) → ((entry : ℕ) → bit_at left entry + bit_at right entry ≡ bit_at set entry) → IsFirstEntry left a → IsFirstEntry right b → a < b → IsFirstEntry set a
 first_of_both set left right a b apart first_a first_b h = record {
   is_in = omega (arith, apart a, first_a.is_in, bit_at-lt set a);
@@ -54,7 +52,7 @@ split_with_first set left right a b apart some_left some_right first_a first_b h
   first_left = λ first is_first. ap (bit_at left) (one_first set first a is_first (first_of_both set left right a b apart first_a first_b h)) ∙ first_a.is_in;
 }
 
--- a tree and one more entry, as a tree in which the first entry is on the left
+-- one more entry is joined to a tree. `grown` is the result, turned so that the set's first entry is on the left, and turning doesn't change the bounds
 record Grown (bounds : List ℕ) (set : ℕ) (tree : PlanTree) : Type 0 where
   grown : PlanTree
   is_tree : IsTreeOver set grown
@@ -147,7 +145,6 @@ of_way bounds all most (x ∷ entries) some way levels =
       | inr other ↦ omega (arith, bit_at-pow_other x entry other, bit_at-lt (all - 2 ^ x) entry)
     ]
 
--- no order costs less than the best tree
 pub no_dearer : (bounds : List ℕ) (n least : ℕ) → 0 < all_of n → ((other : PlanTree) → IsTreeOver (all_of n) other → least ≤ cost bounds other)
     → (order : List ℕ) → IsOrder n order → least ≤ left_deep_cost bounds order
 no_dearer bounds n least some none_cheaper order is_order =

@@ -1,4 +1,4 @@
--- The least weight of a tree over a set, from those over its parts.
+-- The least weight of a tree over a set follows from the least weights over the set's parts.
 use Rattle.std.proofs.Common.{◌≡◌, ℕ, ◌+◌, ◌-◌, ◌^◌, ◌<◌, ◌≤◌, min, List, get_or, refl, ap, sym, ◌∙◌, subst, arith, inl, inr}
 use Rattle.std.specs.Prelude.{◌⊎◌, bit_and}
 use Rattle.std.proofs.lemmas.Bool.{cases_lt, cases_order, le-leb, lt-leb}
@@ -22,7 +22,7 @@ joined-mono (weight.SumWithin most) bound a b c d h k = elim (cases_lt most boun
   | inr within ↦ omega (arith, joined-within most bound a b within, joined-within most bound c d within)
 ]
 
--- the right sets above this one were tried
+-- the right sets above `right` were tried: `least` is the least weight of a tree with one of them, or 2^128 - 1 if no right set was tried
 pub record Tried (w : Weight) (bounds table : List ℕ) (set behind right least : ℕ) : Type 0 where
   pub is_part : IsPart right behind
   pub above : (other : ℕ) → IsPart other behind → right < other → (least ≤ weight_through w bounds table set other) × (weight_through w bounds table set other < 2 ^ 128)
@@ -55,7 +55,6 @@ tried_more w bounds table set behind right least through tried some is fits = re
   ];
 }
 
--- a set of one entry has its leaf
 pub least_of_one : (w : Weight) (bounds : List ℕ) (set first : ℕ) → IsFirstEntry set first → set - 2 ^ first ≡ 0 → IsLeastWeight w bounds set 0
 least_of_one w bounds set first is_first none = record {
   tree = leaf first;
@@ -64,7 +63,7 @@ least_of_one w bounds set first is_first none = record {
   none_lighter = λ other is_tree. omega arith;
 }
 
--- a lightest tree with this right set, by the table
+-- the tree over `set` weighs what the table gives for this right set
 pub record Through (w : Weight) (bounds table : List ℕ) (set right : ℕ) : Type 0 where
   pub tree : PlanTree
   pub is_tree : IsTreeOver set tree
@@ -88,7 +87,6 @@ tree_through w bounds table set right split left_side right_side =
           ∙ ap (λ k. combined w (get_or bounds set 0) (get_or table (set - right) 0) k) right_side.weighs;
     }
 
--- no tree with these sides is lighter than through the table
 pub through_is_least : (w : Weight) (bounds table : List ℕ) (set end : ℕ) (left right : PlanTree) → set ≤ end → IsTable w bounds table end → IsTreeOver set (node left right)
     → weight_through w bounds table set (leaf_set right) ≤ weight_of w bounds (node left right)
 through_is_least w bounds table set end left right h is_table is_tree =
@@ -105,7 +103,6 @@ through_is_least w bounds table set end left right h is_table is_tree =
       ap (λ k. combined w (get_or bounds k 0) (weight_of w bounds left) (weight_of w bounds right)) whole,
     )
 
--- both sides of a split stand in the table
 pub left_in_table : (w : Weight) (bounds table : List ℕ) (set end right : ℕ) → set ≤ end → IsTable w bounds table end → IsSplit set (set - right) right
     → IsLeastWeight w bounds (set - right) (get_or table (set - right) 0)
 left_in_table w bounds table set end right h is_table split =

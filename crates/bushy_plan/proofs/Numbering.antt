@@ -1,4 +1,5 @@
--- The joins of a tree over all entries are a plan: how many there are, that each stands behind the two that it joins, and that they name each node but the root once.
+-- The joins of a tree over all entries make a plan. There is one join fewer than entries, and each join has a higher number than the two nodes that
+-- it joins. Together the joins name each node but the root exactly once.
 use Rattle.std.proofs.Common.{◌≡◌, ℕ, zero, suc, ◌+◌, ◌*◌, ◌-◌, ◌^◌, ◌<◌, ◌≤◌, eqb, leb, ltb, cond, List, [], ◌∷◌, ◌++◌, length, get_or, refl, ap, sym, ◌∙◌, subst, arith, inl, inr}
 use Rattle.std.specs.Int.{bit_at}
 use Rattle.std.specs.List.{AllByRecursion, count_by}
@@ -16,7 +17,7 @@ use Rattle.bushy_plan.specs.BestTree.{all_of, inner_greatest}
 use Rattle.bushy_plan.specs.PlanTrees.{IsSplit, IsTreeOver, PlanTree, leaf, node, leaf_set, inner_count, joins_from, root_number}
 use Rattle.bushy_plan.proofs.Splitting.{split_sum}
 
--- ---- how many
+-- ---- the number of joins
 
 pub length-joins_from : (bounds : List ℕ) (next : ℕ) (tree : PlanTree) → length (joins_from bounds next tree) ≡ inner_count tree
 length-joins_from bounds next (leaf entry) = refl
@@ -58,7 +59,7 @@ count_by_size n set (node left right) fits is_tree =
 pub count_of_all : (n : ℕ) (tree : PlanTree) → IsTreeOver (all_of n) tree → inner_count tree + 1 ≡ n
 count_of_all n tree is_tree = count_by_size n (all_of n) tree (omega (arith, pow_pos n)) is_tree ∙ size-whole n
 
--- ---- each behind the two that it joins
+-- ---- each join has a higher number than the two nodes that it joins
 
 behind-append : (own next : ℕ) (xs ys : List Join) → AreBehindTheirs own xs → own + length xs ≡ next → AreBehindTheirs next ys → AreBehindTheirs own (xs ++ ys)
 behind-append own next [] ys p is q = let same : next ≡ own = omega arith in subst (λ (k : ℕ). AreBehindTheirs k ys) same q
@@ -90,16 +91,16 @@ behind_theirs bounds n set next (node left right) fits h is_tree =
     ))
     (omega arith, right_root, tt)
 
--- ---- each node once
+-- ---- each node but the root is named exactly once
 
 abbrev times : ℕ → List ℕ → ℕ
 times k xs = count_by (λ other. eqb other k) xs
 
--- 1 where the numbers are the same
+-- this is 1 if the numbers are equal, otherwise 0
 abbrev one : ℕ → ℕ → ℕ
 one a b = cond (eqb a b) 1 0
 
--- 1 where the number is one of `count` from `first` on
+-- this is 1 if first <= k < first + count, otherwise 0
 abbrev inside : ℕ → ℕ → ℕ → ℕ
 inside first count k = cond (leb first k) (cond (ltb k (first + count)) 1 0) 0
 
@@ -158,7 +159,7 @@ times_in_node bounds next k left right =
       times-two k (root_number next left) (root_number (next + inner_count left) right),
     )
 
--- the nodes that are named, and the root, are the leaves and the inner nodes
+-- a number occurs among the nodes that joins name and the root as often as among the leaves and the inner nodes
 named_with_root : (bounds : List ℕ) (set next k : ℕ) (tree : PlanTree) → IsTreeOver set tree
     → times k (joined_nodes (joins_from bounds next tree)) + one (root_number next tree) k ≡ bit_at set k + inside next (inner_count tree) k
 named_with_root bounds set next k (leaf entry) is_tree = elim (cases_eq k entry) [
@@ -200,7 +201,7 @@ named_once bounds n k tree is_tree below =
       | inr is_inner ↦ omega (arith, all, other, bit_at_ones_above n k is_inner, inside_yes n (inner_count tree) k is_inner (omega arith))
     ]
 
--- ---- bounds
+-- ---- the bounds of joins
 
 all-append : (P : Join → Type 0) (xs ys : List Join) → AllByRecursion P xs → AllByRecursion P ys → AllByRecursion P (xs ++ ys)
 all-append P [] ys p q = q

@@ -1,4 +1,4 @@
--- There is no second best tree, and no second answer.
+-- Two best trees are the same tree, and two refusals that have causes are the same refusal.
 use Rattle.std.proofs.Common.{◌≡◌, ℕ, ◌-◌, ◌^◌, ◌≤◌, List, refl, ap, sym, ◌∙◌, subst, arith, inl, inr}
 use Rattle.std.specs.Prelude.{◌⊎◌}
 use Rattle.std.proofs.lemmas.Bool.{cases_order}
@@ -10,7 +10,6 @@ use Rattle.bushy_plan.specs.Causes.{IsCause}
 use Rattle.bushy_plan.specs.PlanTrees.{IsSplit, IsTreeOver, PlanTree, leaf, node, leaf_set}
 use Rattle.bushy_plan.proofs.Splitting.{no_split_of_one, same_power, tree_set}
 
--- one of two trees over a set comes before the other, or they are the same
 ordered : (set : ℕ) (a b : PlanTree) → IsTreeOver set a → IsTreeOver set b → (a ≡ b) ⊎ (IsTreeBefore a b ⊎ IsTreeBefore b a)
 ordered set (leaf x) (leaf y) p q = inl (ap leaf (same_power x y (sym p ∙ q)))
 ordered set (leaf x) (node l r) p q = absurd (no_split_of_one x (leaf_set l) (leaf_set r) (subst (λ (k : ℕ). IsSplit k (leaf_set l) (leaf_set r)) p q.0))
@@ -58,7 +57,6 @@ accepted bounds n budget best e few is_best within cause =
 pub refused : (bounds : List ℕ) (n budget : ℕ) (e f : PlanError) → IsCause bounds n budget e → IsCause bounds n budget f → (e ≡ error.NoMemory) ⊎ ((f ≡ error.NoMemory) ⊎ (e ≡ f))
 refused bounds n budget e f p q = one_refusal (IsLeastCost bounds n) budget e f (one_least bounds n) p q
 
--- the cost of the best tree is the least
 pub least_of_best : (bounds : List ℕ) (n : ℕ) (best : PlanTree) → IsBest bounds n best → IsLeastCost bounds n (cost bounds best)
 least_of_best bounds n best is_best = record {
   tree = best;

@@ -1,4 +1,4 @@
--- Parts of a set of bits, and how they are gone through from the greatest down.
+-- A part of a set of entries is a number whose bits are among the set's bits. A loop goes over all parts, from the greatest number down.
 use Rattle.std.proofs.Common.{◌≡◌, ℕ, zero, suc, ◌+◌, ◌-◌, ◌/◌, ◌%◌, ◌<◌, ◌≤◌, min, ap, arith, inl, inr}
 use Rattle.std.specs.Int.{bit_at}
 use Rattle.std.specs.Prelude.{bit_and}
@@ -6,7 +6,6 @@ use Rattle.std.proofs.lemmas.Nat.Bits.{bit_at_and, bit_at_lowest, bit_at-suc, sa
 use Rattle.std.proofs.lemmas.Nat.{and_le_l, and_shr}
 use Rattle.std.proofs.lemmas.Bool.{cases_eq}
 
--- each entry of the one is in the other
 pub record IsPart (part set : ℕ) : Type 0 where
   pub has : (entry : ℕ) → bit_at part entry ≤ bit_at set entry
 
@@ -26,7 +25,6 @@ le_below (suc n) part set h is_part = omega (arith, le_below n (part / 2) (set /
 pub part_le : (part set : ℕ) → IsPart part set → part ≤ set
 part_le part set is_part = le_below part part set (omega arith) is_part
 
--- the entries of a set but for a part
 pub bits_without : (part set entry : ℕ) → IsPart part set → bit_at (set - part) entry + bit_at part entry ≡ bit_at set entry
 bits_without part set zero is_part = omega (arith, bit_at_lowest (set - part), bit_at_lowest part, bit_at_lowest set, part_le part set is_part, lowest part set is_part)
 bits_without part set (suc entry) is_part =
@@ -52,7 +50,6 @@ half_and a set = and_shr a set 1
 low_and : (a set : ℕ) → bit_and a set % 2 ≡ min (a % 2) (set % 2)
 low_and a set = omega (arith, bit_at_and a set 0, bit_at_lowest (bit_and a set), bit_at_lowest a, bit_at_lowest set)
 
--- no part lies between a part and the next one
 next_below : (n part set other : ℕ) → part ≤ n → IsPart part set → IsPart other set → other < part → other ≤ bit_and (part - 1) set
 next_below zero part set other h is_part is_other below = absurd (omega arith)
 next_below (suc n) part set other h is_part is_other below = elim (cases_eq (part % 2) 1) [

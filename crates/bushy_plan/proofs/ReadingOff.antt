@@ -1,4 +1,4 @@
--- The first of the lightest trees over a set, from those over the sides of its first lightest split.
+-- The first of the lightest trees over a set joins the first lightest trees over the two sides of the set's first lightest split.
 use Rattle.std.proofs.Common.{◌≡◌, ℕ, ◌+◌, ◌-◌, ◌^◌, ◌<◌, ◌≤◌, List, get_or, ap, sym, ◌∙◌, subst, arith, inl, inr}
 use Rattle.std.specs.Prelude.{◌≢◌, bit_and}
 use Rattle.std.proofs.lemmas.Bool.{cases_lt, cases_order}
@@ -15,13 +15,11 @@ use Rattle.bushy_plan.proofs.Lightest.{Through, joined-beyond, joined-within, le
 
 -- ---- the first lightest split
 
--- some split is as light as the table says
 record Attained (w : Weight) (bounds table : List ℕ) (set : ℕ) : Type 0 where
   right : ℕ
   is_split : IsSplit set (set - right) right
   lightest : weight_through w bounds table set right ≡ get_or table set 0
 
--- a split by the table isn't lighter than the table says
 through_at_least : (w : Weight) (bounds table : List ℕ) (set end right : ℕ) → set < end → IsTable w bounds table end → IsSplit set (set - right) right
     → get_or table set 0 ≤ weight_through w bounds table set right
 through_at_least w bounds table set end right h is_table split =
@@ -54,7 +52,7 @@ attained w bounds table set end first is_first more h is_table = at least.tree l
       lightest = through_of_tree w bounds table set end left right h is_table is_tree weighs;
     }
 
--- no right set above this one is of a lightest split
+-- the right sets above `right` were looked at, and no split by one of them is as light as the table says
 pub record Looked (w : Weight) (bounds table : List ℕ) (set behind right : ℕ) : Type 0 where
   pub is_part : IsPart right behind
   pub some : 0 < right
@@ -107,12 +105,11 @@ looked_all w bounds table set behind right b looked is = record {
   first = λ other split above. looked.none_above other (part_behind set behind other b split) above;
 }
 
--- a right set that is looked at is less than the set
 pub looked_within : (w : Weight) (bounds table : List ℕ) (set behind right : ℕ) → IsBehindFirst set behind → Looked w bounds table set behind right → right < set
 looked_within w bounds table set behind right b looked =
     omega (arith, part_le right behind looked.is_part, b.others, power_within b.first set b.is_first.is_in, pow_pos b.first)
 
--- ---- the tree
+-- ---- the first lightest tree
 
 pub first_of_one : (w : Weight) (bounds : List ℕ) (set first : ℕ) → IsFirstEntry set first → set - 2 ^ first ≡ 0 → IsFirstLightest w bounds set (leaf first)
 first_of_one w bounds set first is_first none = record {
@@ -125,7 +122,7 @@ first_of_one w bounds set first is_first none = record {
     not_before (leaf entry) is_tree before = before
     not_before (node left right) is_tree before = before
 
--- the weights of the sides of a light split, which sum with its bound
+-- the bound of the set is at most `most`, and this bound and the weights of both sides sum to the weight in the table
 pub record Light (most : ℕ) (bounds table : List ℕ) (set right : ℕ) : Type 0 where
   pub bound : get_or bounds set 0 ≤ most
   pub sums : get_or bounds set 0 + get_or table (set - right) 0 + get_or table right 0 ≡ get_or table set 0
@@ -145,7 +142,6 @@ light_sides most bounds table set right is below =
     light_sums most (get_or bounds set 0) (get_or table (set - right) 0) (get_or table right 0) (get_or table set 0) is below in
     record { bound = sums.0; sums = sums.1; left = omega (arith, sums.1); right_side = omega (arith, sums.1) }
 
--- a first lightest tree weighs what the table says
 weighs_table : (w : Weight) (bounds table : List ℕ) (set end : ℕ) (tree : PlanTree) → 0 < set → set < end → IsTable w bounds table end → IsFirstLightest w bounds set tree
     → weight_of w bounds tree ≡ get_or table set 0
 weighs_table w bounds table set end tree some h is_table is_first =
@@ -202,7 +198,7 @@ first_of_sides most bounds table set end right_set left right h is_table is_ligh
     sums : Light most bounds table set right_set
     sums = light_sides most bounds table set right_set split.lightest is_light
 
-    -- its sides have the same sets, and so are no lighter, and no heavier either
+    -- `left` and `right` are the sides of the tree that is read off. So the tree and `left'`, `right'` can be compared side by side
     sides_weigh : (left' right' : PlanTree) → IsTreeOver set (node left' right') → weight_of (weight.SumWithin most) bounds (node left' right') ≡ get_or table set 0 → leaf_set left' ≡ set - right_set
         → IsTreeOver (set - right_set) left' × IsTreeOver right_set right'
         × (weight_of (weight.SumWithin most) bounds left' ≡ weight_of (weight.SumWithin most) bounds left) × (weight_of (weight.SumWithin most) bounds right' ≡ weight_of (weight.SumWithin most) bounds right)

@@ -1,4 +1,4 @@
--- Of the trees over any number of entries one is best.
+-- For any number of entries, some tree over them is best.
 use Rattle.std.proofs.Common.{◌≡◌, ℕ, zero, suc, ◌+◌, ◌-◌, ◌^◌, ◌<◌, List, [], ◌∷◌, ◌++◌, length, refl, ap, sym, ◌∙◌, subst, arith, inl, inr}
 use Rattle.std.specs.Prelude.{◌⊎◌}
 use Rattle.std.specs.Int.{bit_at}
@@ -38,7 +38,6 @@ at_root set last tree fits is_tree =
       refl,
     )
 
--- the first entry of a set and a last one is the set's
 first_with : (set last first : ℕ) → 0 < set → set < 2 ^ last → (own : ℕ) → IsFirstEntry set own → IsFirstEntry (set + 2 ^ last) first → IsFirstEntry set first
 first_with set last first some fits own is_own is_first = elim (cases_order first own) [
   | inl same ↦ subst (λ (k : ℕ). IsFirstEntry set k) (sym same) is_own
@@ -131,7 +130,7 @@ record LeastWith (R : PlanTree → PlanTree → Type 0) (last : ℕ) (rest : Pla
   is_with : IsWith last rest tree
   least : (other : PlanTree) → IsWith last rest other → R tree other
 
--- of the root and the least on either side, the least
+-- the last entry is joined to the root, or at its best place in the left tree, or at its best place in the right tree
 least_of_three : (R : PlanTree → PlanTree → Type 0) → IsOrder R → (last : ℕ) (left right : PlanTree) → LeastWith (λ a b. R (node a right) (node b right)) last left
     → LeastWith (λ a b. R (node left a) (node left b)) last right → LeastWith R last (node left right)
 least_of_three R order last left right l r = elim (order.either (node l.tree right) (node left r.tree)) [
@@ -177,7 +176,6 @@ record Least (R : PlanTree → PlanTree → Type 0) (n : ℕ) : Type 0 where
   is_tree : IsTreeOver (all_of n) tree
   least : (other : PlanTree) → IsTreeOver (all_of n) other → R tree other
 
--- the tree with the last entry at its best place
 grown : (R : PlanTree → PlanTree → Type 0) → IsOrder R → ℕ → PlanTree → PlanTree
 grown R order last t = (least_with R order last t).tree
 
@@ -247,7 +245,6 @@ placed_order = record {
   both = λ a b c. place_both (left_sets a) (left_sets b) (left_sets c);
 }
 
--- a tree that comes before another over the same set has the lesser list
 length-left_sets : (tree : PlanTree) → length (left_sets tree) ≡ inner_count tree
 length-left_sets (leaf entry) = refl
 length-left_sets (node left right) = omega (arith, length-append {A = ℕ} (left_sets left) (left_sets right), length-left_sets left, length-left_sets right)
@@ -268,6 +265,7 @@ not_after_behind (x ∷ a) c d h = elim h [
   | inr here ↦ not_after_behind a c d here.1
 ]
 
+-- so a tree whose list of left sets is least is the first tree
 before_placed : (n set : ℕ) (a b : PlanTree) → set < 2 ^ n → IsTreeOver set a → IsTreeOver set b → IsTreeBefore a b → IsPlaced b a → ⊥
 before_placed n set (leaf x) b fits p q before h = before
 before_placed n set (node l r) (leaf y) fits p q before h = before

@@ -1,4 +1,4 @@
--- The splits of a set are the parts of what is behind its first entry.
+-- The right sets of a set's splits are the parts of the set without its first entry, except the empty one.
 use Rattle.std.proofs.Common.{◌≡◌, ℕ, ◌+◌, ◌-◌, ◌^◌, ◌<◌, ◌≤◌, ap, sym, ◌∙◌, subst, arith, inl, inr}
 use Rattle.std.specs.Int.{Width, bit_at, trailing_zeros}
 use mir.Val.{bits}
@@ -24,7 +24,6 @@ first_by_zeros w set some fits =
     bit_at-trailing_zeros w set some fits in
     record { is_in = place.1; none_before = place.2 }
 
--- a part of what is behind the first entry makes a split
 pub split_of_part : (set first right : ℕ) → IsFirstEntry set first → IsPart right (set - 2 ^ first) → 0 < right → IsSplit set (set - right) right
 split_of_part set first right is_first is_part some = record {
   apart = λ entry. bits_without right set entry within;
@@ -43,7 +42,6 @@ split_of_part set first right is_first is_part some = record {
       ];
     }
 
--- and so is the right set of each split
 pub part_of_split : (set first left right : ℕ) → IsFirstEntry set first → IsSplit set left right → IsPart right (set - 2 ^ first)
 part_of_split set first left right is_first split = record {
   has = λ entry. elim (cases_eq entry first) [
@@ -58,7 +56,6 @@ right_part set left right split = record { has = λ entry. omega (arith, split.a
 pub split_right_le : (set left right : ℕ) → IsSplit set left right → right ≤ set
 split_right_le set left right split = part_le right set (right_part set left right split)
 
--- the two sides are numbers that sum to the set's
 pub split_left : (set left right : ℕ) → IsSplit set left right → left ≡ set - right
 split_left set left right split =
     same_from_bits left (set - right) (λ entry. omega (arith, split.apart entry, bits_without right set entry (right_part set left right split)))
@@ -91,17 +88,14 @@ first_of_power entry = record {
   none_before = λ other below. bit_at-pow_other entry other (λ same. absurd (omega arith));
 }
 
--- one entry can't be split
 pub no_split_of_one : (entry left right : ℕ) → IsSplit (2 ^ entry) left right → ⊥
 no_split_of_one entry left right split =
     omega (arith, split.some_right, part_le right (2 ^ entry - 2 ^ entry) (part_of_split (2 ^ entry) entry left right (first_of_power entry) split))
 
--- where entries are behind the first, no leaf is a tree over the set
 pub no_leaf : (set first entry : ℕ) → IsFirstEntry set first → 0 < set - 2 ^ first → IsTreeOver set (leaf entry) → ⊥
 no_leaf set first entry is_first more is_tree =
     let same : first ≡ entry = one_first set first entry is_first (subst (λ (k : ℕ). IsFirstEntry k entry) (sym is_tree) (first_of_power entry)) in
     omega (arith, is_tree, ap (λ k. 2 ^ k) same)
 
--- and where there are none, only a leaf
 pub only_leaf : (set first : ℕ) → IsFirstEntry set first → set - 2 ^ first ≡ 0 → set ≡ 2 ^ first
 only_leaf set first is_first none = omega (arith, power_within first set is_first.is_in)

@@ -1,4 +1,5 @@
--- What the search found is a plan.
+-- The joins that the search found, with the scans, are a plan. If the best tree's cost is within the budget, so are the bounds of its joins. No order costs
+-- less.
 use Rattle.std.proofs.Common.{◌≡◌, ℕ, ◌<◌, ◌≤◌, List, length, ap, sym, ◌∙◌, subst, arith}
 use Rattle.std.specs.List.{AllByRecursion, count_by}
 use Rattle.std.specs.Prelude.{◌==◌}
@@ -26,14 +27,12 @@ plan_from bounds scans plan few same best = record {
       ∙ named_once bounds (length scans) node best.tree best.is_best.is_tree below;
 }
 
--- its bounds are at most its cost
 pub joins_within : (bounds : List ℕ) (n cheapest most : ℕ) (joins : List Join) → AreOfBest bounds n cheapest joins → cheapest ≤ most
     → AllByRecursion (λ join. join.bound ≤ most) joins
 joins_within bounds n cheapest most joins best within =
     subst (λ (joins : List Join). AllByRecursion (λ join. join.bound ≤ most) joins) (sym best.are_its)
     (bounds_small bounds n most best.tree (omega (arith, greatest_at_most_cost bounds best.tree, best.is_its)))
 
--- no order costs less
 pub best_not_dearer : (bounds : List ℕ) (n cheapest : ℕ) (joins : List Join) → 0 < n → AreOfBest bounds n cheapest joins → (order : List ℕ) → IsOrder n order → cheapest ≤ left_deep_cost bounds order
 best_not_dearer bounds n cheapest joins some best order is_order =
     no_dearer bounds n cheapest (some_of_all n some) (λ other is_tree. omega (arith, best.is_its, best.is_best.none_cheaper other is_tree)) order is_order

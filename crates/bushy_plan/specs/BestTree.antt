@@ -35,7 +35,7 @@ IsTreeBefore (node left right) (node left' right') =
     (leaf_set left < leaf_set left')
     ⊎ ((leaf_set left ≡ leaf_set left') × (IsTreeBefore left left' ⊎ ((left ≡ left') × IsTreeBefore right right')))
 
--- the set of all of n entries
+-- the set of all n entries
 abbrev pub all_of : ℕ → ℕ
 all_of n = 2 ^ n - 1
 
@@ -48,7 +48,7 @@ pub record IsBest (bounds : List ℕ) (n : ℕ) (best : PlanTree) : Type 0 where
   pub none_earlier : (other : PlanTree) → IsTreeOver (all_of n) other → cost bounds other ≡ cost bounds best
       → total bounds other ≡ total bounds best → ¬ IsTreeBefore other best
 
--- the joins are those of the best tree, with the bounds of their sets, and `cheapest` is its cost
+-- the joins are the joins of the best tree, with the bounds of their sets, and `cheapest` is the cost of this tree
 pub record AreOfBest (bounds : List ℕ) (n cheapest : ℕ) (joins : List Join) : Type 0 where
   pub tree : PlanTree
   pub is_best : IsBest bounds n tree
@@ -59,7 +59,7 @@ pub record AreOfBest (bounds : List ℕ) (n cheapest : ℕ) (joins : List Join) 
 abbrev pub IsBestPlan : List ℕ → ℕ → BushyPlan → Type 0
 IsBestPlan bounds n plan = AreOfBest bounds n plan.cost plan.joins
 
--- a tree has this cost, and none has a lower one
+-- a tree has the cost `least`, and no tree has a lower cost
 pub record IsLeastCost (bounds : List ℕ) (n least : ℕ) : Type 0 where
   pub tree : PlanTree
   pub is_tree : IsTreeOver (all_of n) tree

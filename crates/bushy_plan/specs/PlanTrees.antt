@@ -8,12 +8,12 @@ pub data PlanTree : Type 0 where
   leaf : ℕ → PlanTree
   node : PlanTree → PlanTree → PlanTree
 
--- the set of the entries at its leaves
+-- the set of the entries at a tree's leaves
 abbrev pub leaf_set : PlanTree → ℕ
 leaf_set (leaf entry) = 2 ^ entry
 leaf_set (node left right) = leaf_set left + leaf_set right
 
--- the entry is in the set, and none before it is
+-- the entry `first` is in the set, and no entry before it is
 pub record IsFirstEntry (set first : ℕ) : Type 0 where
   pub is_in : bit_at set first ≡ 1
   pub none_before : (entry : ℕ) → entry < first → bit_at set entry ≡ 0
@@ -36,7 +36,8 @@ abbrev pub inner_count : PlanTree → ℕ
 inner_count (leaf entry) = 0
 inner_count (node left right) = inner_count left + inner_count right + 1
 
--- The number of the root; that of a leaf is its entry. Inner nodes are numbered from `next` on: the left subtree's, the right one's, the root.
+-- The number of the root. The number of a leaf is its entry. Inner nodes are numbered from `next` on: first the inner nodes of the left subtree, then
+-- those of the right subtree, then the root.
 abbrev pub root_number : ℕ → PlanTree → ℕ
 root_number next (leaf entry) = entry
 root_number next (node left right) = next + inner_count left + inner_count right

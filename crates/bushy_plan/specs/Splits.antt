@@ -24,7 +24,7 @@ weight_of w bounds (leaf entry) = 0
 weight_of w bounds (node left right) = combined w (slice_index bounds (leaf_set left
     + leaf_set right)) (weight_of w bounds left) (weight_of w bounds right)
 
--- a tree over the set has this weight, and none is lighter
+-- a tree over the set has this weight, and no tree over the set is lighter
 pub record IsLeastWeight (w : Weight) (bounds : List ℕ) (set least : ℕ) : Type 0 where
   pub tree : PlanTree
   pub is_tree : IsTreeOver set tree
@@ -35,24 +35,25 @@ pub record IsLeastWeight (w : Weight) (bounds : List ℕ) (set least : ℕ) : Ty
 abbrev pub IsTable : Weight → List ℕ → List ℕ → ℕ → Type 0
 IsTable w bounds table end = (set : ℕ) → 0 < set → set < end → IsLeastWeight w bounds set (slice_index table set)
 
--- the weight of the lightest tree over the set whose right set is this one, by the table
+-- the weight of the lightest tree over the set whose root has the right set `right`, by the table
 abbrev pub weight_through : Weight → List ℕ → List ℕ → ℕ → ℕ → ℕ
 weight_through w bounds table set right = combined w (slice_index bounds set) (slice_index table (set - right)) (slice_index table right)
 
--- `right` is the right set of a lightest split, and no lightest split has a greater one. So its left set has the least number
+-- `right` is the right set of a lightest split, and no lightest split has a right set with a greater number. So its left set has the least number
 pub record IsFirstLightestSplit (w : Weight) (bounds table : List ℕ) (set right : ℕ) : Type 0 where
   pub is_split : IsSplit set (set - right) right
   pub lightest : weight_through w bounds table set right ≡ slice_index table set
   pub first : (other : ℕ) → IsSplit set (set - other) other → right < other
       → weight_through w bounds table set other ≢ slice_index table set
 
--- no tree over the set is lighter, and no tree of the same weight comes before it
+-- no tree over the set is lighter than `tree`, and no tree of the same weight comes before `tree`
 pub record IsFirstLightest (w : Weight) (bounds : List ℕ) (set : ℕ) (tree : PlanTree) : Type 0 where
   pub is_tree : IsTreeOver set tree
   pub none_lighter : (other : PlanTree) → IsTreeOver set other → weight_of w bounds tree ≤ weight_of w bounds other
   pub none_earlier : (other : PlanTree) → IsTreeOver set other → weight_of w bounds other ≡ weight_of w bounds tree → ¬ IsTreeBefore other tree
 
--- the joins of the first of the lightest trees were appended, and its root has the number `root`. Inner nodes are numbered from `next` on
+-- the joins of the first of the lightest trees were appended, and the root of this tree has the number `root`. Inner nodes are numbered from `next`
+-- on
 pub record IsReadOff (w : Weight) (bounds : List ℕ) (next set : ℕ) (old new : List Join) (root : ℕ) : Type 0 where
   pub tree : PlanTree
   pub is_first : IsFirstLightest w bounds set tree

@@ -10,7 +10,8 @@ use crate::weight::Weight;
 use base_io::NoMemory;
 use tree_plans::Join;
 
-// The right set of a lightest split; of several, that whose left set has the least number. `behind` has the set's entries without its first.
+// The right set of a lightest split of `set`. If there are several lightest splits, it is the one whose left set has the least number. `behind` has
+// the entries of `set` without its first entry.
 fn first_right(weight: Weight, bounds: &[u128], table: &[u128], set: usize, behind: usize) -> usize
     requires some { 0 < set }
     requires more { 0 < behind }
@@ -27,8 +28,8 @@ fn first_right(weight: Weight, bounds: &[u128], table: &[u128], set: usize, behi
     right
 }
 
-// Appends the joins of the first of the lightest trees over the set, and gives the number of its root. The recursion is as deep as the tree,
-// which has at most twelve leaves.
+// Appends the joins of the first of the lightest trees over the set, and returns the number of this tree's root. The recursion is as deep as the
+// tree, which has at most twelve leaves.
 pub(crate) fn push_joins(
     most: u128,
     count: u8,

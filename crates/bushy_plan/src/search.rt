@@ -21,12 +21,11 @@ use tree_plans::{BushyPlan, Join};
 /// inner nodes. The best tree has the least cost, and among the trees of that cost the least sum of these bounds. Of several such trees the
 /// first is best: first by the number of the left set at the root, then by the left tree, then by the right one.
 ///
-/// All bounds and the budget are in rows. A bound of 2^128 - 1 means that number or more.
-/// It fills two tables of 2^n numbers, in at most 3^n steps each, and only one of them is in memory at a time. The first has the least cost for
-/// each set. The second has the least sum for each set, over trees within the least cost. The left part of a set has its first entry, so
-/// each split is looked at once.
+/// All bounds and the budget are in rows. A bound of 2^128 - 1 means that number or more. The search fills two tables of 2^n numbers, in at most 3^n
+/// steps each, and only one of them is in memory at a time. The first table has the least cost for each set. The second has the least sum for each
+/// set, over trees within the least cost. The left part of a set has its first entry, so each split is looked at once.
 ///
-/// It answers `Budget` or `PastBits` exactly where `IsCause` says, and `NoMemory` where memory is wanting.
+/// The error is `Budget` or `PastBits` exactly if `IsCause` says so, and `NoMemory` if memory is wanting.
 pub fn choose_bushy(
     alloc: Global,
     bounds: &Seq<u128>,

@@ -1,4 +1,5 @@
-//! The splits of a set, as the code goes through them. A set is the number whose bits are its entries, and its bound is at that place.
+//! The splits of a set of entries into a left and a right set, as the search goes through them. A set is the number whose bits are its entries. Its
+//! bound stands at the place with this number.
 ghost use Rattle.std.specs.Prelude.{◌<◌};
 ghost use Rattle.bushy_plan.specs.PlanTrees.{IsFirstEntry};
 ghost use Rattle.bushy_plan.specs.Splits.{IsBehindFirst};

@@ -1,5 +1,5 @@
-//! For each set of entries, the least weight of a tree over it. A set is a number whose bits are its entries. Sets are done in the order of
-//! their numbers, so the weights of all parts of a set, whose numbers are smaller, are there before it.
+//! For each set of entries, the least weight of a tree over it. A set is a number whose bits are its entries. Sets are done in the order of their
+//! numbers. All parts of a set have smaller numbers, so their weights are in the table before the set is done.
 ghost use Rattle.std.specs.Prelude.{◌≡◌, ◌<◌, ◌≤◌, length, IfOk};
 ghost use Rattle.bushy_plan.specs.Splits.{IsLeastWeight, IsTable, weight_through as weight_through_of};
 

@@ -7,9 +7,9 @@ use limits::TOP_BOUND;
 // How the weight of a tree is made from the bounds of its inner nodes.
 #[derive(Clone, Copy)]
 pub(crate) enum Weight {
-    /// The greatest of them.
+    /// The greatest bound.
     Greatest,
-    /// Their sum if each of them is at most this number, else `TOP_BOUND`.
+    /// The sum of the bounds, at most `TOP_BOUND`; or `TOP_BOUND` itself, if a bound is above this number.
     SumWithin(u128),
 }
 

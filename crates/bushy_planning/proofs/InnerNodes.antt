@@ -1,4 +1,4 @@
--- The inner nodes of a best tree's plan: each has an order of a set of entries, and the bound of that set.
+-- Each inner node of a best tree's plan has an order of a set of entries, and the bound of that set.
 use Rattle.std.proofs.Common.{◌≡◌, ℕ, zero, suc, ◌+◌, ◌-◌, ◌^◌, ◌<◌, eqb, List, [], ◌∷◌, length, map, get_or, ap, sym, ◌∙◌, subst, arith}
 use Rattle.std.specs.List.{AllByRecursion, IsDistinct}
 use Rattle.std.proofs.lemmas.List.{get_or-append-add, get_or-map, length-map}
@@ -81,7 +81,7 @@ module _ (n : ℕ) (sets : List ℕ) (plan : BushyPlan) (is : IsTreePlan n plan)
     its_set : set_of (entries_at plan (n + k)) ≡ leaf_set subtree
     its_set = ap set_of its_entries ∙ set_of_leaves subtree
 
-    -- ---- of its entries
+    -- ---- the set of the node's entries
 
     pub node_set_fits : set_of (entries_at plan (n + k)) < 2 ^ n
     node_set_fits = subst (λ (s : ℕ). s < 2 ^ n) (sym its_set) whole.fits

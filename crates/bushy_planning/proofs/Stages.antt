@@ -1,4 +1,4 @@
--- What the answer of a choice among trees is over lists of rows.
+-- The tree that was chosen over lists of rows is a plan, and no bound of this plan is too low.
 use Rattle.std.proofs.Common.{◌≡◌, ◌⊎◌, inl, inr, ℕ, suc, ◌<◌, ◌≤◌, List, [], ◌∷◌, length, get_or, Ok, Err, Result, ap, sym, ◌∙◌, subst, arith}
 use Rattle.std.specs.Prelude.{IfOk}
 use Rattle.std.specs.List.{AllByRecursion}
@@ -27,7 +27,7 @@ each_small : (most : ℕ) (xs : List ℕ) → ((i : ℕ) → i < length xs → g
 each_small most [] small = tt
 each_small most (x ∷ xs) small = (small 0 (omega arith), each_small most xs (λ i low. small (suc i) (omega arith)))
 
--- ---- of bounds of which one is of each scan
+-- ---- the answer is a plan with these bounds of scans
 
 module _ (query : Query) (tables : Tables) (lists : List (List ℕ)) (sets scans : List ℕ) (budget : ℕ) (plan : BushyPlan) (bound : BoundLists query tables lists scans)
     (some : 1 ≤ length query.from) (few : length query.from ≤ 12) (made : tree_answer sets scans budget ≡ Ok plan) where
@@ -54,7 +54,7 @@ module _ (query : Query) (tables : Tables) (lists : List (List ℕ)) (sets scans
       subst (AllByRecursion (λ (join : Join). join.bound ≤ 4000000)) (sym best.are_its)
       (bounds_small sets (length query.from) 4000000 best.tree (omega (arith, greatest_at_most_cost sets best.tree, best.is_its, promised.within, small)))
 
-  -- ---- and none is too low
+  -- ---- no bound of the plan is too low
 
   pub nodes_fit : BoundLevels query tables lists sets → budget ≤ 4000000 → (node : ℕ) → node < node_count plan
       → length (node_rows query tables lists plan node) ≤ bound_at plan node
@@ -69,7 +69,7 @@ module _ (query : Query) (tables : Tables) (lists : List (List ℕ)) (sets scans
       let there : entry < length query.from = omega (arith, low, bound.one_each) in
       omega (arith, bound.within entry there, few_rows entry there))))
 
--- ---- over bounds that are known
+-- ---- the bounds are given by a `Known`
 
 pub answer_given : (sets scans : List ℕ) (known : Known) → HasBounds sets scans known → (budget : ℕ) (answer : Result BushyPlan PlanError)
     → (answer ≡ Err error.NoMemory) ⊎ (answer ≡ tree_answer known.sets known.scans budget) → (answer ≡ Err error.NoMemory) ⊎ (answer ≡ tree_answer sets scans budget)

@@ -1,4 +1,5 @@
--- The nodes of a tree one after another: which entries each has, and of which set its bound is.
+-- `subtrees` lists the trees at a tree's inner nodes. With it the nodes are taken one after another: each node has the entries at its leaves, and the bound
+-- of their set.
 use Rattle.std.proofs.Common.{◌≡◌, ℕ, ◌+◌, ◌^◌, ◌<◌, List, [], ◌∷◌, ◌++◌, length, map, get_or, refl, ap, sym, ◌∙◌, subst, arith, append_assoc}
 use Rattle.std.specs.List.{AllByRecursion}
 use Rattle.std.proofs.lemmas.List.{append-nil, get_or_append_left, get_or_push, length-append, length-map, map-append}
@@ -12,12 +13,11 @@ use Rattle.bushy_plan.proofs.Splitting.{split_sum}
 use Rattle.tree_rows.specs.Trees.{with_joins}
 use Rattle.tree_rows.proofs.Once.{at, joins_more, sides}
 
--- the entries at its leaves from left to right
 abbrev pub leaves : PlanTree → List ℕ
 leaves (leaf entry) = entry ∷ []
 leaves (node left right) = leaves left ++ leaves right
 
--- the trees at its inner nodes, in the order of their numbers
+-- the trees stand in the order of their nodes' numbers
 abbrev pub subtrees : PlanTree → List PlanTree
 subtrees (leaf entry) = []
 subtrees (node left right) = subtrees left ++ subtrees right ++ node left right ∷ []
@@ -38,7 +38,6 @@ length-subtrees (node left right) =
 abbrev pub bound_of : List ℕ → PlanTree → ℕ
 bound_of bounds tree = get_or bounds (leaf_set tree) 0
 
--- each join has the bound of its tree's entries
 pub bounds_are : (bounds : List ℕ) (next : ℕ) (tree : PlanTree)
     → map (λ join. join.bound) (joins_from bounds next tree) ≡ map (bound_of bounds) (subtrees tree)
 bounds_are bounds next (leaf entry) = refl
@@ -59,7 +58,6 @@ bounds_are bounds next (node left right) =
 
 -- ---- sets
 
--- a tree over the set of its own leaves, of entries below n
 pub record IsWhole (n : ℕ) (tree : PlanTree) : Type 0 where
   pub over : IsTreeOver (leaf_set tree) tree
   pub fits : leaf_set tree < 2 ^ n
@@ -87,7 +85,6 @@ joins_both : (nodes : List (List ℕ)) (xs ys : List Join) → with_joins nodes 
 joins_both nodes [] ys = refl
 joins_both nodes (join ∷ xs) ys = joins_both (nodes ++ sides nodes join ∷ []) xs ys
 
--- the nodes begin with the entries below n, each by itself
 abbrev pub HaveLeaves : ℕ → List (List ℕ) → Type 0
 HaveLeaves n nodes = (entry : ℕ) → entry < n → (entry < length nodes) × (at nodes entry ≡ entry ∷ [])
 
@@ -98,7 +95,6 @@ more_leaves n nodes others have entry low =
       get_or_append_left nodes others [] entry here.0 ∙ here.1,
     )
 
--- the nodes of a tree behind others
 abbrev pub with_tree : List (List ℕ) → PlanTree → List (List ℕ)
 with_tree nodes tree = nodes ++ map leaves (subtrees tree)
 
@@ -106,7 +102,6 @@ length-with_tree : (nodes : List (List ℕ)) (tree : PlanTree) → length (with_
 length-with_tree nodes tree =
     omega (arith, length-append nodes (map leaves (subtrees tree)), length-map (subtrees tree) leaves, length-subtrees tree)
 
--- behind a tree's nodes but the last one stands that one
 last_stands : (nodes : List (List ℕ)) (left right : PlanTree)
     → with_tree (with_tree nodes left) right ++ leaves (node left right) ∷ [] ≡ with_tree nodes (node left right)
 last_stands nodes left right =
@@ -116,7 +111,6 @@ last_stands nodes left right =
     ∙ append_assoc nodes (map leaves (subtrees left ++ subtrees right)) (leaves (node left right) ∷ [])
     ∙ ap (λ (s : List (List ℕ)). nodes ++ s) (sym (map-append leaves (subtrees left ++ subtrees right) (node left right ∷ [])))
 
--- the root is one of these nodes, and its entries are the tree's
 record RootStands (nodes : List (List ℕ)) (next : ℕ) (tree : PlanTree) : Type 0 where
   is_there : root_number next tree < length (with_tree nodes tree)
   entries : at (with_tree nodes tree) (root_number next tree) ≡ leaves tree
@@ -142,7 +136,6 @@ root_later : (nodes others : List (List ℕ)) (next : ℕ) (tree : PlanTree) →
 root_later nodes others next tree stands =
     get_or_append_left (with_tree nodes tree) others [] (root_number next tree) stands.is_there ∙ stands.entries
 
--- the entries of the joins of a tree are those at the leaves of its nodes
 pub joins_are : (bounds : List ℕ) (n set next : ℕ) (nodes : List (List ℕ)) (tree : PlanTree) → length nodes ≡ next → HaveLeaves n nodes
     → set < 2 ^ n → IsTreeOver set tree → with_joins nodes (joins_from bounds next tree) ≡ with_tree nodes tree
 joins_are bounds n set next nodes (leaf entry) long have fits is_tree = sym (append-nil nodes)

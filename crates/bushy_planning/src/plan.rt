@@ -20,8 +20,8 @@ use tree_plans::BushyPlan;
 
 /// Finds the join tree that is best by the bounds in `known`. The plan has a bound in rows for each scan and each inner node.
 ///
-/// The budget is at most 2^59 rows. Errors: `Budget` where the best tree costs more than that, `PastBits` where 128 bits can't tell its cost,
-/// and `NoMemory`. `tree_answer` says exactly when each of the first two is the answer.
+/// The budget is at most 2^59 rows. Errors: `Budget` if the best tree costs more than the budget, `PastBits` if its cost doesn't fit into 128 bits,
+/// and `NoMemory`. `tree_answer` says exactly when `Budget` and when `PastBits` is the answer.
 pub fn plan_tree_from(alloc: Global, known: &Known, budget: u64) -> Result<BushyPlan, PlanError>
     requires some { 1 ≤ length known.now.scans }
     requires few { length known.now.scans ≤ most_entries }
@@ -35,8 +35,8 @@ pub fn plan_tree_from(alloc: Global, known: &Known, budget: u64) -> Result<Bushy
 /// Gathers the statistics of a query's tables, once, and finds the join tree that is best by the bounds that they give. The plan has a bound
 /// in rows for each scan and each inner node.
 ///
-/// `accuracy` says how near compressed lists are to the degrees (SafeBound, SIGMOD 2023). The budget is at most 4,000,000 rows. Errors are
-/// those of `plan_tree_from`.
+/// `accuracy` says how near compressed lists are to the degrees (SafeBound, SIGMOD 2023). The budget is at most 4,000,000 rows. The errors are the
+/// same as in `plan_tree_from`.
 pub fn plan_bushy(
     alloc: Global,
     query: &Query,

@@ -1,4 +1,4 @@
--- What statistics answer, and what their lists dominate.
+-- These lemmas say which lists the statistics give for values and ranges, and which keys these lists dominate.
 use Rattle.std.proofs.Common.{◌≡◌, ℕ, ◌<◌, ◌≤◌, Bool, eqb, leb, List, [], ◌∷◌, length, Option, None, Some, refl, ap, sym, subst, arith, inl, inr}
 use Rattle.std.specs.Prelude.{◌&&◌, IfSome, unwrap_or}
 use Rattle.std.specs.List.{IsDistinct}
@@ -20,7 +20,6 @@ use Rattle.column_stats.specs.Stats.{AreOfNone, AreOfSome, IsValid, leaf_by_cuts
 use Rattle.column_stats.proofs.FrequentLists.{IsDistinct-frequent, value_is, values-of_lists}
 use Rattle.column_stats.proofs.NodeLists.{node_is, node_size-is, nodes_many}
 
--- there are 32 leaves
 pub leaf_below : (texts : List (List ℕ)) (stats : ColumnStats) (value : Value) → IsValid stats → leaf_by_cuts texts stats value < 32
 leaf_below texts stats value valid =
     let few : length stats.cuts ≤ 32 = elim valid.parts [ inl none ↦ omega (arith, ap (λ (s : List ℕ). length s) none.cuts_are) | inr some ↦ omega (arith, some.cuts_many) ] in
@@ -30,7 +29,7 @@ module _ (texts : List (List ℕ)) (kind : Kind) (k : ℕ) where
   abbrev at_most : ℕ → ℕ → Bool
   at_most = cell_le texts kind
 
-  -- no rows, and some
+  -- `of_none` is about statistics of no rows, and `of_some` about statistics of one or more rows
   of_none : AreOfNone (stats_of texts kind k [])
   unfolding rest cuts
   of_none = record { no_rows = refl; whole_is = refl; rest_is = refl; frequent_are = λ i x h. absurd (omega arith); cuts_are = refl; nodes_are = refl }
@@ -46,7 +45,7 @@ module _ (texts : List (List ℕ)) (kind : Kind) (k : ℕ) where
     parts = inr (of_some row rows);
   }
 
-  -- the list of a range is the one that is made on demand
+  -- the list that the statistics give for a range is the list that cond_stats makes for it on demand
   pub range_is : (rows : List (ℕ × ℕ)) (low high : Option ℕ) → IfSome low (λ leaf. leaf < 32) → list_for_range (stats_of texts kind k rows) low high ≡ list_of_range at_most k rows low high
   range_is rows None high from = node_is at_most k rows (node_size 0 (unwrap_or high 31)) 0 (node_size-is 0 (unwrap_or high 31)) (omega arith)
   range_is rows (Some low) high from = node_is at_most k rows (node_size low (unwrap_or high 31)) low (node_size-is low (unwrap_or high 31)) from

@@ -1,4 +1,4 @@
--- A pair of columns as it is read.
+-- The code reads the columns of a pair from cells. It reads the kind and the cells of each column, so it makes the statistics of these columns.
 use Rattle.std.proofs.Common.{◌≡◌, ℕ, List, [], length, Some, refl, ap, sym, ◌∙◌, subst, arith}
 use Rattle.std.specs.Prelude.{slice_get}
 use Rattle.std.specs.List.{All, zip}
@@ -19,11 +19,9 @@ use Rattle.column_stats.specs.Stats.{frequent_lists, stats_of}
 use Rattle.column_stats.specs.Pairs.{HasColumn, cells_of_column, kind_of_column, rows_of_pair}
 
 module _ (texts : List (List ℕ)) (cells : Cells) (column : ℕ) (has : HasColumn texts cells column) where
-  -- its kind
   pub kind_read : (k : Kind) → slice_get cells.kinds column ≡ Some k → kind_of_column cells column ≡ k
   kind_read k at = get_or_from_slice_get cells.kinds column k kind.Int at
 
-  -- its cells
   pub cells_read : (items read : List ℕ) → slice_get cells.columns column ≡ Some items → read ≡ items → read ≡ cells_of_column cells column
   cells_read items read there same = same ∙ sym (get_or_from_slice_get cells.columns column items [] there)
 
@@ -37,13 +35,11 @@ module _ (texts : List (List ℕ)) (cells : Cells) (filter joined : ℕ) (has_fi
   pub rows_are : length (rows_of_pair cells filter joined) ≡ cells.rows
   rows_are = omega (arith, length-zip (cells_of_column cells filter) (cells_of_column cells joined), has_filter.are_cells.height, has_joined.are_cells.height)
 
-  -- the statistics of the columns as they are read
   pub made_are : (k : ℕ) (kind_got : Kind) (values keys : List ℕ) (column : CellColumn) → kind_got ≡ kind_of_column cells filter → values ≡ cells_of_column cells filter
       → keys ≡ cells_of_column cells joined → column ≡ record { texts = texts; kind = kind_got; cells = values }
       → stats_of column.texts column.kind k (zip column.cells keys) ≡ stats_of texts (kind_of_column cells filter) k (rows_of_pair cells filter joined)
   made_are k kind_got values keys column kind_is values_are keys_are column_is = rw (column_is, kind_is, values_are, keys_are) refl
 
--- the statistics of a sorted column, part by part
 pub sorted_are : (k count : ℕ) (column : CellColumn) (keys : List ℕ) (kind_got : Kind) (all : List ℕ) (frequents : List FrequentList) (others places : List ℕ)
     (nodes_got : List (List ℕ)) → length keys ≡ length column.cells → kind_got ≡ column.kind → count ≡ length keys → all ≡ compressed_degrees k keys
     → frequents ≡ frequent_lists k (zip column.cells keys) → others ≡ rest k (zip column.cells keys) → places ≡ cuts (cell_le column.texts column.kind) column.cells

@@ -1,4 +1,4 @@
--- The lists of the frequent values, and that the values are different.
+-- The statistics keep one list for each frequent value, and these values are different. The list of any value is the one that cond_stats makes on demand.
 use Rattle.std.proofs.Common.{◌≡◌, ℕ, ◌≤◌, Bool, true, false, eqb, List, [], ◌∷◌, map, length, take, Option, None, Some, refl, ap, sym, ◌∙◌, inl, inr}
 use Rattle.std.specs.Prelude.{find}
 use Rattle.std.specs.List.{AllByRecursion, IsDistinct, list_any, zip}
@@ -40,12 +40,11 @@ IsDistinct-in_order le (a ∷ A) apart = IsDistinct-put le a (in_order le A)
 pub IsDistinct-frequent : (column : List ℕ) → IsDistinct eqb (frequent column)
 IsDistinct-frequent column = IsDistinct-first 32 (by_frequency column) (IsDistinct-in_order (comes_before column) (different column) (IsDistinct-different column))
 
--- the values of the lists
 pub values-of_lists : (k : ℕ) (rows : List (ℕ × ℕ)) (values : List ℕ) → map (λ (found : FrequentList). found.cell) (map (frequent_list k rows) values) ≡ values
 values-of_lists k rows [] = refl
 values-of_lists k rows (v ∷ vs) = ap (λ s. v ∷ s) (values-of_lists k rows vs)
 
--- ---- what they answer
+-- ---- the list that is found for a value
 
 module _ (k : ℕ) (rows : List (ℕ × ℕ)) (v : ℕ) (other : List ℕ) where
   abbrev answer_of : List ℕ → List ℕ
@@ -65,7 +64,6 @@ module _ (k : ℕ) (rows : List (ℕ × ℕ)) (v : ℕ) (other : List ℕ) where
     | inr e ↦ (let there : list_any (λ x. eqb x v) ws ≡ false = rw e at h in rw e (missing ws there))
   ]
 
--- the list of a value is the one that is made on demand
 pub value_is : (texts : List (List ℕ)) (kind : Kind) (k : ℕ) (rows : List (ℕ × ℕ)) (cell : Option ℕ) → list_for_value (stats_of texts kind k rows) cell ≡ list_of_value k rows cell
 value_is texts kind k rows None = sym (of_none k rows)
 value_is texts kind k rows (Some v) = elim (cases_Bool (is_frequent rows v)) [
@@ -73,19 +71,16 @@ value_is texts kind k rows (Some v) = elim (cases_Bool (is_frequent rows v)) [
   | inr e ↦ missing k rows v (rest k rows) (frequent (filter_values rows)) e ∙ sym (of_others k rows v e)
 ]
 
--- ---- how they are gathered
+-- ---- how the lists are gathered
 
--- a value with the list that is made on demand
 abbrev pub on_demand : ℕ → List (ℕ × ℕ) → ℕ → FrequentList
 on_demand k rows v = record { cell = v; list = list_of_value k rows (Some v) }
 
--- each frequent value has that list
 same_lists : (k : ℕ) (rows : List (ℕ × ℕ)) (values : List ℕ) → AllByRecursion (λ v. is_frequent rows v ≡ true) values
     → map (on_demand k rows) values ≡ map (frequent_list k rows) values
 same_lists k rows [] h = refl
 same_lists k rows (v ∷ vs) h = rw (of_frequent k rows v h.0, same_lists k rows vs h.1) refl
 
--- each element is one of the list
 all_any : (values : List ℕ) → AllByRecursion (λ w. list_any (λ x. eqb x w) values ≡ true) values
 all_any values = each values (λ w h. h)
   where

@@ -1,4 +1,5 @@
--- Where the list of a node stands among those of all nodes.
+-- The lists of all nodes stand one after another: first the lists of the 32 nodes of one leaf, then the lists of the 16 nodes of two leaves, and so on. The
+-- lemmas say where the list of a node stands.
 use Rattle.std.proofs.Common.{◌≡◌, ℕ, zero, suc, ◌+◌, ◌*◌, ◌/◌, ◌<◌, ◌≤◌, Bool, false, cond, eqb, List, [], ◌∷◌, ◌++◌, map, length, length-append, append_assoc, take, get_or, None, Some, refl, ap, sym, ◌∙◌, subst, arith}
 use Rattle.std.specs.Prelude.{find, unwrap_or}
 use Rattle.std.specs.List.{flat_map, range_with_len, zip}
@@ -13,7 +14,6 @@ use Rattle.cond_stats.specs.Lists.{list_of_node, list_where}
 use Rattle.cond_stats.specs.Rows.{filter_values}
 use Rattle.column_stats.specs.Nodes.{lists_of_size, node_lists, node_place, node_sizes}
 
--- what holds of each size holds of a size that nodes have
 pub each_size : (P : ℕ → Type 0) → P 1 → P 2 → P 4 → P 8 → P 16 → P 32 → (size : ℕ) → IsNodeSize size → P size
 each_size P one two four eight sixteen all size (zero, h, is) = subst P is one
 each_size P one two four eight sixteen all size (suc zero, h, is) = subst P is two
@@ -23,7 +23,6 @@ each_size P one two four eight sixteen all size (suc (suc (suc (suc zero))), h, 
 each_size P one two four eight sixteen all size (suc (suc (suc (suc (suc zero)))), h, is) = subst P is all
 each_size P one two four eight sixteen all size (suc (suc (suc (suc (suc (suc k))))), h, is) = absurd (omega arith)
 
--- the least node that holds two leaves has such a size
 pub node_size-is : (low high : ℕ) → IsNodeSize (node_size low high)
 node_size-is low high = sizes (λ size. eqb (low / size) (high / size))
   where
@@ -38,9 +37,7 @@ node_size-is low high = sizes (λ size. eqb (low / size) (high / size))
         (λ e. (3, omega arith, refl))
         (λ e. cond_both (p 16) (Some 16) None (λ o. IsNodeSize (unwrap_or o 32)) (λ e. (4, omega arith, refl)) (λ e. (5, omega arith, refl))))))
 
--- pieces of 32, 16, 8, 4, 2 and 1 elements, one after another
 module _ (F : ℕ → List (List ℕ)) (many : (size : ℕ) → length (F size) ≡ 32 / size) where
-  -- an element of the piece that so many stand before
   at : (i before j : ℕ) → i < 6 → length (flat_map F (take i node_sizes)) ≡ before → j < length (F (get_or node_sizes i 0))
       → get_or (flat_map F node_sizes) (before + j) [] ≡ get_or (F (get_or node_sizes i 0)) j []
   at i before j h is low = ap (λ n. get_or (flat_map F node_sizes) (n + j) []) (sym is) ∙ get_or-flat_map F node_sizes i j 0 [] h low
@@ -58,7 +55,7 @@ module _ (F : ℕ → List (List ℕ)) (many : (size : ℕ) → length (F size) 
       (at 5 62 (leaf / 32) (omega arith) (simp length-append (omega (arith, many 1, many 2, many 4, many 8, many 16))) (omega (arith, many 32)))
 
 module _ (at_most : ℕ → ℕ → Bool) (k : ℕ) where
-  -- a node is the same by each leaf that it holds
+  -- a node may be given by any of its leaves, so its first leaf gives the same list
   pub by_first : (rows : List (ℕ × ℕ)) (size leaf : ℕ) → 0 < size → list_of_node at_most k rows size (size * (leaf / size)) ≡ list_of_node at_most k rows size leaf
   unfolding list_of_node
   by_first rows size leaf some = ap (λ n. list_where k (λ value. eqb (leaf_of at_most (filter_values rows) value / size) n) rows) (mul-div_cancel_left (leaf / size) some)
@@ -67,7 +64,6 @@ module _ (at_most : ℕ → ℕ → Bool) (k : ℕ) where
   unfolding list_of_node
   no_list size leaf = refl
 
-  -- the list of a node by its place
   pub node_is : (rows : List (ℕ × ℕ)) (size leaf : ℕ) → IsNodeSize size → leaf < 32 → get_or (node_lists at_most k rows) (node_place size leaf) [] ≡ list_of_node at_most k rows size leaf
   node_is [] size leaf is low = sym (no_list size leaf)
   node_is (row ∷ rows) size leaf is low =
@@ -87,7 +83,7 @@ module _ (at_most : ℕ → ℕ → Bool) (k : ℕ) where
   some_nodes (v ∷ vs) [] same some = absurd (omega arith)
   some_nodes (v ∷ vs) (key ∷ keys) same some = refl
 
--- ---- how they are gathered
+-- ---- how the lists are gathered
 
 pub one_more_node : (f : ℕ → List ℕ) (nodes before new : List (List ℕ)) (i : ℕ) (list : List ℕ) → before ≡ nodes ++ map f (range_with_len 0 i) → list ≡ f i
     → new ≡ before ++ list ∷ [] → new ≡ nodes ++ map f (range_with_len 0 (i + 1))

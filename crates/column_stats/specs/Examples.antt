@@ -9,6 +9,6 @@ use Rattle.column_stats.specs.Stats.{stats_of}
 abbrev pub of_itself : List ℕ → ColumnStats
 of_itself column = stats_of [] kind.Int 1 (zip column column)
 
--- the same for the column 1, 1, 1, 2, 2, 3
+-- the statistics of the column 1, 1, 1, 2, 2, 3
 abbrev pub of_six : ColumnStats
 of_six = of_itself (1 ∷ 1 ∷ 1 ∷ 2 ∷ 2 ∷ 3 ∷ [])

@@ -15,6 +15,6 @@ abbrev pub node_lists : (ℕ → ℕ → Bool) → ℕ → List (ℕ × ℕ) →
 node_lists at_most accuracy [] = []
 node_lists at_most accuracy (row ∷ rows) = flat_map (lists_of_size at_most accuracy (row ∷ rows)) node_sizes
 
--- the place of the node of this size that holds this leaf. The smaller nodes, 64 - 64 / size of them, come before those of its size
+-- the place of the node of this size that holds this leaf. The smaller nodes, 64 - 64 / size of them, come before the nodes of this size
 abbrev pub node_place : ℕ → ℕ → ℕ
 node_place size leaf = 64 - 64 / size + leaf / size

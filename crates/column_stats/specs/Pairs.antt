@@ -6,11 +6,9 @@ use Rattle.schema_types.specs.declared.types.Kind.TheVariants as kind
 use Rattle.csv_tables.specs.declared.types.Cells.{Cells}
 use Rattle.csv_tables.specs.Cells.{IsColumn}
 
--- the kind of a column
 abbrev pub kind_of_column : Cells → ℕ → Kind
 kind_of_column cells column = slice_index_or cells.kinds column kind.Int
 
--- the cells of a column
 abbrev pub cells_of_column : Cells → ℕ → List ℕ
 cells_of_column cells column = slice_index_or cells.columns column []
 

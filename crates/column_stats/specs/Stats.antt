@@ -34,7 +34,7 @@ stats_of texts kind accuracy rows = record {
   nodes = node_lists (cell_le texts kind) accuracy rows;
 }
 
--- the list of a value, given by its cell: its own list where it is frequent, else the rest list. None is a value without a cell
+-- the list of a value, given by its cell: the value's own list if it is frequent, otherwise the rest list. None is a value without a cell
 abbrev pub list_for_value : ColumnStats → Option ℕ → List ℕ
 list_for_value stats None = stats.rest
 list_for_value stats (Some value) = option_map_or (λ found. found.list) (find (λ found. found.cell == value) stats.frequent) stats.rest
@@ -49,7 +49,8 @@ list_for_range stats low high =
     let first = unwrap_or low 0 in
     list_for_node stats (node_size first (unwrap_or high 31)) first
 
--- the leaf of a value: the last whose cut is at most the value, or 0 where no cut is. A cut of a text column is the number of one of `texts`
+-- the leaf of a value: the last leaf whose cut is at most the value, or 0 if there is no such cut. A cut of a text column is the number of a text in
+-- `texts`
 abbrev pub leaf_by_cuts : List (List ℕ) → ColumnStats → Value → ℕ
 leaf_by_cuts texts stats value = last_place (λ cut. value_le (value_of_cell texts stats.kind cut) value) stats.cuts
 
@@ -68,7 +69,7 @@ pub record AreOfSome (stats : ColumnStats) : Type 0 where
   pub cuts_many : length stats.cuts ≡ 32
   pub nodes_many : length stats.nodes ≡ 63
 
--- the frequent values are different, and the other parts are those of no rows, or of one or more rows
+-- the frequent values are different, and the other parts are the parts of statistics of no rows, or of one or more rows
 pub record IsValid (stats : ColumnStats) : Type 0 where
   pub different : IsDistinct nat_eq (map (λ found. found.cell) stats.frequent)
   pub parts : AreOfNone stats ⊎ AreOfSome stats

@@ -5,8 +5,8 @@ ghost use Rattle.cond_stats.specs.Leaves.{in_node, leaf_of};
 ghost use Rattle.cond_stats.specs.Lists.{list_of_node};
 ghost use Rattle.cond_stats.specs.Rows.{filter_values, keys_where};
 
-/// The list of a node dominates the joined keys of the rows whose leaf lies in the node (SafeBound, SIGMOD 2023). The node may have any
-/// size, and is given by any leaf that it holds. cond_stats' law `lists_dominate` says the same of its other lists.
+/// The list of a node dominates the joined keys of the rows whose leaf lies in the node (SafeBound, SIGMOD 2023). The node may have any size, and is
+/// given by any of its leaves. The law `lists_dominate` of cond_stats says what the other lists dominate.
 pub fn nodes_dominate()
     ensures { (at_most : ℕ → ℕ → Bool) (accuracy : ℕ) (rows : List (ℕ × ℕ)) (size leaf : ℕ)
         → DominatesKeys (list_of_node at_most accuracy rows size leaf)

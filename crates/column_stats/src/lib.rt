@@ -5,9 +5,8 @@
 //! statistics, as a statistics file does. In: two columns of a table's cells. Out: a `ColumnStats`. It has the list of all rows, up to 32
 //! lists of frequent values, the rest list for all other values, 32 cuts, and the lists of 63 nodes. Without rows it has no cuts and no nodes.
 //!
-//! Callers cite `stats_of`, `list_for_value`, `list_for_range`, `leaf_by_cuts` and `IsValid` (in `specs/Stats.antt`). The contract of
-//! `gather` says that these are the lists of `cond_stats`, and what they dominate. The law `nodes_dominate` says what the list dominates that
-//! `cond_stats` makes for a node.
+//! Callers cite `stats_of`, `list_for_value`, `list_for_range`, `leaf_by_cuts` and `IsValid` (in `specs/Stats.antt`). The contract of `gather` says
+//! that these are the lists of `cond_stats`, and what they dominate. The law `nodes_dominate` says what the list of a node dominates.
 //!
 //! ```text
 //! let stats = gather(alloc, &cells, &pool, 0, 1, Accuracy::of(1))?;   // stats ≡ stats_of pool kind 1 (rows_of_pair cells 0 1)

@@ -29,7 +29,7 @@ pub struct ColumnStats {
     pub whole: Pieces,
     /// The lists of up to 32 frequent values, the most frequent first.
     pub frequent: Seq<FrequentList>,
-    /// The list of every value that isn't frequent.
+    /// The one list for all values that aren't frequent.
     pub rest: Pieces,
     /// The cells at which the leaves begin.
     pub cuts: Seq<u64>,
@@ -38,8 +38,8 @@ pub struct ColumnStats {
 }
 
 impl ColumnStats {
-    /// The list of a value, by its cell: its own where it is frequent, else the rest list. `None` stands for a text that the pool
-    /// doesn't have.
+    /// The list of a value, which is given by its cell: the value's own list if it is frequent, otherwise the rest list. `None` stands for a text
+    /// that the pool doesn't have.
     pub fn for_equal(&self, cell: Option<u64>) -> &Pieces
         ensures { result.now ≡ list_for_value self.now cell }
     {
@@ -54,8 +54,8 @@ impl ColumnStats {
         &self.rest
     }
 
-    /// The list of a range, by the leaves of its ends: the list of the least node that holds both, whichever is greater. `None` is leaf 0
-    /// as the low end, and leaf 31 as the high end. Without rows the list is empty.
+    /// The list of a range, by the leaves of its ends: the list of the least node that holds both leaves. Either leaf may be the greater one. `None`
+    /// is leaf 0 as the low end, and leaf 31 as the high end. Without rows the list is empty.
     pub fn for_range(&self, low: Option<u8>, high: Option<u8>) -> &Pieces
         requires valid { IsValid self.now }
         requires low { IfSome low (λ leaf. leaf < 32) }
@@ -71,7 +71,7 @@ impl ColumnStats {
         self.nodes.get(usize::from(place))
     }
 
-    /// The leaf of a number: the last whose cut is at most the number, or 0 where no cut is, as in a column of texts.
+    /// The leaf of a number: the last leaf whose cut is at most the number, or 0 if there is no such cut. In a column of texts there is no such cut.
     pub fn leaf_int(&self, value: i64) -> u8
         requires { IsValid self.now }
         ensures leaf { (texts : List (List ℕ)) → result ≡ leaf_by_cuts texts self.now (Int value) }
@@ -80,8 +80,8 @@ impl ColumnStats {
         leaf_of_int(self.kind, self.cuts.as_slice(), cell_of(value))
     }
 
-    /// The leaf of a text, which need not be in the pool: the last whose cut is at most the text, or 0 where no cut is. `pool` has the texts
-    /// of the cuts. In a column of numbers every cut is at most a text.
+    /// The leaf of a text, which need not be in the pool: the last leaf whose cut is at most the text, or 0 if there is no such cut. `pool` has the
+    /// texts of the cuts. In a column of numbers every cut is at most a text.
     pub fn leaf_text(&self, pool: &Pool, text: &str) -> u8
         requires { IsValid self.now }
         ensures leaf { result ≡ leaf_by_cuts pool.now self.now (Text text.now) }

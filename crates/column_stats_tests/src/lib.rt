@@ -1,5 +1,5 @@
-//! The tests of column_stats, each call with ample memory. What the calls answer is proved there.
-//! Beside them stand lists that the definitions compute.
+//! Tests of column_stats. Each call is made with ample memory. What the calls return is proved in column_stats. There are also examples of lists,
+//! which the definitions compute.
 #![tactic(auto)]
 
 pub mod examples;

@@ -1,4 +1,5 @@
--- A falling list cut at a number, element by element; and a list raised to another, rank by rank.
+-- The code cuts a falling list at a number (`cut_at`) element by element, and raises a list to another (`rank_maximum`) rank by rank. The lemmas are about
+-- the steps of both loops.
 use Rattle.std.proofs.Common.{◌≡◌, ℕ, zero, suc, ◌+◌, ◌-◌, ◌<◌, ◌≤◌, max, min, List, [], ◌∷◌, ◌++◌, length, get_or, set, take, length-take, refl, ap, sym, ◌∙◌, arith, inl, inr}
 use Rattle.std.specs.List.{AllByRecursion}
 use Rattle.std.proofs.lemmas.Bool.{cases_lt}
@@ -11,7 +12,7 @@ use Rattle.degree_sequences.proofs.Minima.{running_sum-cut_at}
 use Rattle.degree_sequences.proofs.RunningSums.{running_sum-mono, running_sum-past, running_sum-suc}
 use Rattle.piece_math.proofs.Cutting.{positive-cut_at}
 
--- the list is cut up to rank i, and so much of the number is left
+-- `list` has the first i elements of the cut list, and `left` is what is left of the number `most`
 pub record IsCutTo (falling : List ℕ) (most : ℕ) (i left : ℕ) (list : List ℕ) : Type 0 where
   pub long : length list ≡ i
   pub sums : (r : ℕ) → r ≤ i → running_sum list r ≡ min (running_sum falling r) most
@@ -57,7 +58,6 @@ cut_one_more falling most i left taken list to is some =
       left_over = omega (arith, last, to.left_over, is);
     }
 
--- nothing more is taken: the list is cut
 pub cut_whole : (falling : List ℕ) (most i left : ℕ) (list : List ℕ) → IsFalling falling → IsCutTo falling most i left list → min left (get_or falling i 0) ≡ 0
     → list ≡ cut_at falling most
 cut_whole falling most i left list falls to nothing =
@@ -86,7 +86,7 @@ cut_whole falling most i left list falls to nothing =
       | inr h ↦ to.sums r h
     ]
 
--- ---- raising
+-- ---- a list is raised to another, rank by rank
 
 pub rank_maximum-nil : (s : List ℕ) → rank_maximum s [] ≡ s
 rank_maximum-nil [] = refl
@@ -97,20 +97,17 @@ length-rank_maximum [] t = omega arith
 length-rank_maximum (x ∷ s) [] = omega arith
 length-rank_maximum (x ∷ s) (y ∷ t) = omega (arith, length-rank_maximum s t)
 
--- one more rank, where the list has it
 pub raised_within : (s t : List ℕ) (d : ℕ) → length t < length s
     → rank_maximum s (t ++ d ∷ []) ≡ set (rank_maximum s t) (length t) (max (get_or (rank_maximum s t) (length t) 0) d)
 raised_within [] t d within = absurd (omega arith)
 raised_within (x ∷ s) [] d within = ap (λ u. max x d ∷ u) (rank_maximum-nil s)
 raised_within (x ∷ s) (y ∷ t) d within = ap (λ u. max x y ∷ u) (raised_within s t d (omega arith))
 
--- and where the list ends
 pub raised_past : (s t : List ℕ) (d : ℕ) → length s ≤ length t → rank_maximum s (t ++ d ∷ []) ≡ rank_maximum s t ++ d ∷ []
 raised_past [] t d past = refl
 raised_past (x ∷ s) [] d past = absurd (omega arith)
 raised_past (x ∷ s) (y ∷ t) d past = ap (λ u. max x y ∷ u) (raised_past s t d (omega arith))
 
--- a step of the walk over the ranks
 pub raised_more : (s t list next : List ℕ) (i : ℕ) → i < length t → list ≡ rank_maximum s (take i t)
     → (i < length list → next ≡ set list i (max (get_or list i 0) (get_or t i 0))) → (length list ≤ i → next ≡ list ++ get_or t i 0 ∷ [])
     → next ≡ rank_maximum s (take (i + 1) t)

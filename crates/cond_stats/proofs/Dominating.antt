@@ -1,4 +1,4 @@
--- The list of a value dominates the keys of its rows, frequent or not.
+-- The list of a value dominates the keys of the rows with this value, whether the value is frequent or not.
 use Rattle.std.proofs.Common.{◌≡◌, ℕ, ◌≤◌, Bool, true, false, eqb, Some, List, map, length, refl, ap, arith, inl, inr}
 use Rattle.std.specs.List.{list_any}
 use Rattle.std.proofs.lemmas.Bool.{cond_both, cases_lt}
@@ -18,7 +18,6 @@ use Rattle.cond_stats.specs.Rows.{filter_values, keys_where}
 use Rattle.cond_stats.proofs.Maxima.{above_by_rank, maxima-above, greatest-above, IsFalling-maxima}
 use Rattle.cond_stats.proofs.Members.{frequent_or_remaining, length-keys_where, count_by-weaker}
 
--- what the rest list is compressed from
 abbrev pub uncompressed_rest : List (ℕ × ℕ) → List ℕ
 uncompressed_rest rows = cut_at (maxima (map (λ value. degree_list (keys_with value rows)) (remaining (filter_values rows))))
     (greatest (map (degree (filter_values rows)) (remaining (filter_values rows))))
@@ -70,7 +69,6 @@ unfolding list_of_value
 value_dominates k rows v = cond_both (is_frequent rows v) (compressed_degrees k (keys_with v rows)) (rest k rows) (λ s. DominatesKeys s (keys_with v rows))
     (λ e. compressed_dominates k (keys_with v rows)) (λ e. rest_dominates k rows v e)
 
--- the list of rows dominates the keys of some of them
 pub where_dominates : (k : ℕ) (p q : ℕ → Bool) → ((v : ℕ) → p v ≡ true → q v ≡ true) → (rows : List (ℕ × ℕ)) → DominatesKeys (list_where k q rows) (keys_where p rows)
 where_dominates k p q weaker rows A apart =
     omega (arith, compressed_dominates k (keys_where q rows) A apart, count_by-weaker (λ key. list_any (λ a. eqb key a) A) p q weaker rows)

@@ -1,4 +1,4 @@
--- The groups of a column, in the order of their frequency.
+-- The runs of equal values, sorted by their frequency, are the groups of a column (`AreGroups`).
 use Rattle.std.proofs.Common.{◌≡◌, ℕ, suc, ◌+◌, ◌-◌, ◌*◌, ◌^◌, ◌<◌, ◌≤◌, Bool, true, false, cond, eqb, ltb, leb, List, [], ◌∷◌, map, length, get_or, refl, ap, sym, ◌∙◌, subst, arith, inl, inr, ◌⊎◌}
 use Rattle.std.specs.List.{All, AllByRecursion}
 use Rattle.std.specs.List.Sorted.{IsPermutation}
@@ -22,7 +22,6 @@ use Rattle.cond_stats.proofs.WindowKeys.{window_count}
 
 -- ---- the order of frequency as a number
 
--- the first place of what stands in a column: there it stands
 pub first_place_passes : (column : List ℕ) (v : ℕ) → 0 < degree column v → (first_place column v < length column) × (get_or column (first_place column v) 0 ≡ v)
 first_place_passes [] v some = absurd (omega arith)
 first_place_passes (x ∷ xs) v some = elim (cases_Bool (eqb x v)) [
@@ -32,7 +31,7 @@ first_place_passes (x ∷ xs) v some = elim (cases_Bool (eqb x v)) [
       rw e (omega (arith, rest.0), (let at : 1 + first_place xs v ≡ suc (first_place xs v) = omega arith in ap (λ j. get_or (x ∷ xs) j 0) at) ∙ rest.1))
 ]
 
--- a smaller number comes before
+-- one number stands for a value's frequency and its first place: of two values, the value with the smaller number comes first
 abbrev pub frequency_number : List ℕ → ℕ → ℕ
 frequency_number column v = (length column - degree column v) * (length column + 1) + first_place column v
 
@@ -115,7 +114,7 @@ module _ {at_most : ℕ → ℕ → Bool} {column numbers places : List ℕ} (or
   start_within : (run : Group) → IsRun numbers places run → run.start < length places
   start_within run is = omega (arith, is.some, is.ends, lengths)
 
-  -- a run is the window of its value
+  -- a run is the window of its value: the stretch of places that have this value
   pub window_of_run : (run : Group) → IsRun numbers places run → IsWindow column places (λ v. eqb v (value_of_group column run)) run.start run.count
   window_of_run run is = record {
     ends = omega (arith, is.ends, lengths);
@@ -136,7 +135,6 @@ module _ {at_most : ℕ → ℕ → Bool} {column numbers places : List ℕ} (or
   first_within : (run : Group) → IsRun numbers places run → run.first < length column
   first_within run is = subst (λ p. p < length column) (sym is.first) (places_within order run.start 0 (start_within run is))
 
-  -- the first row of a run is the first with its value
   pub first_of_run : (run : Group) → IsRun numbers places run → run.first ≡ first_place column (value_of_group column run)
   first_of_run run is = sym (position_or_len_is (λ other. eqb other (value_of_group column run)) column run.first 0
       (omega (arith, within))
@@ -181,7 +179,6 @@ module _ {at_most : ℕ → ℕ → Bool} {column numbers places : List ℕ} (or
       ] in
       omega (arith, ih, ap (λ b. cond {A = ℕ} b 1 0) here, degree-cons (order.number v) (map order.number D) (order.number a), degree-cons v D a)
 
-  -- each value of the column has one group
   pub degree-of_values : (runs : List Group) → AreRunsOfNumbers numbers places runs → (a : ℕ) → degree (map (value_of_group column) runs) a ≡ degree (different column) a
   degree-of_values runs are a = elim (cases_lt 0 (degree column a)) [
     | inl some ↦ (let D : List ℕ = map (value_of_group column) runs in
@@ -204,7 +201,6 @@ module _ {at_most : ℕ → ℕ → Bool} {column numbers places : List ℕ} (or
         omega (arith, no_group, no_value))
   ]
 
-  -- groups that are sorted by count and first row are the values in the order of their frequency
   pub groups_found : (runs groups : List Group) → AreRunsOfNumbers numbers places runs → IsPermutation runs groups
       → Rises (frequency_number column) (map (value_of_group column) groups) → AreGroups column places groups
   groups_found runs groups are moved rises = record {
@@ -217,11 +213,10 @@ module _ {at_most : ℕ → ℕ → Bool} {column numbers places : List ℕ} (or
         (λ k d h. window_of_run (get_or runs k d) (are.each k d h));
   }
 
-  -- a row that no group has
   no_group : Group
   no_group = record { first = 0; start = 0; count = 0 }
 
-  -- and so are groups that a sort by these two left
+  -- the code sorts by 4294967295 - count, so that greater counts come first
   pub groups_sorted : (runs groups : List Group) → length places < 2 ^ 32 → AreRunsOfNumbers numbers places runs → IsPermutation runs groups
       → ((i j : ℕ) (d : Group) → i ≤ j → j < length groups → PairLe (4294967295 - (get_or groups i d).count) (get_or groups i d).first (4294967295 - (get_or groups j d).count) (get_or groups j d).first)
       → AreGroups column places groups

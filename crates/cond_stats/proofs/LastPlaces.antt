@@ -1,4 +1,4 @@
--- The last place of a list whose element passes.
+-- `last_place` finds the last place of a list whose element passes a test. In this way the leaf of a value is found among the cuts.
 use Rattle.std.proofs.Common.{◌≡◌, ℕ, zero, suc, ◌+◌, ◌<◌, ◌≤◌, Bool, true, false, cond, not, ltb, List, [], ◌∷◌, ◌++◌, length, get_or, take, length-take, refl, ap, sym, ◌∙◌, arith, inl, inr}
 use Rattle.std.specs.List.{list_any}
 use Rattle.std.proofs.lemmas.Bool.{cases_Bool, cases_lt, cond_both, false≢true, or_cases, lt-ltb, le-ltb, or_parts}
@@ -14,7 +14,6 @@ any-mono p q weaker (x ∷ xs) h = elim (or_cases (p x) (list_any p xs) h) [
   | inr there ↦ (let later : list_any q xs ≡ true = any-mono p q weaker xs there in rw later (or-true (q x)))
 ]
 
--- where more elements pass, the last of them doesn't come earlier
 pub last_place-mono : (p q : ℕ → Bool) → ((x : ℕ) → p x ≡ true → q x ≡ true) → (xs : List ℕ) → last_place p xs ≤ last_place q xs
 last_place-mono p q weaker [] = omega arith
 last_place-mono p q weaker (x ∷ xs) = elim (cases_Bool (list_any p xs)) [
@@ -23,7 +22,6 @@ last_place-mono p q weaker (x ∷ xs) = elim (cases_Bool (list_any p xs)) [
   | inr e ↦ rw e (omega arith)
 ]
 
--- the last place lies in the list
 pub last_place-within : (p : ℕ → Bool) (xs : List ℕ) (n : ℕ) → length xs ≤ suc n → last_place p xs ≤ n
 last_place-within p [] n short = omega arith
 last_place-within p (x ∷ []) n short = omega arith
@@ -31,7 +29,6 @@ last_place-within p (x ∷ (y ∷ xs)) zero short = absurd (omega arith)
 last_place-within p (x ∷ (y ∷ xs)) (suc n) short = cond_both (list_any p (y ∷ xs)) (suc (last_place p (y ∷ xs))) 0 (λ m. m ≤ suc n)
     (λ e. omega (arith, last_place-within p (y ∷ xs) n (omega arith))) (λ e. omega arith)
 
--- one more element
 pub last_place-push : (p : ℕ → Bool) (xs : List ℕ) (x : ℕ) → last_place p (xs ++ x ∷ []) ≡ cond (p x) (length xs) (last_place p xs)
 last_place-push p [] x = cond_both {A = ℕ} (p x) 0 0 (λ n. 0 ≡ n) (λ e. refl) (λ e. refl)
 last_place-push p (y ∷ ys) x = elim (cases_Bool (p x)) [
@@ -43,7 +40,6 @@ last_place-push p (y ∷ ys) x = elim (cases_Bool (p x)) [
       rw (same, rest, e) refl)
 ]
 
--- where some element passes, one at some place does
 any-place : (p : ℕ → Bool) (xs : List ℕ) → list_any p xs ≡ true → (i : ℕ) × (i < length xs) × (p (get_or xs i 0) ≡ true)
 any-place p [] h = absurd (false≢true h)
 any-place p (x ∷ xs) h = elim (or_cases (p x) (list_any p xs) h) [
@@ -62,7 +58,6 @@ ltb-suc a b = elim (cases_lt a b) [
   | inr h ↦ le-ltb (suc a) (suc b) (omega arith) ∙ sym (le-ltb a b h)
 ]
 
--- where elements that pass from a place on make that place's element pass: the last place stays below it just where it doesn't pass
 pub last_place-below : (p : ℕ → Bool) (xs : List ℕ) (a : ℕ) → 0 < a → a < length xs → ((i : ℕ) → a ≤ i → i < length xs → p (get_or xs i 0) ≡ true → p (get_or xs a 0) ≡ true)
     → ltb (last_place p xs) a ≡ not (p (get_or xs a 0))
 last_place-below p [] a some within down = absurd (omega arith)
@@ -79,7 +74,6 @@ last_place-below p (x ∷ xs) (suc (suc a)) some within down = elim (cases_Bool 
   | inr e ↦ (let it : p (get_or xs (suc a) 0) ≡ false = none-place p xs (suc a) e (omega arith) in rw (e, it) (lt-ltb 0 (suc (suc a)) (omega arith)))
 ]
 
--- a step of the walk over the cuts, and its end
 pub one_more_cut : (p : ℕ → Bool) (xs : List ℕ) (i leaf next : ℕ) (passes : Bool) → i < length xs → leaf ≡ last_place p (take i xs) → passes ≡ p (get_or xs i 0)
     → next ≡ cond passes i leaf → next ≡ last_place p (take (i + 1) xs)
 one_more_cut p xs i leaf next passes within before is moved =

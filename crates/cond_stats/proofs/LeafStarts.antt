@@ -1,4 +1,4 @@
--- Where a leaf begins among ascending numbers, from their runs.
+-- Among ascending numbers a leaf begins where the run of its cut begins. So the starts of the leaves are found from the runs.
 use Rattle.std.proofs.Common.{◌≡◌, ℕ, ◌+◌, ◌-◌, ◌<◌, ◌≤◌, true, false, leb, List, [], ◌∷◌, ◌++◌, length, get_or, map, refl, ap, sym, ◌∙◌, subst, arith, inl, inr}
 use Rattle.std.specs.List.Sorted.{IsNonDecreasingBy, IsPartitionPoint}
 use Rattle.std.proofs.lemmas.Bool.{cases_lt, lt-ltb, le-ltb, leb-true, leb-false}
@@ -10,19 +10,16 @@ use Rattle.cond_stats.proofs.InOrderFacts.{has_degree, place_of_degree, degree-d
 use Rattle.cond_stats.proofs.LeavesFound.{cut_place, cut_place-within}
 use Rattle.cond_stats.proofs.RunsFound.{number_of_run}
 
--- a run where there is none
 abbrev pub no_run : Group
 no_run = record { first = 0; start = 0; count = 0 }
 
 module _ {numbers places : List ℕ} {runs : List Group} (are : AreRunsOfNumbers numbers places runs) where
-  -- the starts of runs don't fall
   pub starts_rise : IsNonDecreasingBy (λ (run : Group). run.start) runs
   starts_rise i j d low within = elim (cases_lt i j) [
     | inl h ↦ omega (arith, are.ascend i j d h within)
     | inr h ↦ (let same : i ≡ j = omega arith in omega (arith, ap (λ m. (get_or runs m d).start) same))
   ]
 
-  -- a row stands in a run
   run_of_row : (k : ℕ) → k < length numbers → (r : ℕ) × (r < length runs) × ((get_or runs r no_run).start ≤ k) × (k < (get_or runs r no_run).start + (get_or runs r no_run).count)
   run_of_row k within =
       let x : ℕ = get_or numbers k 0 in
@@ -38,7 +35,6 @@ module _ {numbers places : List ℕ} {runs : List Group} (are : AreRunsOfNumbers
         elim (cases_lt k (run.start + run.count)) [ inl h ↦ h | inr h ↦ absurd (omega (arith, same, is.higher k h within)) ],
       )
 
-  -- the last run that doesn't begin behind a row is the row's own
   last_run : (k below r : ℕ) → (get_or runs r no_run).start ≤ k → k < (get_or runs r no_run).start + (get_or runs r no_run).count
       → IsPartitionPoint (λ (run : Group). leb run.start k ≡ true) (λ (run : Group). leb run.start k ≡ false) runs below
       → r < length runs → below ≤ length runs → r + 1 ≡ below
@@ -58,7 +54,6 @@ module _ {numbers places : List ℕ} {runs : List Group} (are : AreRunsOfNumbers
     ]
   ]
 
-  -- the run of a leaf's cut begins where the leaf does
   start_of_run : (leaf : ℕ) (run : Group) → leaf < 32 → IsRun numbers places run → run.start ≤ cut_place (length numbers) leaf → cut_place (length numbers) leaf < run.start + run.count
       → IsLeafStart numbers leaf run.start
   start_of_run leaf run not_last is low high = record {
@@ -80,7 +75,7 @@ module _ {numbers places : List ℕ} {runs : List Group} (are : AreRunsOfNumbers
         | inr h ↦ omega (arith, is.higher k h within)
       ]
 
-  -- so many runs don't begin behind a leaf's cut: where there is one, the leaf begins with the last of them
+  -- `below` is how many runs begin at a leaf's cut or before it. If it isn't 0, the leaf begins where the last of these runs begins
   module _ (leaf below : ℕ) (not_last : leaf < 32) (bound : below ≤ length runs)
       (split : IsPartitionPoint (λ (run : Group). leb run.start (cut_place (length numbers) leaf) ≡ true) (λ (run : Group). leb run.start (cut_place (length numbers) leaf) ≡ false) runs below) where
     cut_run : 0 < length numbers → (r : ℕ) × (r + 1 ≡ below) × IsLeafStart numbers leaf (get_or runs r no_run).start
@@ -109,7 +104,6 @@ module _ {numbers places : List ℕ} {runs : List Group} (are : AreRunsOfNumbers
       }
     ]
 
--- one more start
 pub starts-push : (numbers starts : List ℕ) (leaf start : ℕ) → length starts ≡ leaf → ((k : ℕ) → k < leaf → IsLeafStart numbers k (get_or starts k 0)) → IsLeafStart numbers leaf start
     → (k : ℕ) → k < leaf + 1 → IsLeafStart numbers k (get_or (starts ++ start ∷ []) k 0)
 starts-push numbers starts leaf start long each is k low = elim (cases_lt k leaf) [

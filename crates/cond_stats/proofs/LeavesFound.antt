@@ -1,4 +1,4 @@
--- The cuts of a column by its places in order, and where its leaves begin there.
+-- The cuts of a column are found from its places in order. If numbers compare as the values do, they tell where the leaves begin among these places.
 use Rattle.std.proofs.Common.{◌≡◌, ℕ, zero, suc, ◌+◌, ◌*◌, ◌/◌, ◌<◌, ◌≤◌, Bool, cond, not, eqb, ltb, leb, List, [], ◌∷◌, map, length, get_or, refl, ap, sym, ◌∙◌, subst, arith, inl, inr}
 use Rattle.std.specs.List.{range_with_len}
 use Rattle.std.proofs.Math.Nat.{mul-le-mul_left}
@@ -17,7 +17,7 @@ use Rattle.cond_stats.proofs.Ranges.{leaf-below}
 use Rattle.cond_stats.proofs.Sorting.{rises_from_places, each_has_degree, in_order_is}
 use Rattle.cond_stats.proofs.WindowKeys.{degree-map}
 
--- where leaf i begins among n rows
+-- leaf i begins at this place among n rows
 abbrev pub cut_place : ℕ → ℕ → ℕ
 cut_place n i = n * i / 32
 
@@ -27,7 +27,6 @@ cut_place-within n i some h = (let row : n * i ≤ n * 31 = mul-le-mul_left n (o
 pub cut_place-mono : (n i j : ℕ) → i ≤ j → cut_place n i ≤ cut_place n j
 cut_place-mono n i j h = div-mono (n * i) (n * j) 32 (omega arith) (mul-le-mul_left n h)
 
--- the cuts of a column, from the values in order
 pub cuts-from : (at_most : ℕ → ℕ → Bool) (column values : List ℕ) → 0 < length column → values ≡ in_order at_most column
     → cuts at_most column ≡ map (λ i. get_or values (cut_place (length column) i) 0) (range_with_len 0 32)
 unfolding cuts
@@ -46,7 +45,6 @@ not_leb a b = elim (cases_lt b a) [
 ]
 
 module _ {at_most : ℕ → ℕ → Bool} {column numbers places : List ℕ} (order : AreInValueOrder at_most column numbers places) where
-  -- the values at the places are the values in order
   pub values_in_order : map (λ p. get_or column p 0) places ≡ in_order at_most column
   values_in_order =
       let values : List ℕ = map (λ p. get_or column p 0) places in
@@ -83,7 +81,6 @@ module _ {at_most : ℕ → ℕ → Bool} {column numbers places : List ℕ} (or
   pub length-cuts_in_order : 0 < length column → length (cuts at_most column) ≡ 32
   length-cuts_in_order some = ap length (cuts_in_order some) ∙ length-map (range_with_len 0 32) (λ i. value_at column places (cut_place (length column) i)) ∙ length-range_with_len 0 32
 
-  -- a value lies below a leaf just where its number is less than that of the leaf's cut
   pub leaf_by_number : (k leaf : ℕ) → k < length places → 0 < leaf → leaf < 32
       → ltb (leaf_of at_most column (value_at column places k)) leaf ≡ ltb (get_or numbers k 0) (get_or numbers (cut_place (length places) leaf) 0)
   leaf_by_number k leaf within some high =
@@ -110,7 +107,6 @@ module _ {at_most : ℕ → ℕ → Bool} {column numbers places : List ℕ} (or
       long : (j : ℕ) → j < length places → j < length numbers
       long j h = subst (λ s. j < length s) (sym order.numbers_are) (omega (arith, h, length-map places (λ place. order.number (get_or column place 0))))
 
-  -- the starts that the numbers tell are those of the leaves
   pub starts_found : (starts : List ℕ) → length numbers ≡ length places → length starts ≡ 33 → ((leaf : ℕ) → leaf < 33 → IsLeafStart numbers leaf (get_or starts leaf 0))
       → AreStarts at_most column places starts
   starts_found starts lengths long each = record {

@@ -1,4 +1,4 @@
--- Rank-wise maxima of lists, and the greatest of numbers.
+-- These are laws of rank-wise maxima of lists, and of the greatest of some numbers.
 use Rattle.std.proofs.Common.{◌≡◌, ℕ, zero, suc, ◌≤◌, true, eqb, max, List, [], ◌∷◌, ◌++◌, map, sum, get_or, refl, ap, ◌∙◌, arith, inl, inr}
 use Rattle.std.specs.List.{All}
 use Rattle.std.proofs.lemmas.Bool.{cases_Bool, eqb-true, false≢true}
@@ -11,7 +11,6 @@ use Rattle.degree_sequences.proofs.RunningSums.{running_sum-suc, sum-above}
 use Rattle.cond_stats.proofs.CutLists.{rank_maximum-nil}
 use Rattle.cond_stats.specs.Lists.{maxima, greatest}
 
--- a list that is at each rank at least another is above it
 pub above_by_rank : (s t : List ℕ) → ((r : ℕ) → get_or t r 0 ≤ get_or s r 0) → IsAbove s t
 above_by_rank s t h zero = omega arith
 above_by_rank s t h (suc r) = omega (arith, running_sum-suc s r, running_sum-suc t r, above_by_rank s t h r, h r)
@@ -36,7 +35,6 @@ pub IsFalling-maxima : {X : Type 0} (f : X → List ℕ) → ((v : X) → IsFall
 IsFalling-maxima f falls [] = λ r. omega arith
 IsFalling-maxima f falls (v ∷ vs) = IsFalling-rank_maximum (f v) (maxima (map f vs)) (falls v) (IsFalling-maxima f falls vs)
 
--- the maxima sum to at least the greatest of the sums
 pub greatest-le-sum : (f : ℕ → List ℕ) (g : ℕ → ℕ) → ((v : ℕ) → g v ≡ sum (f v)) → (vs : List ℕ) → greatest (map g vs) ≤ sum (maxima (map f vs))
 greatest-le-sum f g same [] = omega arith
 greatest-le-sum f g same (v ∷ vs) =
@@ -54,17 +52,14 @@ rank_maximum-assoc (x ∷ s) (y ∷ t) (z ∷ u) =
     let here : max x (max y z) ≡ max (max x y) z = omega arith in
     rw (here, rank_maximum-assoc s t u) refl
 
--- one more list
 pub maxima-push : (lists : List (List ℕ)) (list : List ℕ) → maxima (lists ++ list ∷ []) ≡ rank_maximum (maxima lists) list
 maxima-push [] list = rank_maximum-nil list
 maxima-push (first ∷ lists) list = ap (rank_maximum first) (maxima-push lists list) ∙ rank_maximum-assoc first (maxima lists) list
 
--- one more number
 pub greatest-push : (ns : List ℕ) (n : ℕ) → greatest (ns ++ n ∷ []) ≡ max (greatest ns) n
 greatest-push [] n = omega arith
 greatest-push (m ∷ ns) n = omega (arith, greatest-push ns n)
 
--- the greatest is at most what each number is at most
 pub greatest-le : {X : Type 0} (g : X → ℕ) (xs : List X) (m : ℕ) → All (λ x. g x ≤ m) xs → greatest (map g xs) ≤ m
 greatest-le g [] m all = omega arith
 greatest-le g (x ∷ xs) m all = omega (arith, all 0 x (omega arith), greatest-le g xs m (λ k d h. all (suc k) d (omega arith)))

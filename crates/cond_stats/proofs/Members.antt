@@ -1,4 +1,4 @@
--- Which values are in a list, and which keys the rows with a value have.
+-- These lemmas say which values are in a list, and which keys the rows with a value have.
 use Rattle.std.proofs.Common.{◌≡◌, ℕ, ◌<◌, ◌≤◌, Bool, true, false, cond, ◌||◌, eqb, List, [], ◌∷◌, ◌++◌, length, refl, ap, sym, ◌∙◌, arith, inl, inr}
 use Rattle.std.specs.List.{list_any, count_by}
 use Rattle.std.proofs.lemmas.Bool.{cases_Bool, cond_both, eqb-true, eq-eqb, ne_eqb, false≢true, or_cases, lt-ltb}
@@ -18,7 +18,6 @@ eqb-sym x y = elim (cases_Bool (eqb x y)) [
   | inr e ↦ e ∙ sym (ne_eqb y x (λ same. false≢true (sym e ∙ eq-eqb x y (sym same))))
 ]
 
--- two ways to ask for a value
 pub any-is_in : (D : List ℕ) (x : ℕ) → list_any (λ other. eqb other x) D ≡ is_in D x
 any-is_in [] x = refl
 any-is_in (d ∷ D) x = rw (eqb-sym d x, any-is_in D x) refl
@@ -40,7 +39,6 @@ pub is_in-in_order : (le : ℕ → ℕ → Bool) (s : List ℕ) (x : ℕ) → is
 is_in-in_order le [] x = refl
 is_in-in_order le (v ∷ s) x = is_in-put le v (in_order le s) x ∙ ap (λ b. eqb x v || b) (is_in-in_order le s x)
 
--- a value of a column is frequent, or it remains
 pub frequent_or_remaining : (column : List ℕ) (x : ℕ) → 0 < degree column x → list_any (λ other. eqb other x) (frequent column) ≡ false → is_in (remaining column) x ≡ true
 frequent_or_remaining column x some not_frequent =
     let all : List ℕ = by_frequency column in
@@ -51,7 +49,6 @@ frequent_or_remaining column x some not_frequent =
       | inr h ↦ h
     ]
 
--- as many keys as rows whose value passes
 pub length-keys_where : (p : ℕ → Bool) (rows : List (ℕ × ℕ)) → length (keys_where p rows) ≡ count_by p (filter_values rows)
 length-keys_where p [] = refl
 length-keys_where p (row ∷ rows) = elim (cases_Bool (p row.0)) [
@@ -63,7 +60,6 @@ length-keys_where p (row ∷ rows) = elim (cases_Bool (p row.0)) [
       omega (arith, none, ap length here, length-keys_where p rows, sum_by-cons (λ v. cond (p v) 1 0) row.0 (filter_values rows)))
 ]
 
--- fewer rows pass where fewer values do
 pub count_by-weaker : (A : ℕ → Bool) (p q : ℕ → Bool) → ((v : ℕ) → p v ≡ true → q v ≡ true) → (rows : List (ℕ × ℕ)) → count_by A (keys_where p rows) ≤ count_by A (keys_where q rows)
 count_by-weaker A p q weaker [] = omega arith
 count_by-weaker A p q weaker (row ∷ rows) =

@@ -1,4 +1,4 @@
--- Both leaves lie in the least node that holds them, and so does each leaf between them.
+-- `node_size` gives the size of the least node that holds two leaves. The lemmas say that this node has both leaves and each leaf between them.
 use Rattle.std.proofs.Common.{◌≡◌, ℕ, ◌/◌, ◌<◌, ◌≤◌, ◌⊎◌, Bool, true, cond, eqb, List, [], ◌∷◌, Some, None, refl, sym, ◌∙◌, arith, inl, inr}
 use Rattle.std.specs.Prelude.{find, unwrap_or}
 use Rattle.std.proofs.Math.Nat.{div-mul-le_self}
@@ -6,7 +6,7 @@ use Rattle.std.proofs.lemmas.Nat.{le-div}
 use Rattle.std.proofs.lemmas.Bool.{cases_Bool, cond_both, eqb-true, eq-eqb}
 use Rattle.cond_stats.specs.Leaves.{node_size, in_node}
 
--- a size that divides alike, or the size of the whole
+-- if no smaller size fits, the size is 32, and all leaves lie in the one node of this size
 found : (low high : ℕ) (sizes : List ℕ) → (low / unwrap_or (find (λ size. eqb (low / size) (high / size)) sizes) 32 ≡ high / unwrap_or (find (λ size. eqb (low / size) (high / size)) sizes) 32)
     ⊎ (unwrap_or (find (λ size. eqb (low / size) (high / size)) sizes) 32 ≡ 32)
 found low high [] = inr refl
@@ -40,7 +40,6 @@ all-positive p = cond_both (p 1) (Some 1) (cond (p 2) (Some 2) (cond (p 4) (Some
 pub node_size-positive : (low high : ℕ) → 0 < node_size low high
 node_size-positive low high = all-positive (λ size. eqb (low / size) (high / size))
 
--- a leaf between two lies in each node that holds both
 pub node_between : (low high leaf : ℕ) → low ≤ 31 → high ≤ 31 → low ≤ leaf → leaf ≤ high → in_node (node_size low high) low leaf ≡ true
 node_between low high leaf small_low small_high from to =
     let size : ℕ = node_size low high in

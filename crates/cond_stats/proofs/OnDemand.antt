@@ -1,4 +1,4 @@
--- The lists of a sorted column are those of its definition.
+-- The lists that a sorted column makes are the lists of the definitions.
 use Rattle.std.proofs.Common.{◌≡◌, ℕ, zero, suc, ◌+◌, ◌-◌, ◌*◌, ◌/◌, ◌<◌, ◌≤◌, min, Bool, true, eqb, List, [], ◌∷◌, map, length, take, drop, get_or, refl, ap, sym, ◌∙◌, subst, arith, inl, inr}
 use Rattle.std.specs.List.{All, Contains, zip, list_any, range_with_len}
 use Rattle.std.specs.Prelude.{slice_range}
@@ -55,13 +55,11 @@ any_contained f [] x v (k, h, at) is = absurd (omega arith)
 any_contained f (y ∷ xs) x v (zero, h, at) is = (let here : eqb (f y) v ≡ true = eq-eqb (f y) v (ap f at ∙ is) in rw here refl)
 any_contained f (y ∷ xs) x v (suc k, h, at) is = (let rest : list_any (λ w. eqb w v) (map f xs) ≡ true = any_contained f xs x v (k, omega arith, at) is in rw rest (or-true (eqb (f y) v)))
 
--- an element, whatever stands past the end
 pub at_zero : (xs : List ℕ) (i d x : ℕ) → i < length xs → x ≡ get_or xs i d → x ≡ get_or xs i 0
 at_zero [] i d x h e = absurd (omega arith)
 at_zero (y ∷ xs) zero d x h e = e
 at_zero (y ∷ xs) (suc i) d x h e = at_zero xs i d x (omega arith) e
 
--- where the node of a leaf begins and ends
 pub node_within : (size leaf : ℕ) → IsNodeSize size → leaf < 32 → (0 < size) × (leaf / size * size + size ≤ 32)
 node_within size leaf (zero, h, is) low = subst (λ s. (0 < s) × (leaf / s * s + s ≤ 32)) is (omega arith, omega arith)
 node_within size leaf (suc zero, h, is) low = subst (λ s. (0 < s) × (leaf / s * s + s ≤ 32)) is (omega arith, omega arith)
@@ -71,7 +69,6 @@ node_within size leaf (suc (suc (suc (suc zero))), h, is) low = subst (λ s. (0 
 node_within size leaf (suc (suc (suc (suc (suc zero)))), h, is) low = subst (λ s. (0 < s) × (leaf / s * s + s ≤ 32)) is (omega arith, omega arith)
 node_within size leaf (suc (suc (suc (suc (suc (suc k))))), h, is) low = absurd (omega arith)
 
--- a leaf from the node's first on, and before its end, lies in it
 node_inside : (size leaf other : ℕ) → 0 < size → leaf / size * size ≤ other → other < leaf / size * size + size → other / size ≡ leaf / size
 node_inside size leaf other some from to =
     let low : leaf / size ≤ other / size = le-div (leaf / size) other size some from in
@@ -83,7 +80,6 @@ node_inside size leaf other some from to =
 
 module _ {at_most : ℕ → ℕ → Bool} {column places : List ℕ} {groups : List Group} {cuts starts : List ℕ}
     (sorted : IsSortedColumn at_most column places groups cuts starts) (joined : List ℕ) (same : length joined ≡ length column) where
-  -- the groups that lie in the front are those of the frequent values
   pub front_values : map (value_of_group column) (take (min (length groups) 32) groups) ≡ frequent column
   front_values = ap (map (value_of_group column)) (sym (take-min 32 groups)) ∙ sym (take-map (value_of_group column) 32 groups) ∙ ap (take 32) sorted.groups_are.values
 
@@ -93,7 +89,6 @@ module _ {at_most : ℕ → ℕ → Bool} {column places : List ℕ} {groups : L
   pub any_front : (cell : ℕ) → list_any (λ v. eqb v cell) (map (value_of_group column) (take (min (length groups) 32) groups)) ≡ is_frequent (zip column joined) cell
   any_front cell = ap (list_any (λ v. eqb v cell)) (front_values ∙ ap frequent (sym (filter_values-zip column joined same)))
 
-  -- the slice of a group has the degree list of its value
   slice_is : (from count : ℕ) → slice_range places from (from + count) ≡ take count (drop from places)
   slice_is from count = (let is : (from + count) - from ≡ count = omega arith in ap (λ m. take m (drop from places)) is)
 
@@ -125,7 +120,6 @@ module _ {at_most : ℕ → ℕ → Bool} {column places : List ℕ} {groups : L
       window_count column places (λ v. eqb v (value_of_group column g)) g.start g.count sorted.moved (windows 0 g (omega arith)) in
       rw (here, counts_of_groups gs (λ k d h. windows (suc k) d (omega arith))) refl
 
-  -- the rest list is that of the groups behind the front
   pub rest_is : (k : ℕ) → compressed k (cut_at (maxima (map (degrees_of_group joined places) (drop (min (length groups) 32) groups))) (greatest (map (λ g. g.count) (drop (min (length groups) 32) groups))))
       ≡ rest k (zip column joined)
   unfolding rest
@@ -138,7 +132,7 @@ module _ {at_most : ℕ → ℕ → Bool} {column places : List ℕ} {groups : L
       ∙ ap (λ ns. compressed k (cut_at (maxima (map (λ v. degree_list (keys_with v (zip column joined))) (remaining column))) (greatest ns))) (counts_of_groups back windows ∙ ap (map (degree column)) values)
       ∙ ap (λ c. compressed k (cut_at (maxima (map (λ v. degree_list (keys_with v (zip column joined))) (remaining c))) (greatest (map (degree c) (remaining c))))) (sym (filter_values-zip column joined same))
 
-  -- ---- nodes
+  -- ---- the lists of nodes
 
   abbrev leaf_at : ℕ → ℕ
   leaf_at k = leaf_of at_most column (get_or column (get_or places k 0) 0)
@@ -179,7 +173,6 @@ module _ {at_most : ℕ → ℕ → Bool} {column places : List ℕ} {groups : L
             (λ alike. (let more : suc (leaf / size) ≤ leaf_at k / size = le-div (suc (leaf / size)) (leaf_at k) size some (omega arith) in omega (arith, more, alike))));
       }
 
-  -- the slice between two starts has the list of the node
   pub node_list : (k size leaf : ℕ) → 0 < size → leaf / size * size + size ≤ 32
       → compressed_degrees k (keys_at joined (slice_range places (get_or starts (leaf / size * size) 0) (get_or starts (leaf / size * size + size) 0))) ≡ list_of_node at_most k (zip column joined) size leaf
   unfolding list_of_node
@@ -193,7 +186,6 @@ module _ {at_most : ℕ → ℕ → Bool} {column places : List ℕ} {groups : L
       ∙ ap (compressed k) (window_list (λ v. in_node size leaf (leaf_of at_most column v)) from count (node_window size leaf some high))
       ∙ ap (λ c. compressed_degrees k (keys_where (λ v. in_node size leaf (leaf_of at_most c v)) (zip column joined))) (sym (filter_values-zip column joined same))
 
-  -- each place is one of the joined column's
   pub places_fit : All (λ place. place < length joined) places
   places_fit = All-permutation (λ place. place < length joined) (range_with_len 0 (length column)) places sorted.moved
       (All-from_get_or (λ place. place < length joined) (range_with_len 0 (length column)) 0
@@ -202,6 +194,5 @@ module _ {at_most : ℕ → ℕ → Bool} {column places : List ℕ} {groups : L
   pub places_many : length places ≡ length column
   places_many = length_permutation (range_with_len 0 (length column)) places sorted.moved ∙ length-range_with_len 0 (length column)
 
-  -- a value whose group is in the front is frequent
   pub any_found : (cell : ℕ) (group : Group) → Contains (take (min (length groups) 32) groups) group → value_of_group column group ≡ cell → is_frequent (zip column joined) cell ≡ true
   any_found cell group there value = sym (any_front cell) ∙ any_contained (value_of_group column) (take (min (length groups) 32) groups) group cell there value

@@ -25,11 +25,9 @@ unfolding cuts
 length-cuts at_most [] = omega arith
 length-cuts at_most (v ∷ vs) = omega arith
 
--- there are 32 leaves
 pub leaf-below : (at_most : ℕ → ℕ → Bool) (column : List ℕ) (p : ℕ → Bool) → leaf_above at_most column p ≤ 31
 leaf-below at_most column p = last_place-within p (cuts at_most column) 31 (length-cuts at_most column)
 
--- rows whose leaves lie between two
 pub range_dominates : (at_most : ℕ → ℕ → Bool) (k : ℕ) (rows : List (ℕ × ℕ)) (low high : ℕ) (p : ℕ → Bool) → low ≤ 31 → high ≤ 31
     → ((v : ℕ) → p v ≡ true → low ≤ leaf_of at_most (filter_values rows) v) → ((v : ℕ) → p v ≡ true → leaf_of at_most (filter_values rows) v ≤ high)
     → DominatesKeys (list_of_range at_most k rows (Some low) (Some high)) (keys_where p rows)
@@ -60,7 +58,6 @@ le_from Greater h = absurd (true≢false h)
 chains : {K : Type 0} {R : K → K → Ordering} → IsTotalOrder R → (x y z : K) → is_le (R x y) ≡ true → is_le (R y z) ≡ true → is_le (R x z) ≡ true
 chains {K} {R} total x y z h k = le_from (R x z) (upto total x y z (not_gt (R x y) h) (not_gt (R y z) k))
 
--- the order of values chains
 pub value_le-trans : (a b c : Value) → value_le a b ≡ true → value_le b c ≡ true → value_le a c ≡ true
 value_le-trans (Int a) (Int b) (Int c) h k = chains int_cmp_total a b c h k
 value_le-trans (Int a) (Int b) (Text c) h k = refl
@@ -70,7 +67,6 @@ value_le-trans (Text a) (Int b) c h k = absurd (false≢true h)
 value_le-trans (Text a) (Text b) (Int c) h k = absurd (false≢true k)
 value_le-trans (Text a) (Text b) (Text c) h k = chains nat_list_cmp_total (chars a) (chars b) (chars c) h k
 
--- rows whose values lie between two
 pub between_dominates : (texts : List (List ℕ)) (kind : Kind) (k : ℕ) (rows : List (ℕ × ℕ)) (low high : Option Value)
     → DominatesKeys (list_between texts kind k rows low high) (keys_where (is_between texts kind low high) rows)
 between_dominates texts kind k rows None None = range_dominates (cell_le texts kind) k rows 0 31 (λ v. true) (omega arith) (omega arith)

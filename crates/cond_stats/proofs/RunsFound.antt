@@ -1,4 +1,4 @@
--- The runs of equal neighbours of ascending numbers, run by run.
+-- The code finds the runs of equal neighbours in ascending numbers, run by run.
 use Rattle.std.proofs.Common.{◌≡◌, ℕ, suc, ◌+◌, ◌-◌, ◌<◌, ◌≤◌, Bool, true, false, not, ◌||◌, eqb, List, [], ◌∷◌, ◌++◌, map, length, get_or, take, replicate, refl, ap, sym, ◌∙◌, arith, length-take, inl, inr}
 use Rattle.std.specs.List.{All}
 use Rattle.std.specs.List.Sorted.{IsNonDecreasing}
@@ -11,15 +11,12 @@ use Rattle.degree_lists.proofs.RunLengths.{take-run, degree-above}
 use Rattle.cond_stats.specs.declared.groups.Group.{Group}
 use Rattle.cond_stats.specs.Runs.{IsRun, AreRunsOfNumbers, ends_run}
 
--- the number of a run
 abbrev pub number_of_run : List ℕ → Group → ℕ
 number_of_run numbers run = get_or numbers run.start 0
 
--- runs stand as their rows do
 abbrev pub StartsAscend : List Group → Type 0
 StartsAscend runs = (i j : ℕ) (none : Group) → i < j → j < length runs → (get_or runs i none).start < (get_or runs j none).start
 
--- and so does one more run behind them
 starts_ascend-push : (runs : List Group) (run : Group) → StartsAscend runs → All (λ before. before.start < run.start) runs → StartsAscend (runs ++ run ∷ [])
 starts_ascend-push runs run up behind i j none low high =
     let first : (get_or (runs ++ run ∷ []) i none).start ≡ (get_or runs i none).start =
@@ -34,7 +31,7 @@ starts_ascend-push runs run up behind i j none low high =
       )
     ]
 
--- the runs before the one that begins at `start` and goes on at place i
+-- the runs before place i were found. A run that isn't finished yet begins at `start`
 pub record RunsSoFar (numbers places : List ℕ) (runs : List Group) (start i : ℕ) : Type 0 where
   pub within : start ≤ i
   pub more : start < i → i < length numbers
@@ -57,7 +54,6 @@ no_runs numbers places = record {
   behind = All-nil (λ (run : Group). run.start < 0);
 }
 
--- what the test says where a run goes on, and where it ends
 goes_on : (numbers : List ℕ) (i : ℕ) → i < length numbers → ends_run numbers i (get_or numbers i 0) ≡ false → (i + 1 < length numbers) × (get_or numbers (i + 1) 0 ≡ get_or numbers i 0)
 goes_on numbers i within same_run =
     let last : eqb (i + 1) (length numbers) ≡ false = left (eqb (i + 1) (length numbers)) (not (eqb (get_or numbers (i + 1) 0) (get_or numbers i 0))) same_run in
@@ -148,7 +144,6 @@ run_ends numbers places runs start i run up so within end_here first_is start_is
       | inr l ↦ absurd (differs (omega arith))
     ]
 
--- at the end of the numbers every run is found
 pub all_runs : (numbers places : List ℕ) (runs : List Group) (start i : ℕ) → RunsSoFar numbers places runs start i → length numbers ≤ i → AreRunsOfNumbers numbers places runs
 all_runs numbers places runs start i so end =
     let none : length numbers ≤ start = elim (cases_lt start i) [ inl h ↦ absurd (omega (arith, so.more h)) | inr h ↦ omega arith ] in

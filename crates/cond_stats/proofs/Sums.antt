@@ -1,4 +1,4 @@
--- What the lists sum to.
+-- These lemmas say what the lists for all rows, for a value, for the rest and for a node sum to.
 use Rattle.std.proofs.Common.{◌≡◌, ℕ, ◌+◌, min, Bool, true, false, cond, eqb, List, map, length, sum, Some, refl, ap, sym, ◌∙◌, arith}
 use Rattle.std.specs.List.{count_by}
 use Rattle.std.proofs.lemmas.List.{length-map}

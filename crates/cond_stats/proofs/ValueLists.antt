@@ -1,4 +1,4 @@
--- The list of a value, case by case.
+-- If a value is frequent, it has a list of its own. Any other value has the rest list, and so has a value that has no cell.
 use Rattle.std.proofs.Common.{◌≡◌, ℕ, true, false, List, Some, None, refl}
 use Rattle.cond_stats.specs.Lists.{rest, is_frequent, compressed_degrees, keys_with, list_of_value}
 

@@ -1,4 +1,5 @@
--- The keys at the places of a window have the degrees of the keys of the rows whose value passes.
+-- A window is a stretch of places that has exactly the places whose value passes a test. So the keys at these places have the degrees that they have in the
+-- rows whose value passes.
 use Rattle.std.proofs.Common.{◌≡◌, ℕ, zero, suc, ◌+◌, ◌<◌, ◌≤◌, Bool, true, false, cond, ◌&&◌, eqb, List, [], ◌∷◌, map, length, length-take, length-drop, take, drop, get_or, refl, ap, sym, ◌∙◌, arith, inl, inr}
 use Rattle.std.specs.List.{sum_by, count_by, range_with_len, zip}
 use Rattle.std.specs.List.Sorted.{IsPermutation}
@@ -13,7 +14,7 @@ use Rattle.degree_lists.proofs.SameDegrees.{same_degrees}
 use Rattle.cond_stats.specs.Rows.{keys_where}
 use Rattle.cond_stats.specs.Windows.{IsWindow}
 
--- one where a test passes, else 0
+-- this is 1 if the test passes, otherwise 0
 abbrev pub one : Bool → ℕ
 one b = cond b 1 0
 
@@ -23,7 +24,6 @@ none_counted (x ∷ xs) p q none =
     let here : one (p x && q x) ≡ 0 = rw (none 0 (omega arith)) refl in
     omega (arith, here, sum_by-cons (λ y. one (p y && q y)) x xs, none_counted xs p q (λ i h. none (suc i) (omega arith)))
 
--- what is counted of those that pass is counted in the stretch that holds them
 pub counted_within : (xs : List ℕ) (from count : ℕ) (p q : ℕ → Bool) → from + count ≤ length xs
     → ((i : ℕ) → from ≤ i → i < from + count → p (get_or xs i 0) ≡ true)
     → ((i : ℕ) → i < from → p (get_or xs i 0) ≡ false)
@@ -55,7 +55,6 @@ pub degree-map : (f : ℕ → ℕ) (a : ℕ) (xs : List ℕ) → degree (map f x
 degree-map f a [] = refl
 degree-map f a (x ∷ xs) = omega (arith, degree-map f a xs, sum_by-cons (λ y. one (eqb y a)) (f x) (map f xs), sum_by-cons (λ y. one (eqb (f y) a)) x xs)
 
--- the degree of a key in the rows whose value passes, counted by their places
 degree-keys_where : (p : ℕ → Bool) (a : ℕ) (column joined : List ℕ) → length column ≡ length joined
     → degree (keys_where p (zip column joined)) a ≡ sum_by (λ i. one (p (get_or column i 0) && eqb (get_or joined i 0) a)) (range_with_len 0 (length column))
 degree-keys_where p a [] joined same = refl
@@ -74,7 +73,6 @@ degree-keys_where p a (v ∷ vs) (k ∷ ks) same =
           omega (arith, rest, first, ap (λ s. degree s a) here))
     ]
 
--- the keys at the places of a window
 abbrev pub keys_in : List ℕ → List ℕ → ℕ → ℕ → List ℕ
 keys_in joined places from count = map (λ place. get_or joined place 0) (take count (drop from places))
 
@@ -86,7 +84,6 @@ window_degrees column joined places p from count same moved window = same_degree
     ∙ sum_by-IsPermutation (λ i. one (p (get_or column i 0) && eqb (get_or joined i 0) a)) (range_with_len 0 (length column)) places moved
     ∙ sym (degree-keys_where p a column joined (sym same)))
 
--- a window has as many places as there are rows whose value passes
 pub window_count : (column places : List ℕ) (p : ℕ → Bool) (from count : ℕ) → IsPermutation (range_with_len 0 (length column)) places
     → IsWindow column places p from count → count ≡ count_by p column
 window_count column places p from count moved window =

@@ -12,7 +12,7 @@ use Rattle.cond_stats.specs.Rows.{filter_values}
 abbrev pub value_le : Value → Value → Bool
 value_le a b = is_le (value_cmp a b)
 
--- the value of one cell is at most that of another
+-- the value of one cell is at most the value of another
 abbrev pub cell_le : List (List ℕ) → Kind → ℕ → ℕ → Bool
 cell_le texts kind cell other = value_le (value_of_cell texts kind cell) (value_of_cell texts kind other)
 

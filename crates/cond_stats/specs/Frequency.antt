@@ -8,16 +8,15 @@ use Rattle.cond_stats.specs.Leaves.{in_order}
 abbrev pub first_place : List ℕ → ℕ → ℕ
 first_place column value = position_or_len (λ other. other == value) column
 
--- a is more frequent than b, or as frequent and occurs no later
+-- a is more frequent than b, or as frequent as b and occurs no later
 abbrev pub comes_before : List ℕ → ℕ → ℕ → Bool
 comes_before column a b =
     nat_lt (degree column b) (degree column a) || degree column a == degree column b && nat_le (first_place column a) (first_place column b)
 
--- the different values of a column, the most frequent first; of equally frequent ones the one that occurs first
+-- the different values of a column, the most frequent first; of equally frequent values, the value that occurs first comes first
 abbrev pub by_frequency : List ℕ → List ℕ
 by_frequency column = in_order (comes_before column) (different column)
 
--- the frequent values
 abbrev pub frequent : List ℕ → List ℕ
 frequent column = take 32 (by_frequency column)
 

@@ -10,7 +10,7 @@ put_in_order at_most value [] = value ∷ []
 put_in_order at_most value (other ∷ others) =
     if at_most value other then value ∷ (other ∷ others) else (other ∷ put_in_order at_most value others)
 
--- the same values in ascending order
+-- the values of a list in ascending order
 abbrev pub in_order : (ℕ → ℕ → Bool) → List ℕ → List ℕ
 in_order at_most [] = []
 in_order at_most (value ∷ values) = put_in_order at_most value (in_order at_most values)
@@ -31,7 +31,7 @@ last_place passes (x ∷ xs) = if list_any passes xs then suc (last_place passes
 abbrev pub leaf_above : (ℕ → ℕ → Bool) → List ℕ → (ℕ → Bool) → ℕ
 leaf_above at_most column passes = last_place passes (cuts at_most column)
 
--- the leaf of a value: the last whose cut is at most the value, or 0 where no cut is
+-- the leaf of a value: the last leaf whose cut is at most the value, or 0 if there is no such cut
 abbrev pub leaf_of : (ℕ → ℕ → Bool) → List ℕ → ℕ → ℕ
 leaf_of at_most column value = leaf_above at_most column (λ cut. at_most cut value)
 

@@ -36,8 +36,8 @@ abbrev pub greatest : List ℕ → ℕ
 greatest [] = 0
 greatest (n ∷ ns) = max n (greatest ns)
 
--- the rest list: the rank-wise maximum of the degree lists of all values that aren't frequent. It is cut to as many rows as the most
--- frequent of these values has, and then compressed. It is empty where each value is frequent
+-- the rest list: the rank-wise maximum of the degree lists of all values that aren't frequent. This maximum is cut to as many rows as the most
+-- frequent of these values has, and then compressed. The list is empty if each value is frequent
 unfoldable pub rest : ℕ → List (ℕ × ℕ) → List ℕ
 rest accuracy rows =
     let values = remaining (filter_values rows) in
@@ -48,19 +48,19 @@ rest accuracy rows =
 abbrev pub is_frequent : List (ℕ × ℕ) → ℕ → Bool
 is_frequent rows value = list_any (λ other. other == value) (frequent (filter_values rows))
 
--- the list of a value: that of its rows where it is frequent, else the rest list. A value that is in no row has the rest list
+-- the list of a value: the list of its rows if it is frequent, otherwise the rest list. A value that is in no row has the rest list
 unfoldable pub list_of_value : ℕ → List (ℕ × ℕ) → Option ℕ → List ℕ
 list_of_value accuracy rows None = rest accuracy rows
 list_of_value accuracy rows (Some value) =
     if is_frequent rows value then compressed_degrees accuracy (keys_with value rows) else rest accuracy rows
 
--- the list of the node of this size that holds this leaf: that of the rows whose leaf lies in the node
+-- the list of the rows whose leaf lies in the node that has this size and holds this leaf
 unfoldable pub list_of_node : (ℕ → ℕ → Bool) → ℕ → List (ℕ × ℕ) → ℕ → ℕ → List ℕ
 list_of_node at_most accuracy rows size leaf =
     list_where accuracy (λ value. in_node size leaf (leaf_of at_most (filter_values rows) value)) rows
 
--- the list of a range: that of the least node that holds the leaves of both ends. A missing low end is leaf 0, and a missing high end is
--- leaf 31. The low leaf may be greater than the high one
+-- the list of a range: the list of the least node that holds the leaves of both ends. A missing low end is leaf 0, and a missing high end is leaf 31.
+-- The low leaf may be greater than the high leaf
 abbrev pub list_of_range : (ℕ → ℕ → Bool) → ℕ → List (ℕ × ℕ) → Option ℕ → Option ℕ → List ℕ
 list_of_range at_most accuracy rows low high =
     let first = unwrap_or low 0 in

@@ -22,12 +22,12 @@ pub record AreRunsOfNumbers (numbers places : List ℕ) (runs : List Group) : Ty
   pub all : map (λ run. slice_index numbers run.start) runs ≡ different numbers
   pub ascend : (i j : ℕ) (none : Group) → i < j → j < length runs → (slice_index_or runs i none).start < (slice_index_or runs j none).start
 
--- `places` has the places of the numbers in ascending order of the numbers, those of equal numbers ascending; `runs` has their runs
+-- `places` has the places of the numbers in ascending order of the numbers. The places of equal numbers ascend. `runs` has the runs of equal numbers
 pub record AreSortedInRuns (numbers places : List ℕ) (runs : List Group) : Type 0 where
   pub sorted : AreSorted numbers (numbers_at numbers places) places
   pub runs_are : AreRunsOfNumbers (numbers_at numbers places) places runs
 
--- `places` has the column's places in ascending order of their values, those of equal values ascending; `runs` has the runs of the values
+-- `places` has the column's places in ascending order of their values. The places of equal values ascend. `runs` has the runs of the values
 pub record AreInRuns (at_most : ℕ → ℕ → Bool) (column places : List ℕ) (runs : List Group) : Type 0 where
   pub numbers : List ℕ
   pub order : AreInValueOrder at_most column numbers places
@@ -50,7 +50,8 @@ pub record AreStarts (at_most : ℕ → ℕ → Bool) (column places starts : Li
   pub tell : (leaf k : ℕ) → leaf ≤ 32 → k < length places
       → nat_lt (leaf_of at_most column (slice_index column (slice_index places k))) leaf ≡ nat_lt k (slice_index starts leaf)
 
--- `start` is how many numbers are below the cut of a leaf. For leaf 0 it is 0. For 32, the end of the last leaf, it is the number of all
+-- `start` is how many numbers are below the cut of a leaf. For leaf 0 `start` is 0. For 32, the end of the last leaf, `start` is how many numbers
+-- there are
 pub record IsLeafStart (numbers : List ℕ) (leaf start : ℕ) : Type 0 where
   pub within : start ≤ length numbers
   pub first : leaf ≡ 0 → start ≡ 0
@@ -58,6 +59,6 @@ pub record IsLeafStart (numbers : List ℕ) (leaf start : ℕ) : Type 0 where
   pub between : (k : ℕ) → 0 < leaf → leaf < 32 → k < length numbers
       → nat_lt (slice_index numbers k) (slice_index numbers (length numbers * leaf / 32)) ≡ nat_lt k start
 
--- whether a number is the last of its run: no number follows it, or a different one
+-- whether a number is the last of its run: no number follows, or a different number follows
 abbrev pub ends_run : List ℕ → ℕ → ℕ → Bool
 ends_run numbers i number = i + 1 == length numbers || not (slice_index numbers (i + 1) == number)

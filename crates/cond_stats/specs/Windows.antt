@@ -1,7 +1,7 @@
 -- A stretch of a list of places that holds just the places whose value passes.
 use Rattle.std.specs.Prelude.{ℕ, ◌≡◌, ◌+◌, ◌<◌, ◌≤◌, Bool, true, false, List, length, slice_index}
 
--- of the places, those from `from` on, `count` of them, have a value that passes, and no others have
+-- the places at the indexes from `from` to below `from + count` have values that pass, and all other places have values that fail
 pub record IsWindow (column places : List ℕ) (passes : ℕ → Bool) (from count : ℕ) : Type 0 where
   pub ends : from + count ≤ length places
   pub inside : (i : ℕ) → from ≤ i → i < from + count → passes (slice_index column (slice_index places i)) ≡ true

@@ -21,8 +21,8 @@ use schema_types::Kind;
 use std::alloc::Global;
 use std::marker::Model;
 
-/// A filter column whose rows are kept in the order of their values. It serves every joined column of its table. Contracts see
-/// the cells as they came, their kind and the texts of the pool.
+/// A filter column whose rows are kept in the order of their values. One `FilterColumn` serves for every joined column of its table. Contracts see
+/// the cells in the order of the table's rows, their kind and the texts of the pool.
 #[derive(Drop)]
 pub struct FilterColumn<'a> {
     pool: &'a Pool,
@@ -73,8 +73,8 @@ impl<'a> FilterColumn<'a> {
         })
     }
 
-    /// The list of a value, by its cell: that of its rows where it is frequent, else the rest list. `None` stands for a text that the
-    /// pool doesn't have.
+    /// The list of a value, which is given by its cell: the list of the value's rows if it is frequent, otherwise the rest list. `None` stands for a
+    /// text that the pool doesn't have.
     pub fn list_of_value(
         &self,
         joined: &[u64],
@@ -93,8 +93,8 @@ impl<'a> FilterColumn<'a> {
         }
     }
 
-    /// The list of a range, by the leaves of its ends: that of the least node that holds both. `None` is leaf 0 as the low end, and leaf 31
-    /// as the high end.
+    /// The list of a range, by the leaves of its ends: the list of the least node that holds both leaves. `None` is leaf 0 as the low end, and leaf
+    /// 31 as the high end.
     pub fn list_of_range(
         &self,
         joined: &[u64],
@@ -113,7 +113,7 @@ impl<'a> FilterColumn<'a> {
         self.list_of_node(joined, size_of_node(low, high), low, accuracy)
     }
 
-    /// The leaf of a number: the last whose cut is at most the number, or 0 where no cut is.
+    /// The leaf of a number: the last leaf whose cut is at most the number, or 0 if there is no such cut.
     pub fn leaf_of_int(&self, value: i64) -> u8
         ensures leaf { result ≡ leaf_of_value self.now.texts self.now.kind self.now.cells (Int value) }
         ensures below { result < 32 }
@@ -121,7 +121,7 @@ impl<'a> FilterColumn<'a> {
         leaf_of_int(self.kind, self.cuts.as_slice(), cell_of(value))
     }
 
-    /// The leaf of a text, which need not be in the pool: the last whose cut is at most the text, or 0 where no cut is.
+    /// The leaf of a text, which need not be in the pool: the last leaf whose cut is at most the text, or 0 if there is no such cut.
     pub fn leaf_of_text(&self, text: &str) -> u8
         ensures leaf { result ≡ leaf_of_value self.now.texts self.now.kind self.now.cells (Text text.now) }
         ensures below { result < 32 }
@@ -129,7 +129,7 @@ impl<'a> FilterColumn<'a> {
         leaf_of_text(self.kind, self.pool, self.cuts.as_slice(), text)
     }
 
-    /// The rest list: the list of every value that isn't frequent.
+    /// The rest list: the one list for all values that aren't frequent.
     pub fn rest(&self, joined: &[u64], accuracy: Accuracy) -> Result<Pieces, NoMemory>
         requires joined { length joined.now ≡ length self.now.cells }
         ensures { IfOk result (λ list. list ≡ rest accuracy (zip self.now.cells joined.now)) }
@@ -186,7 +186,7 @@ impl<'a> FilterColumn<'a> {
         self.cuts.as_slice()
     }
 
-    // The list of a value, where it is frequent.
+    // The list of a value, if the value is frequent.
     fn list_of_frequent(
         &self,
         joined: &[u64],

@@ -40,8 +40,8 @@ fn is_at_most_text(kind: Kind, pool: &Pool, cell: u64, text: &str) -> bool
     }
 }
 
-/// The leaf of a number, which is given as its cell: the last whose cut is at most the number, or 0 where no cut is. There are at most
-/// 32 cuts. Where the cuts are texts, the leaf is 0.
+/// The leaf of a number, which is given as its cell: the last leaf whose cut is at most the number, or 0 if there is no such cut. There are at most
+/// 32 cuts. If the cuts are texts, the leaf is 0.
 pub fn leaf_of_int(kind: Kind, cuts: &[u64], number: u64) -> u8
     requires { length cuts.now ≤ 32 }
     ensures { (texts : List (List ℕ)) → result ≡ last_place
@@ -56,8 +56,8 @@ pub fn leaf_of_int(kind: Kind, cuts: &[u64], number: u64) -> u8
     leaf
 }
 
-/// The leaf of a text: the last whose cut is at most the text, or 0 where no cut is. There are at most 32 cuts. Where the cuts are numbers,
-/// each is at most the text.
+/// The leaf of a text: the last leaf whose cut is at most the text, or 0 if there is no such cut. There are at most 32 cuts. If the cuts are numbers,
+/// each cut is at most the text.
 pub fn leaf_of_text(kind: Kind, pool: &Pool, cuts: &[u64], text: &str) -> u8
     requires { length cuts.now ≤ 32 }
     ensures { result ≡ last_place (λ cut. value_le (value_of_cell pool.now kind cut) (Text text.now)) cuts.now }

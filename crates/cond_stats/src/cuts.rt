@@ -38,7 +38,7 @@ pub(crate) fn leaf_starts(alloc: Global, runs: &[Group], rows: u32) -> Result<Ve
     Ok(starts)
 }
 
-// How many rows have a lower leaf than this one: those before the run of the leaf's cut. For 32, the end of the last leaf, it is all rows.
+// How many rows have a leaf below `leaf`: the rows before the run of this leaf's cut. For 32, the end of the last leaf, these are all rows.
 fn leaf_start(runs: &[Group], rows: u32, leaf: u32) -> u32
     requires leaf { leaf ≤ 32 }
     ensures { (numbers places : List ℕ) → length numbers ≡ rows → AreRunsOfNumbers numbers places runs.now → IsLeafStart numbers leaf result }

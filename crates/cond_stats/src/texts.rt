@@ -41,7 +41,7 @@ fn different_cells(alloc: Global, cells: &[u64]) -> Result<IndexSet<u64>, NoMemo
     Ok(set)
 }
 
-// The same cells, in the order of their texts.
+// The cells in the order of their texts.
 fn by_text(alloc: Global, pool: &Pool, cells: &[u64]) -> Result<Vec<u64>, NoMemory>
     ensures { IfOk result (λ ordered. AreByText pool.now cells.now ordered.items) }
 {
@@ -87,7 +87,7 @@ pub(crate) fn numbered_by_rank(
     Ok(numbers)
 }
 
-// The rank of a cell, or 0 where it has none.
+// The rank of a cell, or 0 if the cell has no rank.
 fn rank_of(text_numbers: &IndexSet<u64>, cell: u64) -> u64
     ensures { result ≡ number_or_zero text_numbers.now.keys cell }
 {

@@ -1,4 +1,4 @@
--- The counted bounds of all sets: each is the one of its set.
+-- At the number of a set, the list of counted bounds has this set's bound. So the laws of one set's bound carry over to the list.
 use Rattle.std.proofs.Common.{◌≡◌, ◌⊎◌, ℕ, ◌^◌, ◌<◌, ◌≤◌, true, List, [], Ok, length, get_or, refl, sym, ◌∙◌, subst, arith, ◌+◌, take}
 use Rattle.std.proofs.lemmas.List.FromFn.{get_or-map-range_with_len}
 use Rattle.limits.specs.Profile.{most_budget, most_entries, top_bound}
@@ -56,7 +56,7 @@ module _ (counted : Counted) (query : Query) (tables : Tables) (lists : List (Li
       → get_or (counted_bounds_of_sets counted query tables lists) subset 0 ≡ saturated (length (level_over (conjuncts_of query tables) (list_at lists) order))
   exact_at subset order fits o all constants = at subset fits ∙ exact counted query tables lists subset order o all constants
 
-  -- a level of a plan has exactly its bound, which is within the budget and so far below the top bound
+  -- the bound is at most the budget, so it is below the top bound and isn't saturated
   pub level_exact : (budget k : ℕ) (plan : Plan) → length query.from ≤ most_entries → budget ≤ most_budget
       → plan_answer (counted_bounds_of_sets counted query tables lists) (list_sizes query lists) budget ≡ Ok plan → k < length query.from
       → AllAreCounted counted query tables (set_of (take (k + 1) plan.order)) → all_hold (conjuncts_of query tables) [] (row_in [] []) ≡ true

@@ -2,8 +2,8 @@
 //!
 //! In: a query and its tables. Out: its reduced scans, and the bound of each set of entries by counting over these (`from_counted`).
 //!
-//! The laws say why plans can be chosen by these bounds (`counted_bounds_of_sets`). They hold for any lists of rows, under whatever conjuncts
-//! sets are counted (`Counted` of counted_bounds). No level over the lists has more rows than the bound. The bound is at most the one from
+//! The laws say why plans can be chosen by these bounds (`counted_bounds_of_sets`). The laws hold for any lists of rows, under whatever conjuncts
+//! sets are counted (`Counted` of counted_bounds). No level over the lists has more rows than the bound. The bound is at most the bound from
 //! degree sequences of the same lists, at any accuracy. If the parts of a set are counted under all of their conjuncts, and conjuncts without
 //! entries hold, the bound is the number of rows.
 //!

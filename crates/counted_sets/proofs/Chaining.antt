@@ -1,4 +1,4 @@
--- The last place before a place that has a key.
+-- `last_before` gives the last of the first n places with a key. The lemmas say that it has the key and that no later place has it.
 use Rattle.std.proofs.Common.{◌≡◌, ℕ, zero, suc, ◌<◌, ◌≤◌, [], ◌∷◌, length, refl, ap, sym, ◌∙◌, subst, arith, inl, inr}
 use Rattle.std.specs.Prelude.{◌⊎◌}
 use Rattle.std.proofs.lemmas.Bool.{cases_eq, eq-eqb, ne_eqb}
@@ -17,7 +17,6 @@ last_within key_of key (suc n) = elim (cases_eq (key_of n) key) [
   | inr apart ↦ omega (arith, last_other key_of key n apart, last_within key_of key n)
 ]
 
--- the place has the key
 pub last_has : (key_of : ℕ → ℕ) (key n k : ℕ) → last_before key_of key n ≡ suc k → key_of k ≡ key
 last_has key_of key zero k is = absurd (omega (arith, is))
 last_has key_of key (suc n) k is = elim (cases_eq (key_of n) key) [
@@ -25,7 +24,6 @@ last_has key_of key (suc n) k is = elim (cases_eq (key_of n) key) [
   | inr apart ↦ last_has key_of key n k (sym (last_other key_of key n apart) ∙ is)
 ]
 
--- and no place from it on has the key
 pub none_after : (key_of : ℕ → ℕ) (key n p : ℕ) → last_before key_of key n ≤ p → p < n → key_of p ≡ key → ⊥
 none_after key_of key zero p from below is = omega arith
 none_after key_of key (suc n) p from below is = elim (cases_eq (key_of n) key) [

@@ -1,4 +1,4 @@
--- The list of the slots whose count is 0, as counts are made and as they fall.
+-- The code lists the slots whose count is 0. The list is right when it is made, and it stays right when a count falls.
 use Rattle.std.proofs.Common.{◌≡◌, ℕ, zero, suc, ◌+◌, ◌-◌, ◌<◌, ◌≤◌, List, [], ◌∷◌, ◌++◌, length, get_or, set, take, refl, ap, sym, ◌∙◌, subst, arith, inl, inr, length-append}
 use Rattle.std.specs.Prelude.{◌⊎◌}
 use Rattle.std.specs.List.{Contains}
@@ -36,7 +36,6 @@ positives-push_some (suc n ∷ counts) m = omega (arith, positives-push_some cou
 pub pushed-last : (work : List ℕ) (q : ℕ) → Contains (work ++ q ∷ []) q
 pushed-last work q = Contains-append_right work (q ∷ []) q (0, omega arith, refl)
 
--- each place of a list with one more is a place of the list, or the last
 pub pushed_place : (P : ℕ → Type 0) (work : List ℕ) (q p : ℕ) → p < length (work ++ q ∷ []) → (p < length work → P (get_or work p 0)) → P q → P (get_or (work ++ q ∷ []) p 0)
 pushed_place P work q p h old last = elim (cases_lt p (length work)) [
   | inl before ↦ subst P (sym (get_or-append work (q ∷ []) 0 p before)) (old before)
@@ -76,12 +75,10 @@ listed_some counts work m listed = record {
   room = omega (arith, listed.room, length-append counts (suc m ∷ []), positives-push_some counts m);
 }
 
--- a listed slot isn't one of count above 0
 listed_apart : (counts work : List ℕ) (q p : ℕ) → EmptySlotsAreListed counts work → 0 < get_or counts q 0 → p < length work → get_or work p 0 ≡ q → ⊥
 listed_apart counts work q p listed some h is =
     let none : get_or counts q 0 ≡ 0 = subst (λ k. get_or counts k 0 ≡ 0) is (listed.zero_there p h) in omega (arith, none, some)
 
--- the last of a slot is taken
 pub listed_last : (counts work : List ℕ) (q : ℕ) → q < length counts → 0 < get_or counts q 0 → EmptySlotsAreListed counts work → EmptySlotsAreListed (set counts q 0) (work ++ q ∷ [])
 listed_last counts work q within some listed = record {
   within = λ p h. pushed_place (λ k. k < length (set counts q 0)) work q p h (λ before. omega (arith, listed.within p before, length-set counts q 0)) (omega (arith, length-set counts q 0));
@@ -95,7 +92,6 @@ listed_last counts work q within some listed = record {
   room = omega (arith, listed.room, length-set counts q 0, length-append work (q ∷ []), positives-set_zero counts q within some);
 }
 
--- one of several is taken
 pub listed_less : (counts work : List ℕ) (q n : ℕ) → q < length counts → 0 < get_or counts q 0 → EmptySlotsAreListed counts work → EmptySlotsAreListed (set counts q (suc n)) work
 listed_less counts work q n within some listed = record {
   within = λ p h. omega (arith, listed.within p h, length-set counts q (suc n));
@@ -108,11 +104,9 @@ listed_less counts work q n within some listed = record {
   room = omega (arith, listed.room, length-set counts q (suc n), positives-set_some counts q n within some);
 }
 
--- a count above 0 has its part of the room
 pub some_room : (counts : List ℕ) (q : ℕ) → q < length counts → 0 < get_or counts q 0 → 1 ≤ positives counts
 some_room counts q within some = omega (arith, positives-set_zero counts q within some)
 
--- the same, as the code has it
 pub taken_last : (counts : List ℕ) (work new : Rows ℕ) (q left : ℕ) → q < length counts → 0 < get_or counts q 0 → left ≡ 0 → new.items ≡ work.items ++ q ∷ [] → new.spare + 1 ≡ work.spare → IsWorkOf counts work
     → IsWorkOf (set counts q left) new
 taken_last counts work new q left within some last items spare are = record {
@@ -127,7 +121,6 @@ taken_less counts work q (suc n) within some more are = record {
   spare = are.spare ∙ sym (positives-set_some counts q n within some);
 }
 
--- the same, as the loop over the counts has it
 pub zeros_zero : (counts work : List ℕ) (slot : ℕ) → slot < length counts → get_or counts slot 0 ≡ 0 → EmptySlotsAreListed (take slot counts) work → EmptySlotsAreListed (take (slot + 1) counts) (work ++ slot ∷ [])
 zeros_zero counts work slot h none listed =
     let size : length (take slot counts) ≡ slot = length-take-le slot counts (omega arith) in

@@ -1,4 +1,4 @@
--- Items that are taken away, and why no consistent set loses one.
+-- Items are removed one by one. The counts of uses that give a slot stay right, and no consistent set loses an item.
 use Rattle.std.proofs.Common.{◌≡◌, ℕ, zero, suc, ◌+◌, ◌-◌, ◌<◌, ◌≤◌, Bool, true, false, List, [], ◌∷◌, ◌++◌, length, get_or, set, refl, ap, sym, ◌∙◌, subst, arith, inl, inr}
 use Rattle.std.specs.Prelude.{◌⊎◌, ◌==◌, replicate}
 use Rattle.std.specs.List.{Contains}
@@ -12,7 +12,7 @@ use Rattle.counted_sets.specs.Counts.{supply, item_at, need_at, use_at, AreGone,
 use Rattle.counted_sets.proofs.Chaining.{last_has, last_within, none_after}
 use Rattle.counted_sets.proofs.Supply.{given-supply, place_of, stands_there, supply-given, supply-set, supply_last, supply_one, supply_other}
 
--- ---- what one item gives is taken off, place by place of its chain
+-- ---- the counts fall by one for each use of `item`, along the item's chain
 
 pub record AreTaken (uses : List Use) (item : ℕ) (before counts : List ℕ) (at : ℕ) : Type 0 where
   pub within : at ≤ length uses
@@ -35,7 +35,6 @@ taken_none uses item keys at lasts befores before chains low is =
       taken = λ slot h. ap (λ n. get_or before slot 0 + n) (supply_last uses slot item (length uses) ∙ ap (supply (λ i. i == item) uses slot) last);
     }
 
--- the first use of the chain that is left
 first_left : (uses : List Use) (item slot place : ℕ) → item_at uses place ≡ item → (use_at uses place).gives ≡ slot → supply (λ i. i == item) uses slot (suc place) ≡ 1 + supply (λ i. i == item) uses slot place
 first_left uses item slot place here gives = supply_one (λ i. i == item) uses slot place (eq-eqb (item_at uses place) item here) gives
 
@@ -73,7 +72,7 @@ taken_one uses item (suc place) slot next keys lasts befores before counts chain
           ]);
     }
 
--- a chain goes back
+-- each link leads to a lower place, so a walk along a chain ends
 pub back_before : (key_of : ℕ → ℕ) (at places next keys : ℕ) (lasts befores : List ℕ) → AreUseChains key_of keys places lasts befores → 0 < at → at ≤ places → next ≡ get_or befores (at - 1) 0 → next < at
 back_before key_of zero places next keys lasts befores chains some within link = absurd (omega arith)
 back_before key_of (suc place) places next keys lasts befores chains some within link =
@@ -81,7 +80,7 @@ back_before key_of (suc place) places next keys lasts befores chains some within
     let last : next ≡ last_before key_of (key_of place) place = link ∙ ap (λ p. get_or befores p 0) e ∙ chains.before place (omega arith) in
     omega (arith, last, last_within key_of (key_of place) place)
 
--- ---- one item
+-- ---- removing one item
 
 pub enough_left : (items slots : ℕ) (uses : List Use) (marks : List Bool) (counts : List ℕ) (work : Rows ℕ) (item : ℕ) → IsCounted items slots uses marks counts work → item < items → marked marks item ≡ true
     → (slot : ℕ) → slot < length counts → supply (λ i. i == item) uses slot (length uses) ≤ get_or counts slot 0
@@ -99,13 +98,12 @@ removed items slots uses marks counts new_counts work new_work item counted h st
   listed = listed;
 }
 
--- an item that isn't marked
 pub not_marked : (marks : List Bool) (item : ℕ) → marked marks item ≡ false → set marks item false ≡ marks
 not_marked marks item gone = ap (set marks item) (sym gone) ∙ set-get_or marks item false
 
 -- ---- why no consistent set loses an item
 
--- no consistent set within the marked items has an item that needs a slot which none of them gives
+-- if no marked item gives `slot`, a consistent set of marked items has no item that needs `slot`
 doomed : (items : ℕ) (uses : List Use) (marks : List Bool) (slot : ℕ) → supply (marked marks) uses slot (length uses) ≡ 0 → (other : ℕ → Bool) → IsConsistent items uses other
     → ((i : ℕ) → other i ≡ true → marked marks i ≡ true) → (k : ℕ) → k < length uses → need_at uses k ≡ slot → other (item_at uses k) ≡ true → ⊥
 doomed items uses marks slot none other consistent within k h needs stands =
@@ -137,7 +135,7 @@ safe_one items uses old marks slot k none h needs so_far = record {
   ];
 }
 
--- ---- the items that need one slot go, place by place of its chain
+-- ---- every item that needs `slot` is removed, along the slot's chain
 
 pub record AreGoneFrom (uses : List Use) (slot at : ℕ) (marks : List Bool) : Type 0 where
   pub within : at ≤ length uses
@@ -182,7 +180,7 @@ gone_still items uses old new slot safe gone k h needs = elim (cases_Bool (marke
   | inr goes ↦ goes
 ]
 
--- ---- the whole run: every slot that is listed before `at` was worked off
+-- ---- the whole reduction: no marked item needs one of the slots that are listed before index `at`
 
 pub record Reducing (items slots : ℕ) (uses : List Use) (marks : List Bool) (counts : List ℕ) (work : Rows ℕ) (at : ℕ) : Type 0 where
   pub within : at ≤ length work.items
@@ -199,7 +197,6 @@ length-all_marked : (n : ℕ) → length (replicate n true) ≡ n
 length-all_marked zero = refl
 length-all_marked (suc n) = ap suc (length-all_marked n)
 
--- while every item is marked, the supply is that of all uses
 supply-all : (items n : ℕ) (uses : List Use) (slot : ℕ) → ((k : ℕ) → k < n → item_at uses k < items) → supply (marked (replicate items true)) uses slot n ≡ supply (λ item. true) uses slot n
 supply-all items zero uses slot within = refl
 supply-all items (suc n) uses slot within = rw (all_marked items (item_at uses n) (within n (omega arith)), supply-all items n uses slot (λ k h. within k (omega arith))) refl

@@ -1,4 +1,4 @@
--- How many uses of kept items give a slot.
+-- `supply` counts the uses of kept items that give a slot. The lemmas say how this number changes when an item is removed.
 use Rattle.std.proofs.Common.{◌≡◌, ℕ, zero, suc, ◌+◌, ◌<◌, ◌≤◌, Bool, true, false, List, [], ◌∷◌, length, get_or, set, refl, ap, sym, ◌∙◌, subst, arith, inl, inr}
 use Rattle.std.specs.Prelude.{◌⊎◌, ◌==◌, ◌&&◌, if◌then◌else◌}
 use Rattle.std.specs.List.{Contains}
@@ -11,7 +11,6 @@ use Rattle.counted_sets.specs.Sets.{IsGiven, marked}
 use Rattle.counted_sets.specs.Counts.{item_at, supply, use_at}
 use Rattle.counted_sets.proofs.Chaining.{last_within, none_after}
 
--- one use more: of a kept item that gives the slot, or not
 pub supply_one : (kept : ℕ → Bool) (uses : List Use) (slot n : ℕ) → kept (item_at uses n) ≡ true → (use_at uses n).gives ≡ slot → supply kept uses slot (suc n) ≡ 1 + supply kept uses slot n
 supply_one kept uses slot n stands gives = rw (stands, eq-eqb (use_at uses n).gives slot gives) refl
 
@@ -31,14 +30,12 @@ supply-within kept uses slot (suc n) = elim (cases_Bool (kept (item_at uses n)))
   ]
 ]
 
--- one of the first n uses is of a kept item and gives the slot
 abbrev pub Supplies : (ℕ → Bool) → List Use → ℕ → ℕ → Type 0
 Supplies kept uses slot n = (k : ℕ) × (k < n) × (kept (item_at uses k) ≡ true) × ((use_at uses k).gives ≡ slot)
 
 later : (kept : ℕ → Bool) (uses : List Use) (slot n : ℕ) → Supplies kept uses slot n → Supplies kept uses slot (suc n)
 later kept uses slot n found = (found.0, omega (arith, found.1), found.2, found.3)
 
--- where the supply isn't 0 there is such a use
 pub supply_place : (kept : ℕ → Bool) (uses : List Use) (slot n : ℕ) → 0 < supply kept uses slot n → Supplies kept uses slot n
 supply_place kept uses slot zero some = absurd (omega arith)
 supply_place kept uses slot (suc n) some = elim (cases_Bool (kept (item_at uses n))) [
@@ -65,7 +62,6 @@ place_supply kept uses slot (suc n) k h stands gives = elim (cases_eq k n) [
   | inr before ↦ omega (arith, place_supply kept uses slot n k (omega arith) stands gives, supply-grows kept uses slot n)
 ]
 
--- the use of a place
 use_is : (uses : List Use) (has : Use) (k : ℕ) → k < length uses → get_or uses k has ≡ has → use_at uses k ≡ has
 use_is uses has k h is = get_or_default uses k (record { item = 0; gives = 0; needs = 0 }) has h ∙ is
 
@@ -85,7 +81,6 @@ given-supply kept uses slot given =
     let place : (k : ℕ) × (k < length uses) × (use_at uses k ≡ given.0) = place_of uses given.0 given.1 in
     place_supply kept uses slot (length uses) place.0 place.1 (ap (λ (u : Use). kept u.item) place.2 ∙ given.2) (ap (λ (u : Use). u.gives) place.2 ∙ given.3)
 
--- the uses of one item between two places of its chain give nothing
 pub supply_gap : (uses : List Use) (slot item n r : ℕ) → r ≤ n → ((p : ℕ) → r ≤ p → p < n → item_at uses p ≡ item → ⊥) → supply (λ i. i == item) uses slot n ≡ supply (λ i. i == item) uses slot r
 supply_gap uses slot item zero r within none = let same : 0 ≡ r = omega arith in ap (supply (λ i. i == item) uses slot) same
 supply_gap uses slot item (suc n) r within none = elim (cases_eq r (suc n)) [
@@ -100,11 +95,10 @@ supply_last uses slot item n = supply_gap uses slot item n (last_before (item_at
 set_other : (marks : List Bool) (item i : ℕ) → (i ≡ item → ⊥) → marked (set marks item false) i ≡ marked marks i
 set_other marks item i apart = get_or-set_other marks item i false false apart
 
--- what one use adds to the supply
+-- one use adds this number to the supply
 abbrev share : Bool → List Use → ℕ → ℕ → ℕ
 share kept uses slot n = if kept && ((use_at uses n).gives == slot) then 1 else 0
 
--- an item's mark falls
 pub supply-set : (uses : List Use) (marks : List Bool) (slot item n : ℕ) → item < length marks → marked marks item ≡ true
     → supply (marked marks) uses slot n ≡ supply (marked (set marks item false)) uses slot n + supply (λ i. i == item) uses slot n
 supply-set uses marks slot item zero within stands = refl

@@ -1,7 +1,7 @@
--- Places with the same key, linked from the last one back to the first.
+-- Places with the same key, linked from the last place back to the first.
 use Rattle.std.specs.Prelude.{◌≡◌, ℕ, zero, suc, ◌<◌, ◌==◌, if◌then◌else◌, List, length, slice_index}
 
--- the last of the first n places that has the key, counted from 1, or 0 where no place has it
+-- the last of the first n places that has the key, counted from 1, or 0 if no place has the key
 abbrev pub last_before : (ℕ → ℕ) → ℕ → ℕ → ℕ
 last_before key_of key zero = 0
 last_before key_of key (suc n) = if key_of n == key then suc n else last_before key_of key n

@@ -1,4 +1,4 @@
--- What holds while the reduction runs. No public contract names it.
+-- Definitions for the contracts and proofs of the reduction. No public contract names them.
 use Rattle.std.specs.Prelude.{◌≡◌, ℕ, zero, suc, ◌+◌, ◌<◌, ◌≤◌, ◌==◌, ◌&&◌, List, [], ◌∷◌, length, slice_index, slice_index_or, Bool, true, false, if◌then◌else◌}
 use Rattle.std.specs.List.{Contains}
 use Rattle.row_buf.specs.Rows.{Rows}
@@ -33,7 +33,7 @@ pub record EmptySlotsAreListed (counts work : List ℕ) : Type 0 where
   pub all_there : (slot : ℕ) → slot < length counts → slice_index counts slot ≡ 0 → Contains work slot
   pub room : length work + positives counts ≡ length counts
 
--- `work` lists the slots whose count is 0, and has room for exactly the others
+-- `work` lists the slots whose count is 0, and has room for exactly the other slots
 pub record IsWorkOf (counts : List ℕ) (work : Rows ℕ) : Type 0 where
   pub listed : EmptySlotsAreListed counts work.items
   pub spare : work.spare ≡ positives counts
@@ -50,7 +50,7 @@ pub record IsCounted (items slots : ℕ) (uses : List Use) (marks : List Bool) (
   pub counted : (slot : ℕ) → slot < slots → slice_index counts slot ≡ supply (marked marks) uses slot (length uses)
   pub listed : IsWorkOf counts work
 
--- no mark is new, and a consistent set whose items were all marked keeps all of its marks
+-- no item is newly marked; and if all items of a consistent set were marked, all of them still are
 pub record IsSafe (items : ℕ) (uses : List Use) (old new : List Bool) : Type 0 where
   pub fewer : (item : ℕ) → marked new item ≡ true → marked old item ≡ true
   pub safe : (other : ℕ → Bool) → IsConsistent items uses other → ((item : ℕ) → other item ≡ true → marked old item ≡ true)

@@ -1,4 +1,5 @@
--- Consistent sets of items: each slot that an item of the set needs is given by an item of the set.
+-- Consistent sets of items: each slot that an item of the set needs is given by an item of the set. A use says that an item gives one slot and
+-- needs another one.
 use Rattle.std.specs.Prelude.{◌≡◌, ℕ, ◌<◌, List, slice_index_or, Bool, true, false}
 use Rattle.std.specs.List.{Contains}
 use Rattle.counted_sets.specs.declared.uses.Use.{Use}

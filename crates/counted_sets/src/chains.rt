@@ -1,4 +1,4 @@
-//! Links uses that have the same item, or that need the same slot, from the last one back to the first.
+//! Links uses that have the same item, or that need the same slot, from the last use back to the first.
 ghost use Rattle.std.specs.Prelude.{◌≡◌, ◌+◌, ◌^◌, ◌<◌, ◌≤◌, All, IfOk, ℕ, length, slice_index};
 ghost use Rattle.counted_sets.specs.Chains.{AreUseChains, last_before};
 ghost use Rattle.counted_sets.specs.Counts.{item_at, need_at};
@@ -9,8 +9,9 @@ use base_io::NoMemory;
 use row_buf::RowBuf;
 use std::alloc::Global;
 
-/// For each key the last place that has it, and for each place the place before it with the same key. In both, places are counted from 1,
-/// and 0 means no place. It takes 4 bytes for each key and for each place.
+/// `lasts` has for each key the last place with this key. `befores` has for each place the place before it with the same key. In both lists,
+/// places are counted from 1, and 0 means no place. A key is an item or a slot; a place is the index of a use. The chains take 4 bytes for each
+/// key and for each place.
 #[derive(Drop)]
 pub(crate) struct Chains {
     lasts: RowBuf<u32>,
@@ -57,7 +58,7 @@ impl Chains {
         self.lasts.get(key)
     }
 
-    /// The place before this one with the same key, counted from 1, or 0 if there is no such place. The argument is counted from 0.
+    /// The last place before `place` with the same key, counted from 1, or 0 if there is no such place. `place` is counted from 0.
     pub(crate) fn before(&self, place: u32) -> u32
         requires { place < length self.now.befores.items }
         ensures { result ≡ slice_index self.now.befores.items place }

@@ -1,4 +1,4 @@
-//! Counts how often each slot is given, and lists the slots whose count is 0.
+//! Counts how many uses give each slot, and lists the slots whose count is 0. A use says that an item gives one slot and needs another one.
 ghost use Rattle.std.specs.Prelude.{◌≡◌, ◌==◌, ◌+◌, ◌-◌, ◌^◌, ◌<◌, ◌≤◌, ℕ, All, IfOk, length, slice_index, slice_set, true};
 ghost use Rattle.counted_sets.specs.Chains.{AreUseChains};
 ghost use Rattle.counted_sets.specs.Counts.{EmptySlotsAreListed, Extends, IsWorkOf, item_at, supply};
@@ -28,7 +28,7 @@ pub(crate) fn count_all(alloc: Global, slots: u32, uses: &[Use]) -> Result<RowBu
     Ok(counts)
 }
 
-/// The slots of count 0, with room to list all others.
+/// Lists the slots whose count is 0. The list has room for all other slots.
 pub(crate) fn zeros(alloc: Global, counts: &RowBuf<u32>) -> Result<RowBuf<u32>, NoMemory>
     requires few { length counts.now.items < 2 ^ 32 }
     ensures { IfOk result (λ work. IsWorkOf counts.now.items work) }

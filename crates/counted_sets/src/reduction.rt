@@ -36,7 +36,7 @@ fn remove(
     take_off(uses, of_item, item, counts, work);
 }
 
-// Removes every item that needs a slot which no item gives any more.
+// Removes every item that needs `slot`, which no remaining item gives.
 fn remove_needing(
     uses: &[Use],
     of_item: &Chains,

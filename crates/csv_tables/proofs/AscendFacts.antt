@@ -1,4 +1,4 @@
--- Where the cells of one column of a key ascend, no two rows have the same cells in the key.
+-- If the cells of one column of a key ascend, no two rows have the same cells in the key.
 use Rattle.std.proofs.Common.{◌≡◌, inl, inr, ℕ, zero, suc, ◌+◌, ◌-◌, ◌<◌, ◌≤◌, Bool, true, false, ◌&&◌, List, [], ◌∷◌, length, get_or, None, refl, sym, ap, ◌∙◌, subst, arith}
 use Rattle.std.specs.Prelude.{nat_eq}
 use Rattle.std.specs.List.{range_with_len}
@@ -10,7 +10,6 @@ use Rattle.csv_tables.specs.Groups.{have_same_cells, repeat_from, IsFirst, IsRep
 abbrev pub Ascend : List ℕ → ℕ → Type 0
 Ascend cells n = (i j : ℕ) → i < j → j < n → get_or cells i 0 < get_or cells j 0
 
--- one more cell, which is greater than the one before it
 pub ascends_more : (cells : List ℕ) (at : ℕ) → 1 ≤ at → get_or cells (at - 1) 0 < get_or cells at 0 → Ascend cells at → Ascend cells (at + 1)
 ascends_more cells at some more so_far i j l m = elim (cases_lt j at) [
   | inl lt ↦ so_far i j l lt
@@ -25,14 +24,12 @@ ascends_more cells at some more so_far i j l m = elim (cases_lt j at) [
 abbrev same_in : List (List ℕ) → ℕ → ℕ → ℕ → Bool
 same_in columns column i j = nat_eq (get_or (get_or columns column []) i 0) (get_or (get_or columns column []) j 0)
 
--- rows that differ in one column of a key
 pub apart : (columns : List (List ℕ)) (key : List ℕ) (at column i j : ℕ) → at < length key → column ≡ get_or key at 0 → same_in columns column i j ≡ false → have_same_cells columns key i j ≡ false
 apart columns [] at column i j l c other = absurd (omega (arith, l))
 apart columns (k ∷ key) zero column i j l c other = ap (λ b. b && have_same_cells columns key i j) (ap (λ n. same_in columns n i j) (sym c) ∙ other)
 apart columns (k ∷ key) (suc at) column i j l c other =
     ap (λ b. same_in columns k i j && b) (apart columns key at column i j (omega (arith, l)) c other) ∙ and-false (same_in columns k i j)
 
--- rows whose cells ascend in one column of a key
 pub ascending_apart : (columns : List (List ℕ)) (key cells : List ℕ) (at column rows : ℕ) → at < length key → column ≡ get_or key at 0 → cells ≡ get_or columns column []
     → length cells ≡ rows → Ascend cells (length cells) → (i j : ℕ) → j < i → i < rows → have_same_cells columns key i j ≡ false
 ascending_apart columns key cells at column rows l c is long up i j m n =
@@ -52,7 +49,6 @@ no_repeat : (at n : ℕ) → repeat_from at (range_with_len at n) ≡ None
 no_repeat at zero = refl
 no_repeat at (suc n) = rw (same_itself at) (no_repeat (at + 1) n)
 
--- rows that all differ in a key repeat nothing
 pub none_repeats : (columns : List (List ℕ)) (key : List ℕ) (rows : ℕ) → ((i j : ℕ) → j < i → i < rows → have_same_cells columns key i j ≡ false) → IsRepeat columns key rows None
 none_repeats columns key rows differ = record {
   group = range_with_len 0 rows;

@@ -1,8 +1,8 @@
--- Columns that grow by a row, and a pool that grows beneath them.
+-- Columns grow by a row, cell by cell.
 use Rattle.std.proofs.Common.{◌≡◌, ℕ, zero, suc, ◌+◌, ◌<◌, List, [], ◌∷◌, ◌++◌, length, take, drop, get_or, set, refl, sym, ap, ◌∙◌, arith, add-one}
 use Rattle.csv_tables.specs.Reads.{add_row}
 
--- the columns after the first so many cells of a row
+-- the first `at` cells of a row are appended, each to its column
 abbrev pub row_begun : List (List ℕ) → List ℕ → ℕ → List (List ℕ)
 row_begun columns cells at = add_row (take at columns) (take at cells) ++ drop at columns
 
@@ -20,7 +20,6 @@ row_begun-suc (c ∷ cs) [] at d l m = absurd (omega (arith, m))
 row_begun-suc (c ∷ cs) (x ∷ xs) zero d l m = refl
 row_begun-suc (c ∷ cs) (x ∷ xs) (suc at) d l m = ap (λ rest. (c ++ x ∷ []) ∷ rest) (row_begun-suc cs xs at d (omega (arith, l)) (omega (arith, m)))
 
--- one more cell of the row
 pub row_begun-more : (old columns : List (List ℕ)) (cells : List ℕ) (at : ℕ) (column new : List ℕ) → at < length old → at < length cells
     → columns ≡ row_begun old cells at → column ≡ get_or columns at column → new ≡ column ++ get_or cells at 0 ∷ []
     → set columns at new ≡ row_begun old cells (at + 1)

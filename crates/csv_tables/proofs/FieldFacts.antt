@@ -1,4 +1,4 @@
--- The fields of a text are texts: a character beyond ASCII joins the field at hand whole.
+-- The fields of a text are texts. A text is a list of bytes in UTF-8, and a character beyond ASCII goes into the current field with all its bytes.
 use Rattle.std.proofs.Common.{◌≡◌, ◌⊎◌, inl, inr, ℕ, suc, ◌+◌, ◌≤◌, List, [], ◌∷◌, ◌++◌, length, Option, None, Some, Bool, true, false, ◌&&◌, refl, sym, ap, ◌∙◌, subst, arith, cond, append_assoc, append-nil, if◌then◌else◌, ltb}
 use Rattle.std.proofs.lemmas.Bool.{cases_lt, eqb-true, le-ltb, and_parts}
 use Rattle.std.specs.Prelude.{◌==◌, IsUtf8}
@@ -16,12 +16,12 @@ use Rattle.csv.proofs.ReadFacts.{run-copies}
 use Rattle.csv.proofs.RecordFacts.{text-more}
 use Rattle.csv_tables.proofs.RecordFacts.{from_if}
 
--- bytes beyond ASCII
+-- every byte is beyond ASCII
 abbrev AreHigh : List ℕ → Type 0
 AreHigh [] = Unit {0}
 AreHigh (b ∷ bs) = (128 ≤ b) × AreHigh bs
 
--- where a byte beyond ASCII leads
+-- in state `s` the byte `b` beyond ASCII goes into the field, and after it every further byte beyond ASCII does
 record Joins (s : State) (b : ℕ) : Type 0 where
   next : State
   steps : step default_config s b ≡ (next, act.Copy)
@@ -67,7 +67,6 @@ joins st.AfterQuote b h =
     inr (record { next = st.InField; steps = simp (comma, cr, lf, quote); stays = in_field_stays })
 joins st.InComment b h = inl refl
 
--- bytes beyond ASCII in a state in which they stay join the field
 runs : (s : State) (bs : List ℕ) → ((c : ℕ) → 128 ≤ c → step default_config s c ≡ (s, act.Copy)) → AreHigh bs → Runs default_config s bs
 unfolding Runs
 runs s [] stays h = tt
@@ -81,7 +80,7 @@ skips fields field (b ∷ bs) rest h =
     let lf : (b == 10) ≡ false = grind (arith, h.0) in
     rw lf (skips fields field bs rest h.1)
 
--- the field and the state after a character beyond ASCII
+-- after the bytes `bs` of a character beyond ASCII, the field has all of them at its end, or has stayed as it was
 record Took (s : State) (fields : List (List ℕ)) (field bs rest : List ℕ) : Type 0 where
   state : State
   now : List ℕ
@@ -104,7 +103,6 @@ took s fields field b bs rest h hs = elim (joins s b h) [
   }
 ]
 
--- the bytes of a character beyond ASCII
 record High (bytes : List ℕ) : Type 0 where
   first : ℕ
   others : List ℕ
@@ -124,12 +122,10 @@ high c h = rw (le-ltb c 128 h) (high_by _ _ _ _ _ _ _ _ _ (ltb c 2048) (ltb c 65
 char_text : (c : ℕ) → scalar c ≡ true → IsUtf8 (encode c)
 char_text c h = (c ∷ [], (rw h refl, append-nil (encode c)))
 
--- what a read of a text leaves
 record Kept (p : Read) : Type 0 where
   pub fields : AllText p.0
   pub rest : IsUtf8 p.2
 
--- one byte goes on
 goes_on : (s : State) (fields : List (List ℕ)) (field : List ℕ) (c : ℕ) (rest : List ℕ) (p : Read) → IsUtf8 rest → AllText fields → IsUtf8 field → IsUtf8 (field ++ c ∷ [])
     → ((t : State) (fs : List (List ℕ)) (f : List ℕ) → AllText fs → IsUtf8 f → next_record default_config t fs f rest ≡ Some p → Kept p)
     → next_record default_config s fields field (c ∷ rest) ≡ Some p → Kept p
@@ -181,7 +177,6 @@ kept (c ∷ cs) s fields field p h all one e =
           (sym t.goes ∙ sym (ap (λ bs. next_record default_config s fields field (bs ++ encode_utf8_all cs)) h.is) ∙ e)
     ]
 
--- a record of a text has texts for fields, and leaves a text
 pub record TextRead (fields : List (List ℕ)) (rest : List ℕ) : Type 0 where
   pub all : AllText fields
   pub text : IsUtf8 rest
@@ -197,7 +192,6 @@ text_read s xs fields s2 ys text n =
     read_of (next_record default_config s [] [] xs) fields s2 ys
     (λ p e. kept text.0 s [] [] p text.1.0 tt IsUtf8-nil (ap (next_record default_config s [] []) text.1.1 ∙ e)) n
 
--- a text without the byte order mark at its front is a text
 pub text_after_mark : (bytes : List ℕ) → IsUtf8 bytes → IsUtf8 (strip_bom bytes)
 unfolding strip_bom encode
 text_after_mark [] h = h

@@ -1,4 +1,4 @@
--- Places that are numbered one after another by the first place that is like them.
+-- A loop numbers places one after another, each by the first place that is like it. A place is a row's index.
 use Rattle.std.proofs.Common.{◌≡◌, inl, inr, ℕ, ◌+◌, ◌<◌, ◌≤◌, Bool, true, false, ◌&&◌, List, [], ◌∷◌, ◌++◌, length, get_or, set, take, Option, None, Some, refl, sym, ap, ◌∙◌, subst, arith, get_or-set_other, get_or-set_same, length-set}
 use Rattle.std.specs.Prelude.{nat_eq, unwrap_or, if◌then◌else◌}
 use Rattle.std.specs.List.{list_all}
@@ -23,12 +23,11 @@ eqb_symm a b = grind arith
 same_symm : (a b : ℕ × ℕ) → same_pair a b ≡ same_pair b a
 same_symm a b = ap (λ x. x && nat_eq a.1 b.1) (eqb_symm a.0 b.0) ∙ ap (λ y. nat_eq b.0 a.0 && y) (eqb_symm a.1 b.1)
 
--- what is kept for a pair: the first of the places so far that has it
+-- for the pair `q`, the first place before `at` with this pair is kept. If no place before `at` has the pair, no place is kept
 abbrev pub IsKept : List ℕ → List ℕ → ℕ → ℕ × ℕ → Option ℕ → Type 0
 IsKept old cells at q None = (j : ℕ) → j < at → same_pair q (get_or old j 0, get_or cells j 0) ≡ false
 IsKept old cells at q (Some v) = IsFirst (λ i j. same_pair q (get_or old j 0, get_or cells j 0)) at v × (v < at)
 
--- the places so far are numbered
 pub record Numbered (old cells group : List ℕ) (kept_for : ℕ × ℕ → Option ℕ) (at : ℕ) : Type 0 where
   pub long : length group ≡ length old
   pub done : (i : ℕ) → i < at → IsFirst (are_alike old cells) i (get_or group i 0)
@@ -60,7 +59,6 @@ kept_if old cells at first q o true e k f =
     )
 kept_if old cells at first q o false e k f = kept_more old cells at q o k (same_symm q (get_or old at 0, get_or cells at 0) ∙ e)
 
--- one more place
 pub numbered_more : (old cells group : List ℕ) (before after : ℕ × ℕ → Option ℕ) (at first : ℕ) → at < length old → Numbered old cells group before at
     → first ≡ unwrap_or (before (get_or group at 0, get_or cells at 0)) at
     → ((q : ℕ × ℕ) → after q ≡ (if same_pair (get_or group at 0, get_or cells at 0) q then Some first else before q))
@@ -83,7 +81,6 @@ numbered_more old cells group before after at first l so_far f a =
           (kept_if old cells at first q (before q) (same_pair (get_or old at 0, get_or cells at 0) q) refl (so_far.kept q) this);
     }
 
--- rows with the same cells in a column
 abbrev same_in : List (List ℕ) → ℕ → ℕ → ℕ → Bool
 same_in columns column i j = nat_eq (get_or (get_or columns column []) i 0) (get_or (get_or columns column []) j 0)
 
@@ -102,7 +99,6 @@ cells-trans columns (c ∷ key) i j k p q =
     let e : get_or (get_or columns c []) i 0 ≡ get_or (get_or columns c []) k 0 = eqb-true _ _ a.0 ∙ eqb-true _ _ b.0 in grind (arith, e) in
     rw here (cells-trans columns key i j k a.1 b.1)
 
--- numbers by the first place tell which places are alike
 module _ (like : ℕ → ℕ → Bool) (symm : (i j : ℕ) → like i j ≡ like j i) (trans : (i j k : ℕ) → like i j ≡ true → like j k ≡ true → like i k ≡ true) where
   not_before : (i j a b : ℕ) → IsFirst like i a → IsFirst like j b → like i j ≡ true → a < b → ⊥
   not_before i j a b p q e l =
@@ -147,7 +143,6 @@ list_all-push p (y ∷ xs) x = ap (λ b. p y && b) (list_all-push p xs x) ∙ as
     assoc true b c = refl
     assoc false b c = refl
 
--- one more column of a key
 pub one_more_column : (columns : List (List ℕ)) (key : List ℕ) (at column : ℕ) (old new cells : List ℕ) → at < length key → column ≡ get_or key at 0
     → cells ≡ get_or columns column [] → length new ≡ length old
     → AreFirsts (have_same_cells columns (take at key)) old → AreFirsts (are_alike old cells) new → AreFirsts (have_same_cells columns (take (at + 1) key)) new
@@ -164,7 +159,6 @@ one_more_column columns key at column old new cells l c e long firsts more = λ 
     ∙ ap (λ ks. have_same_cells columns ks i j) (sym (take_more key at 0 l)))
     (more i m)
 
--- a list that was lent whole
 pub lent_whole : (n : ℕ) (new rest : List ℕ) → n ≡ length new → take n (new ++ rest) ≡ new
 lent_whole n new rest e = ap (λ m. take m (new ++ rest)) e ∙ front new
   where

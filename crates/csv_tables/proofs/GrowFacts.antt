@@ -18,12 +18,10 @@ begins_then a b c p q = record { more = p.more ++ q.more; grew = q.grew ∙ ap (
 begins_long : (a b : List (List ℕ)) → PoolBeginsWith a b → length a ≤ length b
 begins_long a b p = omega (arith, ap length p.grew, length-append a p.more)
 
--- a cell is one in a larger pool too
 pub is_cell-grown : (a b : List (List ℕ)) (k : Kind) (cell : ℕ) → PoolBeginsWith a b → IsCell a k cell → IsCell b k cell
 is_cell-grown a b kind.Int cell p h = h
 is_cell-grown a b (kind.Text most) cell p h = omega (arith, h, begins_long a b p)
 
--- of the same value
 pub value-grown : (a b : List (List ℕ)) (k : Kind) (cell : ℕ) → PoolBeginsWith a b → IsCell a k cell → value_of_cell b k cell ≡ value_of_cell a k cell
 value-grown a b kind.Int cell p h = refl
 value-grown a b (kind.Text most) cell p h = ap Text (ap (λ l. get_or l cell []) p.grew ∙ get_or-append a p.more [] cell h)
@@ -39,7 +37,6 @@ row-grown a b (k ∷ ks) [] cells p h = absurd h
 row-grown a b (k ∷ ks) (v ∷ vs) [] p h = absurd h
 row-grown a b (k ∷ ks) (v ∷ vs) (x ∷ xs) p h = (cell_of-grown a b k v x p h.0, row-grown a b ks vs xs p h.1)
 
--- one more cell of a row
 pub row-push : (texts : List (List ℕ)) (kinds : List Kind) (row : Row) (cells : List ℕ) (k : Kind) (value : Value) (cell : ℕ)
     → AreCellsOfRow texts kinds row cells → IsCellOf texts k value cell → AreCellsOfRow texts (kinds ++ k ∷ []) (row ++ value ∷ []) (cells ++ cell ∷ [])
 row-push texts [] [] [] k value cell h c = (c, tt)

@@ -1,4 +1,4 @@
--- Rows repeat a key's values exactly where their cells in the key's columns are the same.
+-- Two rows have the same values in a key exactly if they have the same cells in the key's columns.
 use Rattle.std.proofs.Common.{◌≡◌, ℕ, zero, suc, ◌+◌, ◌^◌, ◌<◌, Bool, true, false, ◌&&◌, List, [], ◌∷◌, ◌++◌, length, get_or, map, drop, Option, None, Some, Err, refl, sym, ap, ◌∙◌, subst, arith, length-append, append_assoc, append-nil, add-one, inl, inr}
 use Rattle.std.specs.Prelude.{◌==◌, nat_lt, All, position, if◌then◌else◌, pos}
 use Rattle.std.specs.List.{position_or_len}
@@ -35,7 +35,6 @@ use Rattle.csv_tables.specs.Values.{Value, Int, is_same}
 pub bits_back : (x : ℕ) → x < 2 ^ 64 → bits_of (number_in x) ≡ x
 bits_back x l = of_z-to_z w64 x l
 
--- equal values have equal cells
 same_value : (texts : List (List ℕ)) → TextsAreDifferent texts → (k : Kind) (x y : ℕ) → IsCell texts k x → IsCell texts k y
     → is_same (value_of_cell texts k x) (value_of_cell texts k y) ≡ (x == y)
 same_value texts different kind.Int x y p q =
@@ -57,7 +56,6 @@ same_value texts different (kind.Text most) x y p q =
       | inr ge ↦ elim (cases_eq a b) [ inl h ↦ h | inr ne ↦ let lt : b < a = omega (arith, ge, ne) in absurd (different b a [] lt l (sym e)) ]
     ]
 
--- the cell of a row in a column
 cell_value : (texts : List (List ℕ)) (rows row : ℕ) (kinds : List Kind) (columns : List (List ℕ)) (column : ℕ) (d : Value) → row < rows → column < length columns
     → AreColumns texts rows kinds columns
     → get_or (row_of_columns texts kinds columns row) column d ≡ value_of_cell texts (get_or kinds column kind.Int) (get_or (get_or columns column []) row 0)
@@ -76,7 +74,6 @@ cell_there texts rows row (k ∷ ks) (c ∷ cs) zero l m h =
     let within : row < length c = omega (arith, h.0.height, l) in All-get_or (IsCell texts k) c row 0 within h.0.cells
 cell_there texts rows row (k ∷ ks) (c ∷ cs) (suc column) l m h = cell_there texts rows row ks cs column l (omega (arith, m)) h.1
 
--- two rows have the same values in a key where they have the same cells
 same_values : (texts : List (List ℕ)) → TextsAreDifferent texts → (rows i j : ℕ) (kinds : List Kind) (columns : List (List ℕ)) → i < rows → j < rows → AreColumns texts rows kinds columns
     → (key : List ℕ) → All (λ column. column < length columns) key
     → are_same (key_values key (row_of_columns texts kinds columns i)) (key_values key (row_of_columns texts kinds columns j)) ≡ have_same_cells columns key i j
@@ -94,7 +91,6 @@ same_values texts different rows i j kinds columns l m h (c ∷ key) there =
     ∙ ap (λ t. (get_or (get_or columns c []) i 0 == get_or (get_or columns c []) j 0) && t)
     (same_values texts different rows i j kinds columns l m h key (All-tail (λ column. column < length columns) c key there))
 
--- the first place that passes a test
 place_there : {X : Type 0} (p : X → Bool) (xs : List X) (i : ℕ) (d : X) → i < length xs → p (get_or xs i d) ≡ true → ((k : ℕ) → k < i → p (get_or xs k d) ≡ false) → position p xs ≡ Some i
 place_there p xs i d l passes fails =
     let at : i ≡ position_or_len p xs = sym (position_or_len_is p xs i d (omega (arith, l)) fails (λ m. passes)) in
@@ -107,7 +103,6 @@ place_nowhere p xs d fails =
     let test : nat_lt (length xs) (length xs) ≡ false = grind arith in
     ap (λ n. if nat_lt n (length xs) then Some n else None) (sym at) ∙ rw test refl
 
--- the repeats of a list whose places are numbered by their first places
 repeats : (like : ℕ → ℕ → Bool) (all : List (List Value)) (group : List ℕ) → length group ≡ length all → AreFirsts like group
     → ((i j : ℕ) → i < length all → j < length all → are_same (get_or all i []) (get_or all j []) ≡ like i j)
     → (seen rest : List (List Value)) → all ≡ seen ++ rest → repeat_after seen rest ≡ repeat_from (length seen) (drop (length seen) group)
@@ -178,7 +173,6 @@ map-length : (f : Row → List Value) (rows : List Row) → length (map f rows) 
 map-length f [] = refl
 map-length f (r ∷ rows) = ap (λ n. suc n) (map-length f rows)
 
--- the repeat among cells is the repeat among values
 pub repeat_is : (texts : List (List ℕ)) → TextsAreDifferent texts → (rows : ℕ) (kinds : List Kind) (columns : List (List ℕ)) → AreColumns texts rows kinds columns
     → (key : List ℕ) → All (λ column. column < length columns) key → (found : Option Repeat) → IsRepeat columns key rows found
     → first_repeat key (rows_of_columns texts kinds columns rows) ≡ found
@@ -200,7 +194,6 @@ columns_heights texts rows [] (c ∷ cs) h = absurd h
 columns_heights texts rows (k ∷ ks) [] h = absurd h
 columns_heights texts rows (k ∷ ks) (c ∷ cs) h = All-cons (λ (column : List ℕ). length column ≡ rows) c cs h.0.height (columns_heights texts rows ks cs h.1)
 
--- the columns of a key are there
 pub key_there : (table : Table) (texts : List (List ℕ)) (rows : ℕ) (columns : List (List ℕ)) (at : ℕ) (key : List ℕ) → IsValidTable table → AreColumns texts rows (kinds_of table.columns) columns
     → at < length table.keys → key ≡ get_or table.keys at key → All (λ column. column < length columns) key
 key_there table texts rows columns at key valid h l is =
@@ -208,7 +201,6 @@ key_there table texts rows columns at key valid h l is =
     let these : All (λ column. column < length table.columns) key = subst (λ (k : List ℕ). All (λ column. column < length table.columns) k) (sym is) (All-get_or (AreColumnsOf table) table.keys at key l valid.keys) in
     subst (λ n. All (λ column. column < n) key) (sym wide) these
 
--- the keys from one on
 keys_next : (keys : List (List ℕ)) (at : ℕ) (key : List ℕ) (rows : List Row) → at < length keys → key ≡ get_or keys at key
     → rows_with_keys (drop at keys) rows ≡ or_rows rows (first_repeat key rows) (rows_with_keys (drop (at + 1) keys) rows)
 keys_next keys at key rows l is = ap (λ ks. rows_with_keys ks rows) (drop_more keys at key l ∙ ap (λ k. k ∷ drop (at + 1) keys) (sym is))
@@ -223,13 +215,11 @@ module _ (table : Table) (texts : List (List ℕ)) (rows : ℕ) (columns : List 
       keys_next table.keys at key stated l is
       ∙ ap (λ o. or_rows stated o (rows_with_keys (drop (at + 1) table.keys) stated)) (repeat_is texts different rows (kinds_of table.columns) columns h key (key_there table texts rows columns at key valid h l is) found repeat)
 
-  -- a key with a repeat
   pub key_bad : (r : Repeat) → found ≡ Some r → rows_with_keys (drop at table.keys) (rows_of_columns texts (kinds_of table.columns) columns rows) ≡ Err (error.Key r.later r.earlier)
   key_bad r e =
       let stated = rows_of_columns texts (kinds_of table.columns) columns rows in
       next_is ∙ ap (λ o. or_rows stated o (rows_with_keys (drop (at + 1) table.keys) stated)) e
 
-  -- a key without one
   pub key_good : found ≡ None → rows_with_keys (drop at table.keys) (rows_of_columns texts (kinds_of table.columns) columns rows)
       ≡ rows_with_keys (drop (at + 1) table.keys) (rows_of_columns texts (kinds_of table.columns) columns rows)
   key_good e =

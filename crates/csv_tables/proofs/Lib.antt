@@ -16,3 +16,6 @@ pub mod AscendFacts
 pub mod KeyFacts
 pub mod FileFacts
 pub mod OrderFacts
+pub mod DigitFacts
+pub mod SpanFacts
+pub mod PlainFacts

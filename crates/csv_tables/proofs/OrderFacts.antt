@@ -35,7 +35,7 @@ shifted k a b = elim (cases_lt a b) [
   ]
 ]
 
--- numbers compare by their quotients, and then by their remainders
+-- UTF-8 puts six bits into each byte after the first. So characters compare by their quotients by 64, and then by their remainders
 digits : (c d q r s t : ℕ) → q * 64 + r ≡ c → s * 64 + t ≡ d → r < 64 → t < 64 → nat_cmp c d ≡ ordering_then (nat_cmp q s) (nat_cmp r t)
 digits c d q r s t e f l m = elim (cases_lt q s) [
   | inl h ↦ less c d (omega (arith, e, f, l, m, h)) ∙ ap (λ o. ordering_then o (nat_cmp r t)) (sym (less q s h))
@@ -54,7 +54,6 @@ assoc Less b c = refl
 assoc Equal b c = refl
 assoc Greater b c = refl
 
--- the bytes of a character by their number
 data Coded (c : ℕ) : Type 0 where
   One : c < 128 → encode c ≡ c ∷ [] → Coded c
   Two : 128 ≤ c → c < 2048 → encode c ≡ (192 + c / 64) ∷ (128 + c % 64) ∷ [] → Coded c

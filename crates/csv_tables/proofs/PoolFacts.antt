@@ -1,4 +1,4 @@
--- The texts of a pool, as bytes, beside the keys of its set.
+-- A pool keeps its texts as the keys of a set. What is true of the keys is stated here for the texts as bytes.
 use Rattle.std.proofs.Common.{◌≡◌, ℕ, zero, suc, ◌+◌, Bool, true, false, ◌||◌, cond, List, [], ◌∷◌, ◌++◌, map, Some, refl, sym, ap, ◌∙◌, if◌then◌else◌, get_or}
 use Rattle.std.specs.Prelude.{String, position, slice_get, not, string_bytes, option_map}
 use Rattle.std.specs.List.{list_any, position_or_len, AllByRecursion, IsDistinct}
@@ -37,13 +37,11 @@ module _ {X : Type 0} (p : X → Bool) where
 pub same_text : (a b : List ℕ) → bytes_eq a b ≡ true → a ≡ b
 same_text a b e = (bytes_eq-Decides a b).0 e
 
--- the place of a text holds it
 pub text_at_place : (texts : List (List ℕ)) (text : List ℕ) (code : ℕ) → position (bytes_eq text) texts ≡ Some code → slice_get texts code ≡ Some text
 text_at_place texts text code e =
     let at = position-Some (bytes_eq text) texts code [] e in
     slice_get-get_or texts code [] at.0 ∙ ap Some (sym (same_text text (get_or texts code []) at.1))
 
--- a text that is there stays alone
 pub known_text : (texts : List (List ℕ)) (text : List ℕ) (code : ℕ) → position (bytes_eq text) texts ≡ Some code → texts ≡ with_text texts text
 known_text texts text code e =
     let at = position-Some (bytes_eq text) texts code [] e in
@@ -79,7 +77,6 @@ unfolding IsDistinct
 distinct_texts [] d = tt
 distinct_texts (k ∷ keys) d = (apart_texts k keys d.0, distinct_texts keys d.1)
 
--- a set's keys are different as texts
 pub different_texts : {Z : Type 0} (keys : List (String Z)) → IsDistinct string_eq keys → TextsAreDifferent (map string_bytes keys)
 different_texts keys d = AllPairs-from_IsDistinct bytes_eq-Decides (map string_bytes keys) (distinct_texts keys d)
 
@@ -87,6 +84,5 @@ texts_are_utf8 : {Z : Type 0} (keys : List (String Z)) → AllByRecursion IsUtf8
 texts_are_utf8 [] = tt
 texts_are_utf8 (key ∷ keys) = (IsUtf8-string_bytes key, texts_are_utf8 keys)
 
--- each text of a set of strings is UTF-8
 pub utf8_texts : {Z : Type 0} (keys : List (String Z)) → All IsUtf8 (map string_bytes keys)
 utf8_texts keys = All-from_recursion IsUtf8 (map string_bytes keys) (texts_are_utf8 keys)

@@ -14,19 +14,16 @@ read_known : (s s2 : State) (xs : List ℕ) (k : Option (List ℕ)) (fields : Li
 read_known s s2 xs None fields r = absurd r
 read_known s s2 xs (Some ys) fields r = (ys, refl, r)
 
--- the records in known bytes
 first_of_known : (s s2 : State) (before after : Option (List ℕ)) (xs ys : List ℕ) (fields : List (List ℕ)) → before ≡ Some xs → after ≡ Some ys
     → Found default_config s xs fields s2 ys → records_in s before ≡ fields ∷ records_in s2 after
 first_of_known s s2 before after xs ys fields e f found = rw (e, f) found.first
 
--- what such a read leaves
 pub record Gave (old new : Source) (fields : List (List ℕ)) : Type 0 where
   pub reading : IsReading new
   pub first : left old ≡ fields ∷ left new
   pub text : AllText fields
   pub few : length fields ≤ 67108865
 
--- a read that found a record gave the first of those that were left
 pub gave_first : (old new : Source) (fields : List (List ℕ)) → IsReading old → took_first new ≡ true
     → ReadRecord (λ bytes. Some bytes.now) old new true fields → Gave old new fields
 gave_first old new fields was took r =
@@ -44,7 +41,6 @@ gave_first old new fields was took r =
       few = omega arith;
     }
 
--- a read that found none: none was left
 pub gave_none : (old new : Source) (fields : List (List ℕ)) → IsReading old → ReadRecord (λ bytes. Some bytes.now) old new false fields → left old ≡ []
 gave_none old new fields was r =
     ap (records_in old.state) was.known

@@ -1,4 +1,4 @@
--- A record takes bytes, so that a file has no more records than its bytes can hold.
+-- Each record takes one byte or more. So all records of some bytes are read in as many turns as there are bytes, and one more.
 use Rattle.std.proofs.Common.{◌≡◌, ◌⊎◌, inl, inr, ℕ, zero, suc, ◌+◌, ◌≤◌, ◌<◌, List, [], ◌∷◌, length, Option, None, Some, Bool, true, false, refl, ap, arith, length-append, ◌&&◌, if◌then◌else◌}
 use Rattle.std.specs.Prelude.{◌==◌}
 use Rattle.csv.specs.Machine.{Read, next_record, step, is_end, ends_at_end, in_field, start_field, start_record, after_end, ends_with, is_byte, line_feed, carriage_return, fields_after, field_after}
@@ -11,7 +11,7 @@ use Rattle.csv.specs.declared.parser.Terminator.{Terminator}
 use Rattle.csv.specs.declared.parser.Terminator.TheVariants as term
 use Rattle.csv.specs.declared.parser.State.TheVariants as st
 
--- the end of a record leads to a state in which the end of the text ends none
+-- if a step ends a record, no record is begun in the state after it, so the end of the text ends no record there
 record Closes (r : State × Action) : Type 0 where
   closes : is_end r.1 ≡ true → ends_at_end r.0 ≡ false
 
@@ -49,7 +49,6 @@ step_closes cfg st.AfterQuote c = pick (cfg.quoting && cfg.double_quote && (c ==
 step_closes cfg st.InComment c = pick (c == line_feed) _ _ (goes_on _ _ refl) (goes_on _ _ refl)
 step_closes cfg st.AfterCr c = pick (c == line_feed) _ _ (goes_on _ _ refl) (start_record_closes cfg c)
 
--- which side an answer came from
 pub from_if : (b : Bool) (q p : Read) (x : Option Read) → (if b then Some q else x) ≡ Some p → ((b ≡ true) × (q ≡ p)) ⊎ ((b ≡ false) × (x ≡ Some p))
 from_if true q p x e = inl (refl, cc)
 from_if false q p x e = inr (refl, e)
@@ -81,7 +80,6 @@ one_field act.EndRecord fields field = omega (arith, length-append fields (field
 one_field act.Skip fields field = omega arith
 one_field act.Copy fields field = omega arith
 
--- a byte ends at most one field
 next_wide : (cfg : Config) (s : State) (fields : List (List ℕ)) (field xs : List ℕ) (p : Read) → next_record cfg s fields field xs ≡ Some p
     → length p.0 + length p.2 ≤ length fields + 1 + length xs
 unfolding next_record
@@ -99,7 +97,6 @@ next_wide cfg s fields field (c ∷ rest) p e =
           omega (arith, one_field (step cfg s c).1 fields field)
     ]
 
--- the records of some bytes are the same for every number of turns that is enough for them
 turns_after : (cfg : Config) (s : State) (xs : List ℕ) (n m : ℕ) (o : Option Read) → next_record cfg s [] [] xs ≡ o
     → ((p : Read) → o ≡ Some p → records_from cfg n p.1 p.2 ≡ records_from cfg m p.1 p.2)
     → records_from cfg (suc n) s xs ≡ records_from cfg (suc m) s xs
@@ -117,7 +114,6 @@ enough_turns cfg s xs (suc n) (suc m) between long more =
     let shorter : length p.2 < length xs = t.less between in
     enough_turns cfg p.1 p.2 n m t.closed (omega (arith, long, shorter)) (omega (arith, more, shorter)))
 
--- what a read that found a record says
 pub record Found (cfg : Config) (s : State) (xs : List ℕ) (fields : List (List ℕ)) (s2 : State) (ys : List ℕ) : Type 0 where
   pub between : ends_at_end s2 ≡ false
   pub shorter : length ys ≤ length xs
@@ -142,12 +138,10 @@ found_of : (cfg : Config) (s : State) (xs : List ℕ) (o : Option Read) (fields 
 found_of cfg s xs None fields s2 ys between e n = absurd (cc n)
 found_of cfg s xs (Some p) fields s2 ys between e n = rw (n.1, n.2, n.3) (found_read cfg s xs p between e)
 
--- the records of some bytes are the one that a read found, and those after it
 pub first_found : (cfg : Config) (s : State) (xs : List ℕ) (fields : List (List ℕ)) (s2 : State) (ys : List ℕ)
     → ends_at_end s ≡ false → NextIs (next_record cfg s [] [] xs) true fields s2 ys → Found cfg s xs fields s2 ys
 first_found cfg s xs fields s2 ys between n = found_of cfg s xs (next_record cfg s [] [] xs) fields s2 ys between refl n
 
--- where a read finds no record, there are none
 pub none_found : (cfg : Config) (s : State) (xs : List ℕ) → next_record cfg s [] [] xs ≡ None → records_from cfg (length xs + 1) s xs ≡ []
 unfolding records_from
 none_found cfg s xs e =

@@ -1,4 +1,4 @@
--- The values of a record, read one after another.
+-- The values of a record are read one after another. The lemmas are about the steps of this loop.
 use Rattle.std.proofs.Common.{◌≡◌, ℕ, ◌+◌, ◌<◌, ◌≤◌, List, [], ◌∷◌, ◌++◌, length, get_or, take, drop, Some, refl, sym, ap, ◌∙◌, subst, arith}
 use Rattle.std.proofs.lemmas.List.{drop_more, take_more, map-append}
 use Rattle.schema_types.specs.declared.types.Column.{Column}
@@ -13,7 +13,7 @@ use Rattle.csv_tables.specs.Values.{value_of_field}
 use Rattle.csv_tables.proofs.GrowFacts.{begins_then, row-grown, row-push}
 use Rattle.csv_tables.proofs.StepFacts.{ReadTo, read_one}
 
--- the cells of a record's first values, in a pool that grew
+-- the values of a record's first `at` columns are read: `cells` are their cells, in the pool `texts` that grew from `old`
 pub record RowSoFar (number at : ℕ) (columns : List Column) (places : List ℕ) (fields : Record) (old texts : List (List ℕ)) (cells : List ℕ) : Type 0 where
   pub row : Row
   pub read : ReadTo (values_of_record number 0 columns places fields) row (values_of_record number at (drop at columns) (drop at places) fields)
@@ -30,7 +30,6 @@ values_next number at columns places fields column l m c =
     ap (λ cs. values_of_record number at cs (drop at places) fields) (drop_more columns at column l ∙ ap (λ k. k ∷ drop (at + 1) columns) (sym c))
     ∙ ap (λ ps. values_of_record number at (column ∷ drop (at + 1) columns) ps fields) (drop_more places at 0 m)
 
--- a field with one
 pub row_more : (number at : ℕ) (columns : List Column) (places : List ℕ) (fields : Record) (old texts new : List (List ℕ)) (cells : List ℕ) (column : Column) (field : List ℕ) (cell : ℕ)
     → at < length columns → at < length places → column ≡ get_or columns at column → field ≡ get_or fields (get_or places at 0) []
     → RowSoFar number at columns places fields old texts cells → Some (value_of_cell new column.kind cell) ≡ value_of_field column.kind field

@@ -1,4 +1,4 @@
--- Columns that grow by a row, over a pool that grows.
+-- Columns grow by a row, and the pool of their texts grows with them.
 use Rattle.std.proofs.Common.{◌≡◌, ℕ, zero, suc, ◌+◌, ◌*◌, ◌<◌, ◌≤◌, List, [], ◌∷◌, ◌++◌, length, get_or, Result, refl, sym, ap, ◌∙◌, arith, add-one, length-append}
 use Rattle.std.specs.Prelude.{replicate}
 use Rattle.std.proofs.Math.ListN.{get_or-append}
@@ -16,12 +16,10 @@ use Rattle.csv_tables.specs.Rows.{row_of_record, rows_of_records, Row}
 use Rattle.csv_tables.proofs.GrowFacts.{begins_itself, begins_then, is_cell-grown, value-grown}
 use Rattle.csv_tables.proofs.StepFacts.{ReadTo, read_none, read_one}
 
--- no rows
 pub columns_none : (texts : List (List ℕ)) (kinds : List Kind) (n : ℕ) → n ≡ length kinds → AreColumns texts 0 kinds (replicate n [])
 columns_none texts [] n e = rw e tt
 columns_none texts (k ∷ ks) n e = rw e (record { height = refl; cells = All-nil (IsCell texts k) }, columns_none texts ks (length ks) refl)
 
--- in a larger pool
 pub columns-grown : (a b : List (List ℕ)) (rows : ℕ) (kinds : List Kind) (columns : List (List ℕ)) → PoolBeginsWith a b → AreColumns a rows kinds columns → AreColumns b rows kinds columns
 columns-grown a b rows [] [] p h = tt
 columns-grown a b rows [] (c ∷ cs) p h = absurd h
@@ -29,7 +27,6 @@ columns-grown a b rows (k ∷ ks) [] p h = absurd h
 columns-grown a b rows (k ∷ ks) (c ∷ cs) p h =
     (record { height = h.0.height; cells = All-weaker (IsCell a k) (IsCell b k) (λ cell. is_cell-grown a b k cell p) c h.0.cells }, columns-grown a b rows ks cs p h.1)
 
--- a row of columns in a larger pool
 row_of_columns-grown : (a b : List (List ℕ)) (rows row : ℕ) (kinds : List Kind) (columns : List (List ℕ)) → PoolBeginsWith a b → row < rows → AreColumns a rows kinds columns
     → row_of_columns b kinds columns row ≡ row_of_columns a kinds columns row
 row_of_columns-grown a b rows row [] columns p l h = refl
@@ -39,7 +36,6 @@ row_of_columns-grown a b rows row (k ∷ ks) (c ∷ cs) p l h =
     ap (λ v. v ∷ row_of_columns b ks cs row) (value-grown a b k (get_or c row 0) p (All-get_or (IsCell a k) c row 0 within h.0.cells))
     ∙ ap (λ r. value_of_cell a k (get_or c row 0) ∷ r) (row_of_columns-grown a b rows row ks cs p l h.1)
 
--- with one more row
 add_row-columns : (texts : List (List ℕ)) (rows : ℕ) (kinds : List Kind) (columns : List (List ℕ)) (row : Row) (cells : List ℕ)
     → AreColumns texts rows kinds columns → AreCellsOfRow texts kinds row cells → AreColumns texts (rows + 1) kinds (add_row columns cells)
 add_row-columns texts rows [] [] row cells h c = tt
@@ -73,7 +69,6 @@ add_row-last texts rows (k ∷ ks) (c1 ∷ cs) (v ∷ vs) (x ∷ xs) h c =
     ∙ ap (λ y. y ∷ row_of_columns texts ks (add_row cs xs) rows) c.0.value_is
     ∙ ap (λ r. v ∷ r) (add_row-last texts rows ks cs vs xs h.1 c.1)
 
--- rows that are alike one by one
 rows-alike : (a b : List (List ℕ)) (kinds : List Kind) (p q : List (List ℕ)) (n : ℕ) → ((row : ℕ) → row < n → row_of_columns b kinds q row ≡ row_of_columns a kinds p row)
     → rows_of_columns b kinds q n ≡ rows_of_columns a kinds p n
 rows-alike a b kinds p q zero h = refl
@@ -81,7 +76,6 @@ rows-alike a b kinds p q (suc n) h =
     ap (λ r. r ++ row_of_columns b kinds q n ∷ []) (rows-alike a b kinds p q n (λ row l. h row (omega (arith, l))))
     ∙ ap (λ r. rows_of_columns a kinds p n ++ r ∷ []) (h n (omega arith))
 
--- the rows of columns are the same in a larger pool
 pub rows_of_columns-grown : (a b : List (List ℕ)) (rows : ℕ) (kinds : List Kind) (columns : List (List ℕ)) → PoolBeginsWith a b → AreColumns a rows kinds columns
     → rows_of_columns b kinds columns rows ≡ rows_of_columns a kinds columns rows
 rows_of_columns-grown a b rows kinds columns p h = rows-alike a b kinds columns columns rows (λ row l. row_of_columns-grown a b rows row kinds columns p l h)
@@ -95,7 +89,7 @@ rows_of_columns-more texts rows kinds columns row cells h c =
     (rows-alike texts texts kinds columns (add_row columns cells) rows (λ at l. add_row-before texts rows at kinds columns row cells l h c))
     ∙ ap (λ r. rows_of_columns texts kinds columns rows ++ r ∷ []) (add_row-last texts rows kinds columns row cells h c)
 
--- the columns of the records that were read, over a pool that grew
+-- `rows` records are read into the columns `found`, the records in `left` remain, and the pool has grown from `old` to `texts`
 pub record RowsSoFar (columns : List Column) (places : List ℕ) (width : ℕ) (records left : List Record) (old texts found : List (List ℕ)) (rows : ℕ) : Type 0 where
   pub read : ReadTo (rows_of_records columns places width 1 records) (rows_of_columns texts (kinds_of columns) found rows) (rows_of_records columns places width (rows + 1) left)
   pub are : AreColumns texts rows (kinds_of columns) found
@@ -113,7 +107,6 @@ rows_none columns places width records texts found e = record {
   limit = omega arith;
 }
 
--- a record that gave a row
 pub rows_more : (columns : List Column) (places : List ℕ) (width : ℕ) (records left after : List Record) (fields : Record) (old texts new found : List (List ℕ)) (rows : ℕ) (cells : List ℕ)
     → RowsSoFar columns places width records left old texts found rows → left ≡ fields ∷ after
     → HoldsRow (row_of_record columns places width (rows + 1) fields) new (kinds_of columns) cells
@@ -147,7 +140,6 @@ row_long texts (k ∷ ks) [] cells h = absurd h
 row_long texts (k ∷ ks) (v ∷ vs) [] h = absurd h
 row_long texts (k ∷ ks) (v ∷ vs) (x ∷ xs) h = ap (λ n. suc n) (row_long texts ks vs xs h.1)
 
--- a row has a cell for each column
 pub as_wide : (old texts : List (List ℕ)) (rows : ℕ) (kinds : List Kind) (columns : List (List ℕ)) (stated : Result Row TableError) (cells : List ℕ)
     → AreColumns old rows kinds columns → HoldsRow stated texts kinds cells → length columns ≡ length cells
 as_wide old texts rows kinds columns stated cells h row = columns_long old rows kinds columns h ∙ sym (row_long texts kinds row.row cells row.cells_of_row)

@@ -19,8 +19,8 @@ abbrev pub repeat_or : Option Repeat → Option ℕ → ℕ → Option Repeat
 repeat_or rest None later = rest
 repeat_or rest (Some place) later = Some (record { later = later; earlier = place + 1 })
 
--- the first of the later lists of values that equals a list before it: its number, and the number
--- of the first list that it equals. Numbers are counted from 1, and the lists in `seen` come first
+-- the first of the later lists of values that equals an earlier list, and the first list that is equal to it, both by number. Numbers are counted
+-- from 1, and the lists in `seen` come before the later lists
 abbrev pub repeat_after : List (List Value) → List (List Value) → Option Repeat
 repeat_after seen [] = None
 repeat_after seen (values ∷ rest) =

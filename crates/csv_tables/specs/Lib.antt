@@ -1,4 +1,5 @@
 pub mod Cells
+pub mod Fields
 pub mod Files
 pub mod Groups
 pub mod Header

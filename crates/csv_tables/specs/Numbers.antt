@@ -18,7 +18,7 @@ abbrev pub is_numeral : List ℕ → Bool
 is_numeral [] = false
 is_numeral (c ∷ cs) = all_ascii_digits (c ∷ cs)
 
--- the decimal number whose digits are those of n and then these
+-- the decimal number whose digits are the digits of n and then the given digits
 abbrev pub decimal_after : ℕ → List ℕ → ℕ
 decimal_after n [] = n
 decimal_after n (c ∷ cs) = decimal_after (n * 10 + (c - 48)) cs

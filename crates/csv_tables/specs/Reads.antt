@@ -15,7 +15,7 @@ pub record IsCellOf (texts : List (List ℕ)) (kind : Kind) (value : Value) (cel
   pub value_is : value_of_cell texts kind cell ≡ value
   pub is_cell : IsCell texts kind cell
 
--- each cell has the value and the kind that stand at its place
+-- each cell has the kind and the value that have the same index
 abbrev pub AreCellsOfRow : List (List ℕ) → List Kind → Row → List ℕ → Type 0
 AreCellsOfRow texts [] [] [] = ⊤
 AreCellsOfRow texts [] [] (cell ∷ cells) = ⊥

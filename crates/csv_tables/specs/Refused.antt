@@ -1,9 +1,9 @@
--- Which errors a reading may answer.
+-- Which errors may be given when a file is read.
 use Rattle.std.specs.Prelude.{◌≡◌, Result, Err, ⊤}
 use Rattle.csv_tables.specs.declared.types.TableError.{TableError}
 use Rattle.csv_tables.specs.declared.types.TableError.TheVariants as error
 
--- an error is want of memory, or exactly the refusal of what is stated
+-- the error is want of memory, or exactly the refusal that the specification gives
 abbrev pub Refuses : {A : Type 0} → Result A TableError → TableError → Type 0
 Refuses stated error.NoMemory = ⊤
 Refuses stated (error.Utf8 at) = stated ≡ Err (error.Utf8 at)

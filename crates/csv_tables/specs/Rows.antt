@@ -12,8 +12,8 @@ use Rattle.csv_tables.specs.Values.{Value, value_of_field}
 abbrev pub Row : Type 0
 Row = List Value
 
--- the values of the record `number` in these columns, whose fields stand at these places; the first column has the
--- number `at`. The first field that spells no value of its column is refused.
+-- the values of record `number` in these columns, read from its fields at these places; the first column has the number `at`. The first field that
+-- spells no value of its column is refused.
 abbrev pub values_of_record : ℕ → ℕ → List Column → List ℕ → Record → Result Row TableError
 values_of_record number at [] places fields = Ok []
 values_of_record number at (column ∷ columns) [] fields = Ok []

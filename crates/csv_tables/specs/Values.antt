@@ -14,16 +14,15 @@ pub data Value : Type 0 where
   Int : ℤ → Value
   Text : List ℕ → Value
 
--- values are equal: equal numbers, or texts of the same characters
+-- values are equal if they are equal numbers, or texts with the same bytes
 abbrev pub is_same : Value → Value → Bool
 is_same (Int a) (Int b) = int_eq a b
 is_same (Text a) (Text b) = bytes_eq a b
 is_same (Int a) (Text b) = false
 is_same (Text a) (Int b) = false
 
--- the order of values: numbers by size, texts by the code points of their characters, without
--- padding (SQL-92's NO PAD: a text and the same text with a blank at its end differ). No
--- query compares a number with a text; in this order a number stands before a text.
+-- the order of values: numbers by size, texts by the code points of their characters, without padding (SQL-92's NO PAD: a text and the same text
+-- with a blank at its end differ). No query compares a number with a text; in this order a number comes before a text.
 abbrev pub value_cmp : Value → Value → Ordering
 value_cmp (Int a) (Int b) = int_cmp a b
 value_cmp (Text a) (Text b) = slice_cmp nat_cmp (chars a) (chars b)

@@ -17,7 +17,7 @@ use schema_types::Table;
 use std::alloc::Global;
 use std::collections::HashMap;
 
-// The place that is kept for a pair. If none is kept yet, this place is kept.
+// The place that `seen` has for `pair`. If it has no place for this pair yet, `at` becomes the pair's place.
 fn first_of(seen: &mut HashMap<(u32, u64), u32>, pair: (u32, u64), at: u32) -> Result<u32, NoMemory>
     ensures first { IfOk result (λ first. first ≡ unwrap_or (get same_pair seen.old pair) at) }
     ensures kept { IfOk result (λ first. (q : ℕ × ℕ)
@@ -30,7 +30,7 @@ fn first_of(seen: &mut HashMap<(u32, u64), u32>, pair: (u32, u64), at: u32) -> R
     Ok(at)
 }
 
-// Gives each place the number of the first place that has the same number and the same cell.
+// Before, `group` has a number for each row. Afterwards it has for each row the index of the first row with the same number and the same cell.
 fn number_pairs(alloc: Global, group: &mut [u32], cells: &[u64]) -> Result<(), NoMemory>
     requires long { length group.old ≡ length cells.now }
     requires few { length cells.now ≤ most_rows }
@@ -44,7 +44,7 @@ fn number_pairs(alloc: Global, group: &mut [u32], cells: &[u64]) -> Result<(), N
     Ok(())
 }
 
-// The first place that has another place's number, and that other place. It gives both as records, counted from 1.
+// The first row whose number isn't its own index, and the row that this number names. Both are given as numbers of records, counted from 1.
 fn repeat_in(group: &[u32]) -> Option<Repeat>
     requires few { length group.now ≤ most_rows }
     requires below { (i : ℕ) → i < length group.now → slice_index group.now i ≤ i }
@@ -61,7 +61,7 @@ fn repeat_in(group: &[u32]) -> Option<Repeat>
     None
 }
 
-// Whether each cell is greater than the one before it. This test takes no memory.
+// Whether each cell is greater than the cell before it. This test takes no memory.
 fn ascends(cells: &[u64]) -> bool
     ensures { result ≡ true → (i j : ℕ) → i < j → j < length cells.now → slice_index cells.now i < slice_index cells.now j }
 {
@@ -73,7 +73,7 @@ fn ascends(cells: &[u64]) -> bool
     true
 }
 
-// Whether one of a key's columns ascends, so that no two rows are alike in all of them.
+// Whether the cells of one of a key's columns ascend. Then no two rows have the same cells in all of the key's columns.
 fn has_ascending(key: &[u32], columns: &[Seq<u64>], rows: u32) -> bool
     requires heights { All (λ column. length column ≡ rows) columns.now }
     requires key { All (λ column. column < length columns.now) key.now }
@@ -87,7 +87,7 @@ fn has_ascending(key: &[u32], columns: &[Seq<u64>], rows: u32) -> bool
     false
 }
 
-// The first record that repeats the cells of an earlier one in the columns of a key.
+// The first record that repeats the cells of an earlier record in the columns of a key.
 fn repeat_of_key(
     alloc: Global,
     key: &[u32],

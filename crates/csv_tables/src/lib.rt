@@ -1,8 +1,9 @@
 //! Table files: from the bytes of CSV files to cells, and the pool of their texts.
 //!
 //! This is the stage after the schema is read. A table file is read record by record (RFC 4180, as the crate
-//! `csv` reads it). Each field of a declared column becomes one cell of 8 bytes. The cell of a number has its bits;
-//! the cell of a text has the text's number in the pool, which has each text once. Then declared keys are checked.
+//! `csv` reads it). A file without a quotation mark is split here, into the same records. Each field of a declared
+//! column becomes one cell of 8 bytes. The cell of a number has its bits; the cell of a text has the text's number
+//! in the pool, which has each text once. Then declared keys are checked.
 //!
 //! Callers cite `rows_of_file` (in `specs/Files.antt`), which says which rows a file has or why it
 //! is refused. They also cite `rows_of_cells` and `AreCellsOf` (in `specs/Cells.antt`), which say
@@ -12,10 +13,12 @@
 
 mod cases;
 mod cell;
+mod fields;
 mod header;
 mod keys;
 mod number;
 mod order;
+mod plain;
 mod pool;
 mod records;
 mod rows;

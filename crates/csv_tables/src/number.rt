@@ -5,7 +5,7 @@ ghost use Rattle.csv_tables.specs.Numbers.{greatest_magnitude, number_of as spel
 // This many digits spell a number below 10^18, so no step has to test for overflow.
 const SHORT: usize = 18;
 
-// The number that one to eighteen digits spell. It answers None if they aren't digits or spell more than the limit.
+// The number that one to eighteen digits spell. It is None if a byte isn't a digit, or if the number is above `most`.
 #[tactic(auto, using(crate::proofs::NumberFacts::short_steps))]
 fn short_size(digits: &[u8], most: u64) -> Option<u64>
     requires some { 0 < length digits.now }
@@ -25,7 +25,7 @@ fn short_size(digits: &[u8], most: u64) -> Option<u64>
     Some(size)
 }
 
-// The number that one or more digits spell. It answers None if they aren't digits or spell more than the limit.
+// The number that one or more digits spell. It is None if a byte isn't a digit, or if the number is above `most`.
 fn long_size(digits: &[u8], most: u64) -> Option<u64>
     requires some { 0 < length digits.now }
     requires most { most ≤ 2 ^ 63 }
@@ -45,8 +45,7 @@ fn long_size(digits: &[u8], most: u64) -> Option<u64>
     Some(size)
 }
 
-// The number that digits spell. It answers None for no bytes, for bytes that aren't digits, and for
-// a number above the limit.
+// The number that digits spell. It is None if there are no bytes, if a byte isn't a digit, or if the number is above `most`.
 fn size_of(digits: &[u8], most: u64) -> Option<u64>
     requires { most ≤ 2 ^ 63 }
     ensures { result ≡ spelled_size most digits.now }

@@ -36,7 +36,7 @@ impl Pool {
         }
     }
 
-    /// How many texts there are. No two of them are equal, and each is UTF-8.
+    /// How many texts the pool has. They are all different, and each is UTF-8.
     pub fn len(&self) -> usize
         ensures len { result ≡ length self.now }
         ensures few { result < 2 ^ 32 }

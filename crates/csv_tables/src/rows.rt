@@ -46,8 +46,12 @@ fn cell_of_text(pool: &mut Pool, most: u32, field: &[u8]) -> Result<Option<u64>,
     Ok(Some(pool.intern(text)? as u64))
 }
 
-// The cell of the value of this kind that a field spells. It answers None if the field spells no value of this kind.
-fn cell_of_field(pool: &mut Pool, kind: Kind, field: &[u8]) -> Result<Option<u64>, NoMemory>
+/// The cell of the value of this kind that a field spells. It answers None if the field spells no value of this kind.
+pub(crate) fn cell_of_field(
+    pool: &mut Pool,
+    kind: Kind,
+    field: &[u8],
+) -> Result<Option<u64>, NoMemory>
     requires text { IsUtf8 field.now }
     requires room { length pool.old < 4294967295 }
     ensures value { IfOk result (λ cell. option_map (value_of_cell pool.new kind) cell ≡ value_of_field kind field.now) }
@@ -108,8 +112,8 @@ fn read_row(
     Ok(())
 }
 
-// Puts one more cell at the end of each column.
-fn push_row(columns: &mut Vec<Seq<u64>>, cells: &[u64]) -> Result<(), NoMemory>
+/// Puts one more cell at the end of each column.
+pub(crate) fn push_row(columns: &mut Vec<Seq<u64>>, cells: &[u64]) -> Result<(), NoMemory>
     requires { vec_len columns.old ≡ length cells.now }
     ensures { OnOk result (columns.new.items ≡ add_row columns.old.items cells.now) }
 {

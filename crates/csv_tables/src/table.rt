@@ -1,10 +1,11 @@
 //! Reads a table's cells from its file.
-ghost use Rattle.std.specs.Prelude.{◌≡◌, ◌<◌, ◌≤◌, ◌+◌, false, Err, IfErr, IfOk, IsUtf8, Ok, OnErr, OnOk, length};
+ghost use Rattle.std.specs.Prelude.{◌≡◌, ◌<◌, ◌≤◌, ◌+◌, false, Err, IfErr, IfOk, IfSome, IsUtf8, Ok, OnErr, OnOk, length};
 ghost use Rattle.std.specs.Str.{is_utf8};
 ghost use Rattle.std.specs.Str.Lossy.{utf8_valid_len};
 ghost use Rattle.limits.specs.Profile.{most_file, most_rows};
 ghost use Rattle.csv.specs.Reading.{strip_bom};
 ghost use Rattle.csv.specs.Records.{fields_of};
+ghost use Rattle.plain_records.specs.Plain.{has_quote};
 ghost use Rattle.schema_types.specs.Validity.{IsValidTable};
 ghost use Rattle.csv_tables.specs.Cells.{rows_of_cells, AreCellsOf};
 ghost use Rattle.csv_tables.specs.Files.{rows_of_file, rows_under_header};
@@ -15,12 +16,15 @@ ghost use Rattle.csv_tables.specs.Refused.{Refuses};
 
 use crate::header::places_of;
 use crate::keys::check_keys;
+use crate::plain::{behind_header, read_plain_rows};
 use crate::pool::Pool;
 use crate::records::{next_record, open_records};
 use crate::rows::read_rows;
 use crate::{Cells, TableError};
 use base_io::{NoMemory, Seq};
 use csv::ByteRecord;
+use limits::MOST_ROWS;
+use plain_records::scan;
 use schema_types::{Column, Kind, Table};
 use std::alloc::Global;
 
@@ -51,6 +55,21 @@ fn kinds(alloc: Global, columns: &[Column]) -> Result<Seq<Kind>, NoMemory>
     Ok(Seq::from_vec(kinds))
 }
 
+// Files whose header has more fields are read by the crate `csv`, so that little memory is asked for a hostile header.
+const MOST_FIELDS: usize = 4096;
+
+// For how many rows the columns of a file need room, if no byte of it is a quotation mark. A row has at least a byte for each field of the header.
+fn room_of(bytes: &[u8], width: usize) -> Option<usize>
+    ensures { IfSome result (λ _. has_quote bytes.now ≡ false) }
+{
+    if width > MOST_FIELDS {
+        return None;
+    }
+    let lines = scan(bytes)?;
+    let most = bytes.len() / width.max(1);
+    Some(lines.min(most).min(MOST_ROWS as usize))
+}
+
 // Reads the records after a file's header. It gives their cells, column by column, and the number of records.
 fn read_columns(
     alloc: Global,
@@ -79,6 +98,10 @@ fn read_columns(
     }
     let width = row.len();
     let places = places_of(alloc, columns, &row)?;
+    if let Some(room) = room_of(bytes, width) {
+        let start = behind_header(bytes);
+        return read_plain_rows(alloc, bytes, start, columns, &places, width, room, pool);
+    }
     read_rows(alloc, &mut reader, &mut row, columns, &places, width, pool)
 }
 

@@ -45,7 +45,7 @@ pub enum TableError {
     NoMemory,
 }
 
-/// A record that repeats an earlier one, by their numbers. The records after the header are numbered from 1.
+/// Two records with the same values in the columns of a key, by their numbers. The records after the header are numbered from 1.
 #[derive(Clone, Copy, Debug, PartialEq, Eq)]
 pub(crate) struct Repeat {
     pub later: u32,

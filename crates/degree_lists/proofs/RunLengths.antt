@@ -1,4 +1,4 @@
--- The lengths of the runs of equal neighbours of an ascending list, run by run.
+-- The code finds the lengths of the runs of equal neighbours of an ascending list, run by run. These lengths are the degrees of the different keys.
 use Rattle.std.proofs.Common.{◌≡◌, ℕ, zero, suc, ◌+◌, ◌-◌, ◌<◌, ◌≤◌, false, cond, eqb, List, [], ◌∷◌, ◌++◌, map, length, get_or, take, replicate, refl, ap, sym, ◌∙◌, subst, arith, length-take, append_assoc, add-one, inl, inr}
 use Rattle.std.specs.List.Sorted.{IsNonDecreasing}
 use Rattle.std.proofs.lemmas.List.{take_more, get_or-take, replicate_more, append-nil, take_all}
@@ -7,7 +7,7 @@ use Rattle.std.proofs.lemmas.Bool.{ne_eqb, cases_lt}
 use Rattle.degree_sequences.specs.Degrees.{degree, different}
 use Rattle.degree_lists.proofs.OneMoreKey.{run_added}
 
--- before place i of the list, whose last `run` keys are as the next one, the runs have these lengths
+-- `lengths` has the lengths of all runs among the first `i - run` keys; the next `run` keys are equal to the key at index i
 pub record AreLengths (sorted lengths : List ℕ) (run i : ℕ) : Type 0 where
   pub within : run ≤ i
   pub more : 0 < run → i < length sorted
@@ -24,7 +24,6 @@ no_lengths sorted = record {
   below = λ k low high. absurd (omega arith);
 }
 
--- the next key is like this one
 pub run_goes_on : (sorted lengths : List ℕ) (run i : ℕ) → AreLengths sorted lengths run i → i + 1 < length sorted → get_or sorted (i + 1) 0 ≡ get_or sorted i 0
     → AreLengths sorted lengths (run + 1) (i + 1)
 run_goes_on sorted lengths run i are room same =
@@ -40,7 +39,6 @@ run_goes_on sorted lengths run i are room same =
       below = λ k low high. subst (λ b. get_or sorted k 0 < get_or sorted b 0) (sym from) (are.below k (omega arith) (omega arith));
     }
 
--- a key above all of a list stands nowhere in it
 pub degree-above : (s : List ℕ) (x : ℕ) → ((k : ℕ) → k < length s → get_or s k 0 < x) → degree s x ≡ 0
 degree-above [] x above = refl
 degree-above (y ∷ s) x above =
@@ -61,7 +59,6 @@ take-run s x b (suc n) room alike =
     ∙ append_assoc (take b s) (replicate n x) (x ∷ [])
     ∙ ap (λ t. take b s ++ t) (replicate_more n x ∙ ap (λ m. replicate m x) (add-one n))
 
--- the next key is another one, or there is none
 pub run_ends : (sorted lengths : List ℕ) (run i : ℕ) → IsNonDecreasing sorted → AreLengths sorted lengths run i → i < length sorted
     → (i + 1 < length sorted → get_or sorted (i + 1) 0 ≡ get_or sorted i 0 → ⊥)
     → AreLengths sorted (lengths ++ (run + 1) ∷ []) 0 (i + 1)
@@ -98,7 +95,6 @@ run_ends sorted lengths run i up are within differs =
       | inr h ↦ absurd (differs (omega (arith, h, up i (i + 1) 0 (omega arith) room)))
     ]
 
--- at the end of the list every run has ended
 pub all_lengths : (sorted lengths : List ℕ) (run i : ℕ) → AreLengths sorted lengths run i → length sorted ≤ i
     → lengths ≡ map (degree sorted) (different sorted)
 all_lengths sorted lengths run i are end =

@@ -1,4 +1,4 @@
--- Keys with the same degrees have one degree list, in whatever order they stand.
+-- Two lists of keys in which each key has the same degree have the same degree list, whatever their order.
 use Rattle.std.proofs.Common.{◌≡◌, ℕ, ◌+◌, Bool, true, false, cond, not, ◌||◌, eqb, ltb, List, [], ◌∷◌, map, refl, ap, sym, ◌∙◌, arith, inl, inr}
 use Rattle.std.specs.List.{filter, sum_by, IsDistinct, AllByRecursion}
 use Rattle.std.specs.List.Sorted.{IsPermutation}
@@ -17,7 +17,6 @@ none_in : (x : ℕ) (D : List ℕ) → AllByRecursion (λ y. eqb x y ≡ false) 
 none_in x [] h = refl
 none_in x (d ∷ D) h = rw h.0 (none_in x D h.1)
 
--- different elements and an element among them: the sum without it
 sum_without : (h : ℕ → ℕ) (x : ℕ) (D : List ℕ) → IsDistinct eqb D → is_in D x ≡ true → sum_by h D ≡ h x + sum_by h (filter (λ y. not (eqb y x)) D)
 sum_without h x D apart inside =
     let one : sum_by (λ y. cond (eqb x y) (h y) 0) D ≡ h x = one_weight h x D apart inside in
@@ -31,7 +30,6 @@ sum_without h x D apart inside =
       | inr e ↦ (let back : eqb y x ≡ false = ne_eqb y x (λ same. false≢true (sym e ∙ eq-eqb x y (sym same))) in rw (e, back) (omega arith))
     ]
 
--- different elements with the same members have the same sums
 pub same_members : (h : ℕ → ℕ) (D E : List ℕ) → IsDistinct eqb D → IsDistinct eqb E → ((x : ℕ) → is_in D x ≡ is_in E x) → sum_by h D ≡ sum_by h E
 same_members h [] [] ad ae same = refl
 same_members h [] (e ∷ E) ad ae same = absurd (false≢true (same e ∙ rw (eq-eqb e e refl) refl))
@@ -53,7 +51,6 @@ same_members h (d ∷ D) E ad ae same =
       same_members h D (filter p E) (IsDistinct-tail eqb d D ad) (IsDistinct-filter p E ae) rest,
     )
 
--- keys with the same degrees have one degree list
 pub same_degrees : (L M : List ℕ) → ((a : ℕ) → degree L a ≡ degree M a) → degree_list L ≡ degree_list M
 same_degrees L M same =
     same_falling (degree_list L) (degree_list M) (IsFalling-in_falling_order (map (degree L) (different L))) (IsFalling-in_falling_order (map (degree M) (different M)))
@@ -68,6 +65,5 @@ same_degrees L M same =
     along [] f = refl
     along (d ∷ D) f = omega (arith, sum_by-cons (λ a. f (degree L a)) d D, sum_by-cons (λ a. f (degree M a)) d D, ap f (same d), along D f)
 
--- a rearrangement of keys has their degree list
 pub degree_list-rearranged : (L M : List ℕ) → IsPermutation L M → degree_list M ≡ degree_list L
 degree_list-rearranged L M moved = same_degrees M L (λ a. sum_by-IsPermutation (λ y. cond (eqb y a) 1 0) L M moved)

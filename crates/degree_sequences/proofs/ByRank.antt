@@ -1,4 +1,4 @@
--- The rank-wise product, sum and maximum.
+-- These are laws of the rank-wise product, sum and maximum of lists: what their elements are, that they fall, and that products are monotone.
 use Rattle.std.proofs.Common.{List, [], arith, get_or, length, max, refl, suc, sum, sym, zero, ℕ, ◌*◌, ◌+◌, ◌∷◌, ◌≡◌, ◌≤◌}
 use Rattle.std.proofs.Math.Nat.{mul-le-mul, mul-zero, mul_comm, zero-mul}
 use Rattle.std.specs.List.{AllByRecursion, AllZip}
@@ -9,29 +9,24 @@ use Rattle.degree_sequences.specs.ByRank.{rank_maximum, rank_product, rank_produ
 use Rattle.degree_sequences.specs.Falling.{IsFalling}
 use Rattle.degree_sequences.specs.RunningSums.{IsAbove, running_sum}
 
--- each element is the product of the two
 pub get_or-rank_product : (a b : List ℕ) (i : ℕ) → get_or (rank_product a b) i 0 ≡ get_or a i 0 * get_or b i 0
 get_or-rank_product [] b i = sym (zero-mul (get_or b i 0))
 get_or-rank_product (x ∷ a) [] i = sym (mul-zero (get_or (x ∷ a) i 0))
 get_or-rank_product (x ∷ a) (y ∷ b) zero = refl
 get_or-rank_product (x ∷ a) (y ∷ b) (suc i) = get_or-rank_product a b i
 
--- a product is no longer than its first list
 pub length-rank_product-le : (s t : List ℕ) → length (rank_product s t) ≤ length s
 length-rank_product-le [] t = omega arith
 length-rank_product-le (x ∷ s) [] = omega arith
 length-rank_product-le (x ∷ s) (y ∷ t) = omega (arith, length-rank_product-le s t)
 
--- a product of falling lists falls
 pub IsFalling-rank_product : (s t : List ℕ) → IsFalling s → IsFalling t → IsFalling (rank_product s t)
 IsFalling-rank_product s t fs ft r = omega (arith, get_or-rank_product s t r, get_or-rank_product s t (suc r), mul-le-mul (fs r) (ft r))
 
--- a product of several falling lists falls
 pub IsFalling-rank_product_with : (s : List ℕ) (ss : List (List ℕ)) → IsFalling s → AllByRecursion IsFalling ss → IsFalling (rank_product_with s ss)
 IsFalling-rank_product_with s [] f all = f
 IsFalling-rank_product_with s (t ∷ ts) f all = IsFalling-rank_product s (rank_product_with t ts) f (IsFalling-rank_product_with t ts all.0 all.1)
 
--- the law for two lists
 pub rank_product-above : (s t s' t' : List ℕ) → IsFalling t → IsFalling s' → IsAbove s s' → IsAbove t t' → IsAbove (rank_product s t) (rank_product s' t')
 rank_product-above s t s' t' ft fs' above_s above_t n =
     let at_s : ℕ → ℕ = λ r. get_or s r 0 in
@@ -46,7 +41,6 @@ rank_product-above s t s' t' ft fs' above_s above_t n =
     let back : sum_below (λ r. at_t r * at_s r) n ≡ sum_below (λ r. at_s r * at_t r) n = sum_below-same (λ r. at_t r * at_s r) (λ r. at_s r * at_t r) n (λ r h. mul_comm (at_t r) (at_s r)) in
     omega (arith, one, turn, two, back, sum_below-product s t n, sum_below-product s' t' n)
 
--- the product of several lists is monotone
 pub rank_product_with-above : (s : List ℕ) (ss : List (List ℕ)) (t : List ℕ) (ts : List (List ℕ)) → IsFalling s → AllByRecursion IsFalling ss → IsFalling t → AllByRecursion IsFalling ts
     → IsAbove s t → AllZip IsAbove ss ts → IsAbove (rank_product_with s ss) (rank_product_with t ts)
 rank_product_with-above s [] t [] fs fss ft fts one all = one
@@ -56,7 +50,6 @@ rank_product_with-above s (s' ∷ ss) t (t' ∷ ts) fs fss ft fts one all =
     rank_product-above s (rank_product_with s' ss) t (rank_product_with t' ts) (IsFalling-rank_product_with s' ss fss.0 fss.1) ft one
     (rank_product_with-above s' ss t' ts fss.0 fss.1 fts.0 fts.1 all.0 all.1)
 
--- the product of one or more lists is monotone
 pub rank_product_of-above : (ss ts : List (List ℕ)) → AllByRecursion IsFalling ss → AllByRecursion IsFalling ts → AllZip IsAbove ss ts
     → IsAbove (rank_product_of ss) (rank_product_of ts)
 rank_product_of-above [] [] fss fts all = λ r. omega arith
@@ -64,26 +57,22 @@ rank_product_of-above [] (t ∷ ts) fss fts all = absurd all
 rank_product_of-above (s ∷ ss) [] fss fts all = absurd all
 rank_product_of-above (s ∷ ss) (t ∷ ts) fss fts all = rank_product_with-above s ss t ts fss.0 fss.1 fts.0 fts.1 all.0 all.1
 
--- the running sums of a sum are the sums
 pub running_sum-rank_sum : (s t : List ℕ) (r : ℕ) → running_sum (rank_sum s t) r ≡ running_sum s r + running_sum t r
 running_sum-rank_sum s t zero = refl
 running_sum-rank_sum [] t (suc r) = omega arith
 running_sum-rank_sum (x ∷ s) [] (suc r) = omega arith
 running_sum-rank_sum (x ∷ s) (y ∷ t) (suc r) = omega (arith, running_sum-rank_sum s t r)
 
--- a sum of falling lists falls
 pub IsFalling-rank_sum : (s t : List ℕ) → IsFalling s → IsFalling t → IsFalling (rank_sum s t)
 IsFalling-rank_sum s t fs ft = IsFalling-from_sums (rank_sum s t)
     (λ r. omega (arith, running_sum-rank_sum s t r, running_sum-rank_sum s t (suc r), running_sum-rank_sum s t (suc (suc r)), sums_fall s fs r, sums_fall t ft r))
 
--- each element is the sum of the two
 pub get_or-rank_sum : (s t : List ℕ) (r : ℕ) → get_or (rank_sum s t) r 0 ≡ get_or s r 0 + get_or t r 0
 get_or-rank_sum [] t r = omega arith
 get_or-rank_sum (x ∷ s) [] r = omega arith
 get_or-rank_sum (x ∷ s) (y ∷ t) zero = refl
 get_or-rank_sum (x ∷ s) (y ∷ t) (suc r) = get_or-rank_sum s t r
 
--- and so are all elements together
 pub sum-rank_sum : (s t : List ℕ) → sum (rank_sum s t) ≡ sum s + sum t
 sum-rank_sum [] t = omega arith
 sum-rank_sum (x ∷ s) [] = omega arith
@@ -96,13 +85,11 @@ sum-rank_sum (x ∷ s) (y ∷ t) =
       sum_by-cons (λ (z : ℕ). z) (x + y) (rank_sum s t),
     )
 
--- each element is the greater of the two
 pub get_or-rank_maximum : (s t : List ℕ) (r : ℕ) → get_or (rank_maximum s t) r 0 ≡ max (get_or s r 0) (get_or t r 0)
 get_or-rank_maximum [] t r = omega arith
 get_or-rank_maximum (x ∷ s) [] r = omega arith
 get_or-rank_maximum (x ∷ s) (y ∷ t) zero = refl
 get_or-rank_maximum (x ∷ s) (y ∷ t) (suc r) = get_or-rank_maximum s t r
 
--- a maximum of falling lists falls
 pub IsFalling-rank_maximum : (s t : List ℕ) → IsFalling s → IsFalling t → IsFalling (rank_maximum s t)
 IsFalling-rank_maximum s t fs ft r = omega (arith, fs r, ft r, get_or-rank_maximum s t r, get_or-rank_maximum s t (suc r))

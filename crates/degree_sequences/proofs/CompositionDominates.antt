@@ -22,7 +22,6 @@ use Rattle.degree_sequences.specs.KeyedRows.{ChildKeys, DominatesChild, weight_o
 use Rattle.degree_sequences.specs.Rank.{rank}
 use Rattle.degree_sequences.specs.RunningSums.{running_sum}
 
--- what passes the test lies below n
 pub All-below : (n : ℕ) (A : List ℕ) → AllByRecursion (λ a. a < n) (filter (λ i. ltb i n) A)
 All-below n [] = tt
 All-below n (a ∷ A) = elim (cases_Bool (ltb a n)) [
@@ -30,7 +29,6 @@ All-below n (a ∷ A) = elim (cases_Bool (ltb a n)) [
   | inr e ↦ rw e (All-below n A)
 ]
 
--- the keys of different rows are dominated, also by the list cut at the number of rows
 pub keys_dominated : (g keys : List ℕ) → DominatesKeys g keys → (B : List ℕ) → IsDistinct eqb B → AllByRecursion (λ b. b < length keys) B
     → DominatesWeights (cut g (length B)) (degree (map (λ i. get_or keys i 0) B))
 keys_dominated g keys dom B apart below E apart_E =
@@ -48,7 +46,7 @@ keys_dominated g keys dom B apart below E apart_E =
       dom E apart_E,
     )
 
--- the rows of one child are dominated by its class list spread over its column
+-- the child's class list is spread over its column: element r is repeated as often as element r of the column says
 pub child_dominates : (n : ℕ) (c : ChildLists) (k : ChildKeys) → DominatesChild n c k
     → DominatesWeights (spread c.column c.class) (λ i. cond (ltb i n) (k.weight (get_or k.keys i 0)) 0)
 child_dominates n c k d A apart =
@@ -72,7 +70,6 @@ child_dominates n c k d A apart =
       running_sum-mono (spread c.column c.class) m (length A) short,
     )
 
--- the rows of all children are dominated by the row weights
 pub rows_dominated : (total n : ℕ) → n ≤ total → (cs : List ChildLists) (ks : List ChildKeys) → AllZip (DominatesChild n) cs ks
     → DominatesWeights (spreads cs total) (λ i. cond (ltb i n) (weight_of_row ks i) 0)
 rows_dominated total n fits [] [] all A apart =
@@ -99,7 +96,6 @@ rows_dominated total n fits (c ∷ cs) (k ∷ ks) all A apart =
     times true x y = mul_comm x y
     times false x y = refl
 
--- for rows that are there, they are the row weights
 pub get_or-spreads : (total n : ℕ) → n ≤ total → (cs : List ChildLists) (ks : List ChildKeys) → AllZip (DominatesChild n) cs ks → (k : ℕ) → k < n
     → get_or (spreads cs total) k 0 ≡ weight_by_rank cs (suc k)
 get_or-spreads total n fits [] [] all k h = get_or-replicate total k 1 0 (omega arith)
@@ -111,7 +107,6 @@ get_or-spreads total n fits (c ∷ cs) (k ∷ ks) all r h =
     ∙ ap (λ x. x * get_or (spreads cs total) r 0) (get_or-spread c.column c.class r (omega (arith, places_fit c.column k.keys all.0.column, all.0.key_per_row)))
     ∙ ap (λ x. get_or c.class (rank c.column (suc r) - 1) 0 * x) (get_or-spreads total n fits cs ks all.1 r h)
 
--- different rows below n weigh at most the first elements of the row weights
 pub rows_within : (total n : ℕ) → n ≤ total → (cs : List ChildLists) (ks : List ChildKeys) → AllZip (DominatesChild n) cs ks
     → (R : List ℕ) → IsDistinct eqb R → AllByRecursion (λ i. i < n) R → sum_by (weight_of_row ks) R ≤ running_sum (row_weights cs total) (length R)
 rows_within total n fits cs ks all R apart below =
@@ -128,7 +123,6 @@ rows_within total n fits cs ks all R apart below =
         let here : cond (ltb i n) (weight_of_row ks i) 0 ≡ weight_of_row ks i = rw (lt-ltb i n h.0) refl in
         omega (arith, here, sum_by-cons (weight_of_row ks) i R, sum_by-cons (λ i. cond (ltb i n) (weight_of_row ks i) 0) i R, whole R h.1)
 
--- the weights of parent keys are the weights of the rows that have them
 pub by_parent : (h key : ℕ → ℕ) (A : List ℕ) → IsDistinct eqb A → (R : List ℕ)
     → sum_by (λ a. sum_by (λ i. cond (eqb (key i) a) (h i) 0) R) A ≡ sum_by (λ i. cond (is_in A (key i)) (h i) 0) R
 by_parent h key A apart [] = sum_by-nothing (λ a. 0) A (everywhere (λ a. 0 ≡ 0) (λ a. refl) A)
@@ -142,7 +136,6 @@ by_parent h key A apart (i ∷ R) =
           (λ a. sum_by-cons (λ i. cond (eqb (key i) a) (h i) 0) i R) A,
     )
 
--- a composition dominates the weights of the parent keys
 pub composed_dominates : (g parents : List ℕ) (cs : List ChildLists) (ks : List ChildKeys) → DominatesKeys g parents
     → AllZip (DominatesChild (length parents)) cs ks → DominatesWeights (composed g cs) (weight_of_key parents ks)
 composed_dominates g parents cs ks dom all A apart =
@@ -165,7 +158,6 @@ composed_dominates g parents cs ks dom all A apart =
       running_sum-trimmed (block_sums g U) (length A),
     )
 
--- the root total is at least the sum of the weights of the rows
 pub root_at_least : (total n : ℕ) → n ≤ total → (cs : List ChildLists) (ks : List ChildKeys) → AllZip (DominatesChild n) cs ks
     → sum_by (weight_of_row ks) (range_with_len 0 n) ≤ root_total cs total
 root_at_least total n fits cs ks all =

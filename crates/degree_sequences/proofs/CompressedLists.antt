@@ -1,4 +1,4 @@
--- A compressed list stays at or above the list, has its sum, falls and stays near it.
+-- A compressed list falls. Its running sums are at least those of the list, its sum is the list's sum, and its elements are near the list's elements.
 use Rattle.std.proofs.Common.{List, [], ap, arith, get_or, inl, inr, length, ltb, min, suc, sum, sym, zero, zero-add, ℕ, ◌*◌, ◌+◌, ◌-◌, ◌<◌, ◌∷◌, ◌≡◌, ◌≤◌}
 use Rattle.std.proofs.Math.Nat.{mul-le-mul_left, mul-zero}
 use Rattle.std.proofs.lemmas.Bool.{cases_lt, cond_both, ltb-false, ltb-true}
@@ -14,11 +14,9 @@ use Rattle.degree_sequences.specs.Falling.{IsFalling}
 use Rattle.degree_sequences.specs.Rank.{rank}
 use Rattle.degree_sequences.specs.RunningSums.{running_sum}
 
--- the slope, at the rank of the next row
 pub slope-above : (k : ℕ) (f : List ℕ) → IsFalling f → (i : ℕ) → get_or f i 0 ≤ get_or (heads k f) i 0
 slope-above k f fall i = heads-above k (get_or f 0 0) f fall (omega arith) i
 
--- one more element of the compressed list keeps up with one more of f
 pub step_above : (k : ℕ) (f : List ℕ) → IsFalling f → (i m : ℕ) → running_sum f i ≤ m → m < sum f → running_sum f (suc i) ≤ m + min (slope k f m) (sum f - m)
 step_above k f fall i m ahead short =
     let j : ℕ = rank f (suc m) in
@@ -28,7 +26,6 @@ step_above k f fall i m ahead short =
       | inr here ↦ omega (arith, within, running_sum-suc f i, falls_to f fall (j - 1) i (omega arith), slope-above k f fall (j - 1))
     ]
 
--- n further elements keep up with n further of f
 pub compressed_from-above : (k : ℕ) (f : List ℕ) → IsFalling f → (n i m : ℕ) → running_sum f i ≤ m → (r : ℕ) → r ≤ n
     → running_sum f (i + r) ≤ m + running_sum (compressed_from k f n m) r
 compressed_from-above k f fall n i m ahead zero h = let e : i + 0 ≡ i = omega arith in rw e (omega arith)
@@ -40,7 +37,6 @@ compressed_from-above k f fall (suc n) i m ahead (suc r) h =
     omega (arith, ap (running_sum f) at, compressed_from-above k f fall n (suc i) (m + next) (step_above k f fall i m ahead (ltb-true m (sum f) e)) r (omega arith)))
     (λ e. omega (arith, ltb-false m (sum f) e, running_sum-le-sum f (i + suc r)))
 
--- the sum of f is never exceeded
 pub compressed_from-within : (k : ℕ) (f : List ℕ) (n m : ℕ) → m ≤ sum f → (r : ℕ) → m + running_sum (compressed_from k f n m) r ≤ sum f
 compressed_from-within k f n m h zero = omega arith
 compressed_from-within k f zero m h (suc r) = omega arith
@@ -50,7 +46,6 @@ compressed_from-within k f (suc n) m h (suc r) =
     (λ e. omega (arith, compressed_from-within k f n (m + next) (omega arith) r))
     (λ e. omega arith)
 
--- the running sums of the compressed list are at least those of f
 pub compressed-above : (k : ℕ) (f : List ℕ) → IsFalling f → (r : ℕ) → running_sum f r ≤ running_sum (compressed k f) r
 compressed-above k f fall r = elim (cases_lt (length f) r) [
   | inl past ↦ (let e : 0 + length f ≡ length f = omega arith in
@@ -66,7 +61,6 @@ compressed-above k f fall r = elim (cases_lt (length f) r) [
       omega (arith, ap (running_sum f) e, compressed_from-above k f fall (length f) 0 0 (omega arith) r within))
 ]
 
--- the compressed list has the sum of f
 pub sum-compressed : (k : ℕ) (f : List ℕ) → IsFalling f → sum (compressed k f) ≡ sum f
 sum-compressed k f fall =
     omega (
@@ -78,7 +72,6 @@ sum-compressed k f fall =
       running_sum-whole (compressed k f),
     )
 
--- the head of the next row is near every element that is not past it
 pub slope-near : (k : ℕ) (f : List ℕ) → IsFalling f → (i m : ℕ) → running_sum f i ≤ m → m < sum f → k * slope k f m ≤ (k + 1) * get_or f i 0
 slope-near k f fall i m ahead short =
     let j : ℕ = rank f (suc m) in
@@ -88,7 +81,6 @@ slope-near k f fall i m ahead short =
     ] in
     omega (arith, heads-near k (get_or f 0 0) f (j - 1), mul-le-mul_left (k + 1) (falls_to f fall i (j - 1) (omega arith)))
 
--- each element is near that of f at its rank
 pub compressed_from-near : (k : ℕ) (f : List ℕ) → IsFalling f → (n i m : ℕ) → running_sum f i ≤ m → (r : ℕ)
     → k * get_or (compressed_from k f n m) r 0 ≤ (k + 1) * get_or f (i + r) 0
 compressed_from-near k f fall zero i m ahead r = omega (arith, mul-zero k)
@@ -108,17 +100,14 @@ compressed_from-near k f fall (suc n) i m ahead (suc r) =
     rw (sym at) (compressed_from-near k f fall n (suc i) (m + next) (step_above k f fall i m ahead (ltb-true m (sum f) e)) r))
     (λ e. omega (arith, mul-zero k))
 
--- at accuracy k, k times an element is at most k + 1 times that of f
 pub compressed-near : (k : ℕ) (f : List ℕ) → IsFalling f → (r : ℕ) → k * get_or (compressed k f) r 0 ≤ (k + 1) * get_or f r 0
 compressed-near k f fall r = rw zero-add at (compressed_from-near k f fall (length f) 0 0 (omega arith) r)
 
--- later rows have no steeper slope
 pub slope-fall : (k : ℕ) (f : List ℕ) → IsFalling f → (m m' : ℕ) → m ≤ m' → m' < sum f → slope k f m' ≤ slope k f m
 slope-fall k f fall m m' h within =
     falls_to (heads k f) (heads-fall k (get_or f 0 0) f fall (omega arith)) (rank f (suc m) - 1) (rank f (suc m') - 1)
     (omega (arith, rank_mono f (suc m) (suc m') (omega arith) (omega arith) within))
 
--- what follows falls
 pub compressed_from-falls : (k : ℕ) (f : List ℕ) → IsFalling f → (n m : ℕ) → IsFalling (compressed_from k f n m)
 compressed_from-falls k f fall zero m = λ r. omega arith
 compressed_from-falls k f fall (suc n) m =
@@ -133,10 +122,8 @@ compressed_from-falls k f fall (suc n) m =
         (λ e. le (ltb-true m' (sum f) e))
         (λ e. omega arith)
 
--- the compressed list falls
 pub IsFalling-compressed : (k : ℕ) (f : List ℕ) → IsFalling f → IsFalling (compressed k f)
 IsFalling-compressed k f fall = compressed_from-falls k f fall (length f) 0
 
--- it dominates every list of keys with these degrees
 pub compressed_dominates : (k : ℕ) (L : List ℕ) → DominatesKeys (compressed k (degree_list L)) L
 compressed_dominates k L A apart = omega (arith, degree_list_dominates L A apart, compressed-above k (degree_list L) (IsFalling-degree_list L) (length A))

@@ -1,4 +1,4 @@
--- Counting the places of a list by its different keys.
+-- The places of a list are counted by the list's different keys.
 use Rattle.std.proofs.Common.{Bool, List, [], ap, arith, cond, eqb, false, inl, inr, length, map, not, refl, subst, sym, true, ℕ, ◌+◌, ◌||◌, ◌∙◌, ◌∷◌, ◌≡◌, ◌≤◌}
 use Rattle.std.proofs.lemmas.Bool.{cases_Bool, cond_both, eq-eqb, eqb-false, eqb-true, false≢true, ne_eqb}
 use Rattle.std.proofs.lemmas.List.Sums.{sum_by-cons}
@@ -6,29 +6,24 @@ use Rattle.std.proofs.lemmas.Map.Keys.{IsDistinct-cons, IsDistinct-head, IsDisti
 use Rattle.std.specs.List.{AllByRecursion, IsDistinct, count_by, filter, list_any, sum_by}
 use Rattle.degree_sequences.specs.Degrees.{degree, different}
 
--- a sum of sums
 pub sum_by-both : (f g h : ℕ → ℕ) → ((x : ℕ) → f x ≡ g x + h x) → (xs : List ℕ) → sum_by f xs ≡ sum_by g xs + sum_by h xs
 sum_by-both f g h e [] = refl
 sum_by-both f g h e (x ∷ xs) =
     omega (arith, e x, sum_by-both f g h e xs, sum_by-cons f x xs, sum_by-cons g x xs, sum_by-cons h x xs)
 
--- a sum of bounds
 pub sum_by-both-le : (f g h : ℕ → ℕ) → ((x : ℕ) → f x ≤ g x + h x) → (xs : List ℕ) → sum_by f xs ≤ sum_by g xs + sum_by h xs
 sum_by-both-le f g h e [] = omega arith
 sum_by-both-le f g h e (x ∷ xs) =
     omega (arith, e x, sum_by-both-le f g h e xs, sum_by-cons f x xs, sum_by-cons g x xs, sum_by-cons h x xs)
 
--- a sum of zeros
 pub sum_by-nothing : (f : ℕ → ℕ) (xs : List ℕ) → AllByRecursion (λ x. f x ≡ 0) xs → sum_by f xs ≡ 0
 sum_by-nothing f [] h = refl
 sum_by-nothing f (x ∷ xs) h = omega (arith, sum_by-cons f x xs, h.0, sum_by-nothing f xs h.1)
 
--- equal summands
 pub sum_by-same : (f g : ℕ → ℕ) → ((x : ℕ) → f x ≡ g x) → (xs : List ℕ) → sum_by f xs ≡ sum_by g xs
 sum_by-same f g e [] = refl
 sum_by-same f g e (x ∷ xs) = omega (arith, e x, sum_by-cons f x xs, sum_by-cons g x xs, sum_by-same f g e xs)
 
--- summands that pass a test
 pub sum_by-filter : (p : ℕ → Bool) (f : ℕ → ℕ) (A : List ℕ) → sum_by (λ i. cond (p i) (f i) 0) A ≡ sum_by f (filter p A)
 sum_by-filter p f [] = refl
 sum_by-filter p f (a ∷ A) = elim (cases_Bool (p a)) [
@@ -40,37 +35,30 @@ sum_by-filter p f (a ∷ A) = elim (cases_Bool (p a)) [
       omega (arith, here, ap (sum_by f) kept, sum_by-cons (λ i. cond (p i) (f i) 0) a A, sum_by-filter p f A))
 ]
 
--- summands of images
 pub sum_by-map : (f : ℕ → ℕ) (h : ℕ → ℕ) (A : List ℕ) → sum_by f (map h A) ≡ sum_by (λ a. f (h a)) A
 sum_by-map f h [] = refl
 sum_by-map f h (a ∷ A) = omega (arith, sum_by-cons f (h a) (map h A), sum_by-cons (λ a. f (h a)) a A, sum_by-map f h A)
 
--- what holds of each number holds along a list
 pub everywhere : (Q : ℕ → Type 0) → ((x : ℕ) → Q x) → (xs : List ℕ) → AllByRecursion Q xs
 everywhere Q h [] = tt
 everywhere Q h (x ∷ xs) = (h x, everywhere Q h xs)
 
--- what follows along a list
 pub weaker : (Q R : ℕ → Type 0) → ((x : ℕ) → Q x → R x) → (xs : List ℕ) → AllByRecursion Q xs → AllByRecursion R xs
 weaker Q R h [] k = tt
 weaker Q R h (x ∷ xs) k = (h x k.0, weaker Q R h xs k.1)
 
--- x is among D
 abbrev pub is_in : List ℕ → ℕ → Bool
 is_in D x = list_any (λ d. eqb x d) D
 
--- a choice between one and the same
 pub same_cond : (b : Bool) (n : ℕ) → cond b n n ≡ n
 same_cond true n = refl
 same_cond false n = refl
 
--- a key that is not in D has no place there
 pub none_there : (q : ℕ → Bool) (x : ℕ) (D : List ℕ) → AllByRecursion (λ y. eqb x y ≡ false) D
     → sum_by (λ d. cond (q d) (cond (eqb x d) 1 0) 0) D ≡ 0
 none_there q x D h = sum_by-nothing (λ d. cond (q d) (cond (eqb x d) 1 0) 0) D
     (weaker (λ y. eqb x y ≡ false) (λ d. cond (q d) (cond (eqb x d) 1 0) 0 ≡ 0) (λ y e. rw e (same_cond (q y) 0)) D h)
 
--- among different keys, x stands once
 pub one_place : (q : ℕ → Bool) (x : ℕ) (D : List ℕ) → IsDistinct eqb D → is_in D x ≡ true
     → sum_by (λ d. cond (q d) (cond (eqb x d) 1 0) 0) D ≡ cond (q x) 1 0
 one_place q x [] apart h = absurd (false≢true h)
@@ -87,7 +75,6 @@ one_place q x (d ∷ D) apart h =
           omega (arith, parts, here, one_place q x D (IsDistinct-tail eqb d D apart) there))
     ]
 
--- the places of L that pass a test, by the different keys of L
 pub count_by-keys : (q : ℕ → Bool) (D : List ℕ) → IsDistinct eqb D → (L : List ℕ) → AllByRecursion (λ x. is_in D x ≡ true) L
     → count_by q L ≡ sum_by (λ d. cond (q d) (degree L d) 0) D
 count_by-keys q D apart [] h = sym (sum_by-nothing (λ d. cond (q d) 0 0) D (everywhere (λ d. cond (q d) 0 0 ≡ 0) (λ d. same_cond (q d) 0) D))
@@ -102,7 +89,6 @@ count_by-keys q D apart (x ∷ L) h =
     ] in
     omega (arith, sum_by-cons (λ y. cond (q y) 1 0) x L, sum_by-both f now later at D, one_place q x D apart h.0, count_by-keys q D apart L h.1)
 
--- a member that passes a test stays
 pub is_in-filter : (p : ℕ → Bool) (D : List ℕ) (x : ℕ) → p x ≡ true → is_in D x ≡ true → is_in (filter p D) x ≡ true
 is_in-filter p [] x px h = h
 is_in-filter p (d ∷ D) x px h = elim (cases_Bool (eqb x d)) [
@@ -111,19 +97,16 @@ is_in-filter p (d ∷ D) x px h = elim (cases_Bool (eqb x d)) [
       cond_both (p d) (d ∷ filter p D) (filter p D) (λ s. is_in s x ≡ true) (λ t. rw e (is_in-filter p D x px there)) (λ t. is_in-filter p D x px there))
 ]
 
--- what holds along a list holds along what passes a test
 pub All-filter : (Q : ℕ → Type 0) (p : ℕ → Bool) (D : List ℕ) → AllByRecursion Q D → AllByRecursion Q (filter p D)
 All-filter Q p [] h = tt
 All-filter Q p (d ∷ D) h = cond_both (p d) (d ∷ filter p D) (filter p D) (AllByRecursion Q) (λ t. (h.0, All-filter Q p D h.1)) (λ t. All-filter Q p D h.1)
 
--- what passes a test stays distinct
 pub IsDistinct-filter : (p : ℕ → Bool) (D : List ℕ) → IsDistinct eqb D → IsDistinct eqb (filter p D)
 IsDistinct-filter p [] h = h
 IsDistinct-filter p (d ∷ D) h = cond_both (p d) (d ∷ filter p D) (filter p D) (IsDistinct eqb)
     (λ t. IsDistinct-cons eqb d (filter p D) (All-filter (λ y. eqb d y ≡ false) p D (IsDistinct-head eqb d D h)) (IsDistinct-filter p D (IsDistinct-tail eqb d D h)))
     (λ t. IsDistinct-filter p D (IsDistinct-tail eqb d D h))
 
--- the key that was taken out is gone
 pub none_kept : (x : ℕ) (D : List ℕ) → AllByRecursion (λ y. eqb x y ≡ false) (filter (λ y. not (eqb y x)) D)
 none_kept x [] = tt
 none_kept x (d ∷ D) = elim (cases_Bool (eqb d x)) [
@@ -131,17 +114,14 @@ none_kept x (d ∷ D) = elim (cases_Bool (eqb d x)) [
   | inr e ↦ (let turned : eqb x d ≡ false = ne_eqb x d (λ same. eqb-false d x e (sym same)) in rw e (turned, none_kept x D))
 ]
 
--- no keys are distinct
 pub IsDistinct-nil : IsDistinct eqb []
 unfolding IsDistinct
 IsDistinct-nil = tt
 
--- the different keys are distinct
 pub IsDistinct-different : (L : List ℕ) → IsDistinct eqb (different L)
 IsDistinct-different [] = IsDistinct-nil
 IsDistinct-different (x ∷ L) = IsDistinct-cons eqb x (filter (λ y. not (eqb y x)) (different L)) (none_kept x (different L)) (IsDistinct-filter (λ y. not (eqb y x)) (different L) (IsDistinct-different L))
 
--- each key is among the different keys
 pub is_in-different : (L : List ℕ) → AllByRecursion (λ x. is_in (different L) x ≡ true) L
 is_in-different [] = tt
 is_in-different (y ∷ L) = (
@@ -153,7 +133,6 @@ is_in-different (y ∷ L) = (
       ]) L (is_in-different L),
 )
 
--- among different keys, one value stands at most once
 pub count_by-one : (D : List ℕ) → IsDistinct eqb D → (a : ℕ) → count_by (λ d. eqb d a) D ≤ 1
 count_by-one [] apart a = omega arith
 count_by-one (d ∷ D) apart a =
@@ -168,7 +147,6 @@ count_by-one (d ∷ D) apart a =
       | inr e ↦ (let here : cond {A = ℕ} (eqb d a) 1 0 ≡ 0 = rw e refl in omega (arith, count_by-one D (IsDistinct-tail eqb d D apart) a))
     ]
 
--- of different keys, at most as many are in A as A has
 pub count_by-is_in : (D : List ℕ) → IsDistinct eqb D → (A : List ℕ) → count_by (is_in A) D ≤ length A
 count_by-is_in D apart [] = omega (arith, sum_by-nothing (λ d. 0) D (everywhere (λ d. 0 ≡ 0) (λ d. refl) D))
 count_by-is_in D apart (a ∷ A) =
@@ -182,7 +160,6 @@ count_by-is_in D apart (a ∷ A) =
     ] in
     omega (arith, sum_by-both-le f g h at D, count_by-one D apart a, count_by-is_in D apart A)
 
--- each place passes a test that is always true
 pub all-count : (L : List ℕ) → count_by (λ x. true) L ≡ length L
 all-count [] = refl
 all-count (x ∷ L) = omega (arith, sum_by-cons (λ (y : ℕ). 1) x L, all-count L)

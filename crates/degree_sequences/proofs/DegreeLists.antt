@@ -1,4 +1,4 @@
--- A degree list has one row for each place of the keys, and dominates them.
+-- A degree list sums to the number of places in its list of keys, and dominates the keys.
 use Rattle.std.proofs.Common.{List, arith, length, map, sum, true, ℕ, ◌≡◌, ◌≤◌}
 use Rattle.std.proofs.lemmas.List.Sums.{sum-map}
 use Rattle.std.specs.List.{count_by}
@@ -10,7 +10,6 @@ use Rattle.degree_sequences.proofs.Places.{count_by-degree, count_by-passing}
 use Rattle.degree_sequences.specs.Domination.{DominatesKeys, DominatesWeights}
 use Rattle.degree_sequences.specs.Falling.{IsFalling}
 
--- the degrees sum to the number of places
 pub sum-degree_list : (L : List ℕ) → sum (degree_list L) ≡ length L
 sum-degree_list L =
     let D : List ℕ = different L in
@@ -22,11 +21,9 @@ sum-degree_list L =
       all-count L,
     )
 
--- a degree list falls
 pub IsFalling-degree_list : (L : List ℕ) → IsFalling (degree_list L)
 IsFalling-degree_list L = IsFalling-in_falling_order (map (degree L) (different L))
 
--- a degree list dominates its keys
 pub degree_list_dominates : (L : List ℕ) → DominatesKeys (degree_list L) L
 degree_list_dominates L A apart =
     let D : List ℕ = different L in
@@ -37,16 +34,13 @@ degree_list_dominates L A apart =
       running_sum-mono (degree_list L) (count_by (is_in A) D) (length A) (count_by-is_in D (IsDistinct-different L) A),
     )
 
--- a list that dominates keys has no smaller sum than there are places
 pub places_fit : (s L : List ℕ) → DominatesKeys s L → length L ≤ sum s
 places_fit s L dom =
     let D : List ℕ = different L in
     omega (arith, count_by-passing (is_in D) L (is_in-different L), dom D (IsDistinct-different L), running_sum-le-sum s (length D))
 
--- of different keys, the degrees are a weight that a list that dominates the keys dominates
 pub degrees_dominated : (s L : List ℕ) → DominatesKeys s L → DominatesWeights s (degree L)
 degrees_dominated s L dom A apart = omega (arith, count_by-degree L A apart, dom A apart)
 
--- and a list that dominates the degrees of the keys dominates the keys
 pub keys_dominated : (s L : List ℕ) → DominatesWeights s (degree L) → DominatesKeys s L
 keys_dominated s L dom A apart = omega (arith, count_by-degree L A apart, dom A apart)

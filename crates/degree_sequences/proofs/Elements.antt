@@ -1,14 +1,13 @@
--- A compressed list element by element.
+-- A compressed list is computed element by element: each element follows from the sum of the elements before it.
 use Rattle.std.proofs.Common.{List, [], ◌∷◌, sym, arith, get_or, length, ltb, min, suc, sum, zero, zero-add, ℕ, ◌+◌, ◌-◌, ◌<◌, ◌≡◌, refl}
 use Rattle.std.proofs.lemmas.Bool.{cond_both, ltb-true}
 use Rattle.degree_sequences.specs.Compression.{compressed, compressed_from, slope}
 use Rattle.degree_sequences.specs.RunningSums.{running_sum}
 
--- the element that follows m rows
+-- this is the next compressed element after elements whose sum is m
 abbrev pub element_after : ℕ → List ℕ → ℕ → ℕ
 element_after k f m = min (slope k f m) (sum f - m)
 
--- each element is the one that follows the rows of those before
 pub compressed_from-element : (k : ℕ) (f : List ℕ) (n m r : ℕ) → r < length (compressed_from k f n m)
     → get_or (compressed_from k f n m) r 0 ≡ element_after k f (m + running_sum (compressed_from k f n m) r)
 compressed_from-element k f zero m r within = absurd (omega arith)
@@ -26,7 +25,6 @@ compressed_from-element k f (suc n) m (suc r) within =
     (λ e h. rw (sym both) (compressed_from-element k f n (m + next) r (omega arith)))
     (λ e h. absurd (omega arith)) within
 
--- while there is an element, the sum is not reached
 pub compressed_from-goes_on : (k : ℕ) (f : List ℕ) (n m r : ℕ) → r < length (compressed_from k f n m) → m + running_sum (compressed_from k f n m) r < sum f
 compressed_from-goes_on k f zero m r within = absurd (omega arith)
 compressed_from-goes_on k f (suc n) m zero within =
@@ -41,11 +39,9 @@ compressed_from-goes_on k f (suc n) m (suc r) within =
     (λ e h. omega (arith, compressed_from-goes_on k f n (m + next) r (omega arith)))
     (λ e h. absurd (omega arith)) within
 
--- each element of the compressed list is the slope at the rows before it, or the rows that are left
 pub compressed-element : (k : ℕ) (f : List ℕ) (r : ℕ) → r < length (compressed k f)
     → get_or (compressed k f) r 0 ≡ min (slope k f (running_sum (compressed k f) r)) (sum f - running_sum (compressed k f) r)
 compressed-element k f r within = rw zero-add at (compressed_from-element k f (length f) 0 r within)
 
--- the list ends where its sum is reached
 pub compressed-goes_on : (k : ℕ) (f : List ℕ) (r : ℕ) → r < length (compressed k f) → running_sum (compressed k f) r < sum f
 compressed-goes_on k f r within = rw zero-add at (compressed_from-goes_on k f (length f) 0 r within)

@@ -1,4 +1,4 @@
--- A compressed list has few runs: a head that is left behind is a fixed part lower.
+-- A compressed list has few runs: each new head (`next_head`) is below k / (k + 1) of the head before it.
 use Rattle.std.proofs.Common.{List, [], ap, arith, cond, eqb, get_or, inl, inr, length, min, refl, suc, sum, sym, zero, zero-add, ℕ, ◌*◌, ◌+◌, ◌-◌, ◌<◌, ◌^◌, ◌∙◌, ◌∷◌, ◌≡◌, ◌≤◌}
 use Rattle.std.proofs.Math.Nat.{add-mul, mul-add, mul-le-mul, mul-le-mul_left, mul-le-mul_right, mul-pos, mul-suc, mul-zero, mul_assoc, mul_comm, one-le-pow, one-mul, pow-suc, pow-zero, suc-mul}
 use Rattle.std.proofs.lemmas.Bool.{cases_lt, cond_both, eq-eqb, le-ltb, lt-ltb}
@@ -13,7 +13,7 @@ use Rattle.degree_sequences.specs.Falling.{IsFalling}
 use Rattle.degree_sequences.specs.Rank.{rank}
 use Rattle.degree_sequences.specs.Runs.{runs, runs_after}
 
--- n further heads are at least n parts of k lower
+-- this is Bernoulli's inequality: (k / (k + 1))^n is at most k / (k + n)
 pub growth : (k n : ℕ) → (k + n) * k ^ n ≤ k * (k + 1) ^ n
 growth k zero = let e : k + 0 ≡ k = omega arith in rw (e, pow-zero k, pow-zero (k + 1)) (omega arith)
 growth k (suc n) =
@@ -41,7 +41,7 @@ growth k (suc n) =
     turned : (a h : ℕ) → (a + 1) * (a * h) ≡ a * (h * (a + 1))
     turned a h = swap (a + 1) a h ∙ ap (λ z. a * z) (mul_comm (a + 1) h)
 
--- k further heads at least halve
+-- so k further heads at least halve a head
 pub halves : (k : ℕ) → 0 < k → 2 * k ^ k ≤ (k + 1) ^ k
 halves k pos = elim (cases_lt ((k + 1) ^ k) (2 * k ^ k)) [
   | inr enough ↦ enough
@@ -55,7 +55,7 @@ halves k pos = elim (cases_lt ((k + 1) ^ k) (2 * k ^ k)) [
     double : (x : ℕ) → 2 * x ≡ x + x
     double x = omega arith
 
--- as many heads as k times the digits are left behind before the list ends
+-- so k * d further heads divide a head by 2^d or more
 pub digits_suffice : (k : ℕ) → 0 < k → (d : ℕ) → 2 ^ d * k ^ (k * d) ≤ (k + 1) ^ (k * d)
 digits_suffice k pos zero = rw (mul-zero k, pow-zero k, pow-zero (k + 1), pow-zero 2) (omega arith)
 digits_suffice k pos (suc d) =
@@ -66,7 +66,7 @@ digits_suffice k pos (suc d) =
     regroup : (a x y : ℕ) → (a * 2) * (x * y) ≡ (2 * x) * (a * y)
     regroup a x y = ap (λ z. z * (x * y)) (mul_comm a 2) ∙ mul_assoc 2 a (x * y) ∙ ap (λ z. 2 * z) (sym (mul_assoc a x y) ∙ ap (λ z. z * y) (mul_comm a x) ∙ mul_assoc x a y) ∙ sym (mul_assoc 2 x (a * y))
 
--- a head that is left behind spends one of d
+-- a head h has room for d further heads if h * k^d is below (k + 1)^d. Each new head has room for one head fewer
 pub spends : (k v h d : ℕ) → (k + 1) * v < k * h → h * k ^ suc d < (k + 1) ^ suc d → v * k ^ d < (k + 1) ^ d
 spends k v h d less room = elim (cases_lt (v * k ^ d) ((k + 1) ^ d)) [
   | inl enough ↦ enough
@@ -81,22 +81,19 @@ spends k v h d less room = elim (cases_lt (v * k ^ d) ((k + 1) ^ d)) [
       omega (arith, mul_assoc (k + 1) v x))
 ]
 
--- there is no room for a head where there is none for a spent one
 pub no_room : (k h : ℕ) → h * k ^ 0 < (k + 1) ^ 0 → h < 1
 no_room k h room = omega (arith, rw (pow-zero k, pow-zero (k + 1)) at room)
 
--- the runs after any value are at most one more than after another
 pub runs-any : (v w : ℕ) (s : List ℕ) → runs_after v s ≤ suc (runs_after w s)
 runs-any v w [] = omega arith
 runs-any v w (x ∷ s) = cond_both (eqb x v) 0 1 (λ n. n + runs_after x s ≤ suc (cond (eqb x w) 0 1 + runs_after x s)) (λ e. omega arith)
     (λ e. cond_both (eqb x w) 0 1 (λ n. 1 + runs_after x s ≤ suc (n + runs_after x s)) (λ e. omega arith) (λ e. omega arith))
 
--- once the sum is reached nothing follows
 pub stops : (k : ℕ) (f : List ℕ) (n m : ℕ) → sum f ≤ m → compressed_from k f n m ≡ []
 stops k f zero m h = refl
 stops k f (suc n) m h = rw (le-ltb m (sum f) h) refl
 
--- with room for d heads, at most d runs follow
+-- if the slope has room for d further heads, at most d new runs follow
 pub few_from : (k : ℕ) → 0 < k → (f : List ℕ) → ((m : ℕ) → m < sum f → 0 < slope k f m) → (n m d : ℕ) → slope k f m * k ^ d < (k + 1) ^ d
     → runs_after (slope k f m) (compressed_from k f n m) ≤ d
 few_from k kpos f pos zero m d h = omega arith
@@ -132,7 +129,6 @@ few_from k kpos f pos (suc n) m d h = elim (cases_lt m (sum f)) [
           )
         ])
 
--- the slope of a positive falling list is positive
 pub slope_pos : (k : ℕ) (f : List ℕ) → IsFalling f → All (λ x. 0 < x) f → (m : ℕ) → m < sum f → 0 < slope k f m
 slope_pos k f fall pos m h =
     let r : ℕ = rank f (suc m) in
@@ -143,7 +139,7 @@ slope_pos k f fall pos m h =
     ] in
     omega (arith, slope-above k f fall (r - 1), pos (r - 1) 0 within)
 
--- what is below 2 to the d has room for k times d heads
+-- a head below 2^d has room for k * d further heads
 pub has_room : (k h d : ℕ) → 0 < k → h < 2 ^ d → h * k ^ (k * d) < (k + 1) ^ (k * d)
 has_room k h d pos small =
     let x : ℕ = k ^ (k * d) in
@@ -151,7 +147,6 @@ has_room k h d pos small =
     let most : suc h * x ≤ 2 ^ d * x = mul-le-mul_right x (omega arith) in
     omega (arith, suc-mul h x, digits_suffice k pos d)
 
--- a compressed list has at most accuracy times digits and one more runs
 pub compressed_is_short : (k : ℕ) → 0 < k → (f : List ℕ) → IsFalling f → All (λ x. 0 < x) f → (d : ℕ) → get_or f 0 0 < 2 ^ d → runs (compressed k f) ≤ k * d + 1
 compressed_is_short k kpos f fall pos d h =
     let first : slope k f 0 < 2 ^ d = omega (arith, heads-le k (get_or f 0 0) f (rank f 1 - 1)) in

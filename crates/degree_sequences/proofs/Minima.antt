@@ -1,4 +1,4 @@
--- Lists that are known by their running sums: the lesser of two, and a list cut at a number.
+-- Some lists are given by their running sums (`with_running_sums`): the lesser of two lists, and a list cut at a number. The lemmas are about these lists.
 use Rattle.std.proofs.Common.{List, add-zero, ap, arith, inl, inr, length, map, max, min, refl, suc, zero, ℕ, ◌+◌, ◌-◌, ◌∙◌, ◌≡◌, ◌≤◌}
 use Rattle.std.proofs.lemmas.Bool.{cases_lt}
 use Rattle.std.proofs.lemmas.List.{length-map}
@@ -9,11 +9,9 @@ use Rattle.degree_sequences.proofs.RunningSums.{running_sum-mono, running_sum-pa
 use Rattle.degree_sequences.specs.Falling.{IsFalling}
 use Rattle.degree_sequences.specs.RunningSums.{cut_at, lesser, running_sum, with_running_sums}
 
--- the steps of f from a on
 abbrev pub steps : (ℕ → ℕ) → ℕ → ℕ → List ℕ
 steps f a n = map (λ r. f (suc r) - f r) (range_with_len a n)
 
--- the steps of a function sum to the function
 pub running_sum-steps : (f : ℕ → ℕ) → ((r : ℕ) → f r ≤ f (suc r)) → (a n r : ℕ) → r ≤ n → f a + running_sum (steps f a n) r ≡ f (a + r)
 running_sum-steps f up a n zero h = simp add-zero
 running_sum-steps f up a zero (suc r) h = absurd (omega arith)
@@ -23,11 +21,9 @@ running_sum-steps f up a (suc n) (suc r) h =
     let there : a + 1 + r ≡ a + suc r = omega arith in
     omega (arith, ih, ap f here, ap f there, up a)
 
--- such a list has its length
 pub length-with_running_sums : (f : ℕ → ℕ) (n : ℕ) → length (with_running_sums f n) ≡ n
 length-with_running_sums f n = length-map (range_with_len 0 n) (λ r. f (suc r) - f r) ∙ length-range_with_len 0 n
 
--- f does not fall, is 0 at 0, and stays from n on
 pub running_sum-with_running_sums : (f : ℕ → ℕ) (n : ℕ) → ((r : ℕ) → f r ≤ f (suc r)) → f 0 ≡ 0 → ((r : ℕ) → n ≤ r → f r ≡ f n) → (r : ℕ) → running_sum (with_running_sums f n) r ≡ f r
 running_sum-with_running_sums f n up none stays r = elim (cases_lt n r) [
   | inl h ↦ (let len : length (with_running_sums f n) ≡ n = length-with_running_sums f n in
@@ -39,7 +35,6 @@ running_sum-with_running_sums f n up none stays r = elim (cases_lt n r) [
       omega (arith, part, ap f e))
 ]
 
--- running sums of `lesser`
 pub running_sum-lesser : (s t : List ℕ) (r : ℕ) → running_sum (lesser s t) r ≡ min (running_sum s r) (running_sum t r)
 running_sum-lesser s t r =
     let n : ℕ = max (length s) (length t) in
@@ -51,7 +46,6 @@ running_sum-lesser s t r =
     (λ r h. omega (arith, running_sum-past s r (omega arith), running_sum-past t r (omega arith), running_sum-past s n (omega arith), running_sum-past t n (omega arith)))
     r
 
--- running sums of `cut_at`
 pub running_sum-cut_at : (s : List ℕ) (n r : ℕ) → running_sum (cut_at s n) r ≡ min (running_sum s r) n
 running_sum-cut_at s n r =
     let f : ℕ → ℕ = λ r. min (running_sum s r) n in
@@ -62,12 +56,10 @@ running_sum-cut_at s n r =
     (λ r h. omega (arith, running_sum-past s r (omega arith), running_sum-past s (length s) (omega arith)))
     r
 
--- the lesser of falling lists falls
 pub IsFalling-lesser : (s t : List ℕ) → IsFalling s → IsFalling t → IsFalling (lesser s t)
 IsFalling-lesser s t fs ft = IsFalling-from_sums (lesser s t)
     (λ r. omega (arith, running_sum-lesser s t r, running_sum-lesser s t (suc r), running_sum-lesser s t (suc (suc r)), sums_fall s fs r, sums_fall t ft r))
 
--- a falling list falls when it is cut
 pub IsFalling-cut_at : (s : List ℕ) (n : ℕ) → IsFalling s → IsFalling (cut_at s n)
 IsFalling-cut_at s n fs = IsFalling-from_sums (cut_at s n)
     (λ r. omega (arith, running_sum-cut_at s n r, running_sum-cut_at s n (suc r), running_sum-cut_at s n (suc (suc r)), sums_fall s fs r, running_sum-mono s r (suc r) (omega arith)))

@@ -1,4 +1,4 @@
--- Sums and counts over the places of a list, and over its keys.
+-- A sum or a count over a list is a sum over the list's places, and also a sum over its different keys.
 use Rattle.std.proofs.Common.{Bool, List, [], ap, arith, cond, eqb, false, get_or, inl, inr, length, refl, suc, sym, true, zero, ℕ, ◌*◌, ◌+◌, ◌<◌, ◌∙◌, ◌∷◌, ◌≡◌, ◌≤◌}
 use Rattle.std.proofs.Math.Nat.{add-mul, one-mul, zero-mul}
 use Rattle.std.proofs.lemmas.Bool.{cases_Bool, eqb-false, eqb-true, false≢true, ne_eqb}
@@ -8,7 +8,6 @@ use Rattle.std.specs.List.{AllByRecursion, IsDistinct, count_by, filter, range_w
 use Rattle.degree_sequences.proofs.Counting.{IsDistinct-filter, IsDistinct-nil, count_by-is_in, everywhere, is_in, is_in-filter, sum_by-both, sum_by-nothing, weaker}
 use Rattle.degree_sequences.specs.Degrees.{degree}
 
--- among different keys, the weight of one is found once
 pub one_weight : (f : ℕ → ℕ) (x : ℕ) (D : List ℕ) → IsDistinct eqb D → is_in D x ≡ true → sum_by (λ d. cond (eqb x d) (f d) 0) D ≡ f x
 one_weight f x [] apart h = absurd (false≢true h)
 one_weight f x (d ∷ D) apart h =
@@ -25,7 +24,6 @@ one_weight f x (d ∷ D) apart h =
           omega (arith, parts, here, one_weight f x D (IsDistinct-tail eqb d D apart) there))
     ]
 
--- a sum over places is a sum over keys, each as often as it stands
 pub sum_by-keys : (w : ℕ → ℕ) (D : List ℕ) → IsDistinct eqb D → (L : List ℕ) → AllByRecursion (λ x. is_in D x ≡ true) L
     → sum_by w L ≡ sum_by (λ d. degree L d * w d) D
 sum_by-keys w D apart [] h = sym (sum_by-nothing (λ d. 0 * w d) D (everywhere (λ d. 0 * w d ≡ 0) (λ d. zero-mul (w d)) D))
@@ -42,14 +40,12 @@ sum_by-keys w D apart (x ∷ L) h =
     times true n = one-mul n
     times false n = zero-mul n
 
--- a sum over a range that begins one later
 pub sum_by-shift : (h : ℕ → ℕ) (a n : ℕ) → sum_by h (range_with_len (a + 1) n) ≡ sum_by (λ i. h (suc i)) (range_with_len a n)
 sum_by-shift h a zero = refl
 sum_by-shift h a (suc n) =
     let e : a + 1 ≡ suc a = omega arith in
     omega (arith, ap h e, sum_by-cons h (a + 1) (range_with_len (a + 1 + 1) n), sum_by-cons (λ i. h (suc i)) a (range_with_len (a + 1) n), sum_by-shift h (a + 1) n)
 
--- a sum over a list is a sum over its places
 pub sum_by-places : (f : ℕ → ℕ) (xs : List ℕ) → sum_by f xs ≡ sum_by (λ i. f (get_or xs i 0)) (range_with_len 0 (length xs))
 sum_by-places f [] = refl
 sum_by-places f (x ∷ xs) =
@@ -61,7 +57,6 @@ sum_by-places f (x ∷ xs) =
       sum_by-places f xs,
     )
 
--- a number of a range is in it
 pub is_in-range : (a n i : ℕ) → a ≤ i → i < a + n → is_in (range_with_len a n) i ≡ true
 is_in-range a zero i h k = absurd (omega arith)
 is_in-range a (suc n) i h k = elim (cases_Bool (eqb i a)) [
@@ -69,33 +64,27 @@ is_in-range a (suc n) i h k = elim (cases_Bool (eqb i a)) [
   | inr e ↦ (let ne : i ≡ a → ⊥ = eqb-false i a e in rw e (is_in-range (a + 1) n i (omega arith) (omega arith)))
 ]
 
--- what begins later holds no earlier number
 pub All-above : (n a b : ℕ) → a < b → AllByRecursion (λ y. eqb a y ≡ false) (range_with_len b n)
 All-above zero a b h = tt
 All-above (suc n) a b h = (ne_eqb a b (λ e. omega arith), All-above n a (b + 1) (omega arith))
 
--- a range is distinct
 pub IsDistinct-range : (a n : ℕ) → IsDistinct eqb (range_with_len a n)
 IsDistinct-range a zero = IsDistinct-nil
 IsDistinct-range a (suc n) = IsDistinct-cons eqb a (range_with_len (a + 1) n) (All-above n a (a + 1) (omega arith)) (IsDistinct-range (a + 1) n)
 
--- a range lies below its end
 pub All-range : (a n m : ℕ) → a + n ≤ m → AllByRecursion (λ i. i < m) (range_with_len a n)
 All-range a zero m h = tt
 All-range a (suc n) m h = (omega arith, All-range (a + 1) n m (omega arith))
 
--- all places pass
 pub count_by-passing : (p : ℕ → Bool) (xs : List ℕ) → AllByRecursion (λ x. p x ≡ true) xs → count_by p xs ≡ length xs
 count_by-passing p [] h = refl
 count_by-passing p (x ∷ xs) h =
     let here : cond {A = ℕ} (p x) 1 0 ≡ 1 = rw h.0 refl in
     omega (arith, here, sum_by-cons (λ y. cond (p y) 1 0) x xs, count_by-passing p xs h.1)
 
--- different numbers that are all in D are at most as many as D has
 pub length-le-members : (A D : List ℕ) → IsDistinct eqb A → AllByRecursion (λ a. is_in D a ≡ true) A → length A ≤ length D
 length-le-members A D apart inside = omega (arith, count_by-passing (is_in D) A inside, count_by-is_in A apart D)
 
--- of different places below n, at most as many pass a test as of all places
 pub count_by-le-places : (p : ℕ → Bool) (n : ℕ) (A : List ℕ) → IsDistinct eqb A → AllByRecursion (λ a. a < n) A → count_by p A ≤ count_by p (range_with_len 0 n)
 count_by-le-places p n A apart below =
     let R : List ℕ = range_with_len 0 n in
@@ -113,7 +102,6 @@ count_by-le-places p n A apart below =
       | inr e ↦ rw e (inside A h.1)
     ]
 
--- a key that is not in A has no weight there
 pub none_weight : (f : ℕ → ℕ) (x : ℕ) (A : List ℕ) → is_in A x ≡ false → sum_by (λ a. cond (eqb x a) (f a) 0) A ≡ 0
 none_weight f x [] h = refl
 none_weight f x (a ∷ A) h = elim (cases_Bool (eqb x a)) [
@@ -123,14 +111,12 @@ none_weight f x (a ∷ A) h = elim (cases_Bool (eqb x a)) [
       omega (arith, here, sum_by-cons (λ a. cond (eqb x a) (f a) 0) a A, none_weight f x A there))
 ]
 
--- a key that is in A has its weight once
 pub key_weight : (n : ℕ) (x : ℕ) (A : List ℕ) → IsDistinct eqb A → sum_by (λ a. cond (eqb x a) n 0) A ≡ cond (is_in A x) n 0
 key_weight n x A apart = elim (cases_Bool (is_in A x)) [
   | inl e ↦ one_weight (λ a. n) x A apart e ∙ sym (rw e refl)
   | inr e ↦ none_weight (λ a. n) x A e ∙ sym (rw e refl)
 ]
 
--- of different keys A, the places of L whose key is in A are the sum of their degrees
 pub count_by-degree : (L A : List ℕ) → IsDistinct eqb A → count_by (is_in A) L ≡ sum_by (degree L) A
 count_by-degree [] A apart = sym (sum_by-nothing (λ a. 0) A (everywhere (λ a. 0 ≡ 0) (λ a. refl) A))
 count_by-degree (x ∷ L) A apart =

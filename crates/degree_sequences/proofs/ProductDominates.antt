@@ -1,4 +1,5 @@
--- The product of lists that dominate weights: keys in the order of one weight, and summation by parts twice.
+-- If two lists dominate two weights, their rank-wise product dominates the product of the weights. For the proof, keys are ordered by one weight,
+-- and sums by parts are compared twice.
 use Rattle.std.proofs.Common.{List, [], ap, arith, cond, eqb, false, get_or, leb, length, length-take, map, refl, suc, sym, take, true, zero, ℕ, ◌*◌, ◌+◌, ◌∙◌, ◌∷◌, ◌≡◌, ◌≤◌}
 use Rattle.std.proofs.Math.Nat.{mul_comm}
 use Rattle.std.proofs.lemmas.Bool.{cond_both, eqb-false, ne_eqb}
@@ -15,17 +16,15 @@ use Rattle.degree_sequences.specs.Domination.{DominatesWeights}
 use Rattle.degree_sequences.specs.Falling.{IsFalling}
 use Rattle.degree_sequences.specs.RunningSums.{running_sum}
 
--- a key in its place by falling weight
 abbrev pub put_by : (ℕ → ℕ) → ℕ → List ℕ → List ℕ
 put_by w a [] = a ∷ []
 put_by w a (b ∷ bs) = cond (leb (w b) (w a)) (a ∷ (b ∷ bs)) (b ∷ put_by w a bs)
 
--- keys by falling weight
+-- `by_weight` puts keys in the order of falling weight
 abbrev pub by_weight : (ℕ → ℕ) → List ℕ → List ℕ
 by_weight w [] = []
 by_weight w (a ∷ A) = put_by w a (by_weight w A)
 
--- their weights have n in its place
 pub map-put_by : (w : ℕ → ℕ) (a : ℕ) (bs : List ℕ) → map w (put_by w a bs) ≡ put_in (w a) (map w bs)
 map-put_by w a [] = refl
 map-put_by w a (b ∷ bs) =
@@ -34,48 +33,40 @@ map-put_by w a (b ∷ bs) =
       | false ↦ ap (λ (s : List ℕ). w b ∷ s) (map-put_by w a bs)
     ]
 
--- their weights are in falling order
 pub map-by_weight : (w : ℕ → ℕ) (A : List ℕ) → map w (by_weight w A) ≡ in_falling_order (map w A)
 map-by_weight w [] = refl
 map-by_weight w (a ∷ A) = map-put_by w a (by_weight w A) ∙ ap (put_in (w a)) (map-by_weight w A)
 
--- the sum with a key put in
 pub sum_by-put_by : (w f : ℕ → ℕ) (a : ℕ) (bs : List ℕ) → sum_by f (put_by w a bs) ≡ f a + sum_by f bs
 sum_by-put_by w f a [] = omega arith
 sum_by-put_by w f a (b ∷ bs) = cond_both (leb (w b) (w a)) (a ∷ (b ∷ bs)) (b ∷ put_by w a bs) (λ s. sum_by f s ≡ f a + sum_by f (b ∷ bs))
     (λ e. sum_by-cons f a (b ∷ bs))
     (λ e. omega (arith, sum_by-cons f b (put_by w a bs), sum_by-cons f b bs, sum_by-put_by w f a bs))
 
--- the order changes no sum
 pub sum_by-by_weight : (w f : ℕ → ℕ) (A : List ℕ) → sum_by f (by_weight w A) ≡ sum_by f A
 sum_by-by_weight w f [] = refl
 sum_by-by_weight w f (a ∷ A) = omega (arith, sum_by-put_by w f a (by_weight w A), sum_by-cons f a A, sum_by-by_weight w f A)
 
--- one key more
 pub length-put_by : (w : ℕ → ℕ) (a : ℕ) (bs : List ℕ) → length (put_by w a bs) ≡ suc (length bs)
 length-put_by w a [] = refl
 length-put_by w a (b ∷ bs) = cond_both (leb (w b) (w a)) (a ∷ (b ∷ bs)) (b ∷ put_by w a bs) (λ s. length s ≡ suc (suc (length bs)))
     (λ e. refl)
     (λ e. ap suc (length-put_by w a bs))
 
--- as many keys
 pub length-by_weight : (w : ℕ → ℕ) (A : List ℕ) → length (by_weight w A) ≡ length A
 length-by_weight w [] = refl
 length-by_weight w (a ∷ A) = length-put_by w a (by_weight w A) ∙ ap suc (length-by_weight w A)
 
--- what holds of the key and of the others
 pub All-put_by : (Q : ℕ → Type 0) (w : ℕ → ℕ) (a : ℕ) (bs : List ℕ) → Q a → AllByRecursion Q bs → AllByRecursion Q (put_by w a bs)
 All-put_by Q w a [] q h = (q, tt)
 All-put_by Q w a (b ∷ bs) q h = cond_both (leb (w b) (w a)) (a ∷ (b ∷ bs)) (b ∷ put_by w a bs) (AllByRecursion Q)
     (λ e. (q, h))
     (λ e. (h.0, All-put_by Q w a bs q h.1))
 
--- what holds of all keys in any order
 pub All-by_weight : (Q : ℕ → Type 0) (w : ℕ → ℕ) (A : List ℕ) → AllByRecursion Q A → AllByRecursion Q (by_weight w A)
 All-by_weight Q w [] h = tt
 All-by_weight Q w (a ∷ A) h = All-put_by Q w a (by_weight w A) h.0 (All-by_weight Q w A h.1)
 
--- a new key keeps them distinct
 pub IsDistinct-put_by : (w : ℕ → ℕ) (a : ℕ) (bs : List ℕ) → AllByRecursion (λ y. eqb a y ≡ false) bs → IsDistinct eqb bs → IsDistinct eqb (put_by w a bs)
 IsDistinct-put_by w a [] new apart = IsDistinct-cons eqb a [] tt apart
 IsDistinct-put_by w a (b ∷ bs) new apart = cond_both (leb (w b) (w a)) (a ∷ (b ∷ bs)) (b ∷ put_by w a bs) (IsDistinct eqb)
@@ -84,43 +75,36 @@ IsDistinct-put_by w a (b ∷ bs) new apart = cond_both (leb (w b) (w a)) (a ∷ 
     (All-put_by (λ y. eqb b y ≡ false) w a bs (ne_eqb b a (λ same. eqb-false a b new.0 (sym same))) (IsDistinct-head eqb b bs apart))
     (IsDistinct-put_by w a bs new.1 (IsDistinct-tail eqb b bs apart)))
 
--- the order keeps them distinct
 pub IsDistinct-by_weight : (w : ℕ → ℕ) (A : List ℕ) → IsDistinct eqb A → IsDistinct eqb (by_weight w A)
 IsDistinct-by_weight w [] apart = apart
 IsDistinct-by_weight w (a ∷ A) apart = IsDistinct-put_by w a (by_weight w A)
     (All-by_weight (λ y. eqb a y ≡ false) w A (IsDistinct-head eqb a A apart))
     (IsDistinct-by_weight w A (IsDistinct-tail eqb a A apart))
 
--- what holds of all holds of the first r
 pub All-first : (Q : ℕ → Type 0) (r : ℕ) (A : List ℕ) → AllByRecursion Q A → AllByRecursion Q (take r A)
 All-first Q zero A h = tt
 All-first Q (suc r) [] h = tt
 All-first Q (suc r) (a ∷ A) h = (h.0, All-first Q r A h.1)
 
--- the first r are distinct
 pub IsDistinct-first : (r : ℕ) (A : List ℕ) → IsDistinct eqb A → IsDistinct eqb (take r A)
 IsDistinct-first zero A apart = IsDistinct-nil
 IsDistinct-first (suc r) [] apart = apart
 IsDistinct-first (suc r) (a ∷ A) apart = IsDistinct-cons eqb a (take r A)
     (All-first (λ y. eqb a y ≡ false) r A (IsDistinct-head eqb a A apart)) (IsDistinct-first r A (IsDistinct-tail eqb a A apart))
 
--- running sums of weights
 pub running_sum-map : (w : ℕ → ℕ) (A : List ℕ) (r : ℕ) → running_sum (map w A) r ≡ sum_by w (take r A)
 running_sum-map w A zero = refl
 running_sum-map w [] (suc r) = refl
 running_sum-map w (a ∷ A) (suc r) = omega (arith, running_sum-map w A r, sum_by-cons w a (take r A))
 
--- the first r keys weigh at most the first r elements of a list that dominates
 pub first-le : (s : List ℕ) (w : ℕ → ℕ) → DominatesWeights s w → (A : List ℕ) → IsDistinct eqb A → (r : ℕ) → running_sum (map w A) r ≤ running_sum s r
 first-le s w dom A apart r =
     omega (arith, running_sum-map w A r, dom (take r A) (IsDistinct-first r A apart), running_sum-mono s (length (take r A)) r (omega (arith, length-take r A)))
 
--- a sum of products of weights, by rank
 pub sum_by-product : (v w : ℕ → ℕ) (A : List ℕ) → sum_by (λ a. v a * w a) A ≡ sum_below (λ r. get_or (map v A) r 0 * get_or (map w A) r 0) (length A)
 sum_by-product v w [] = refl
 sum_by-product v w (a ∷ A) = omega (arith, sum_by-product v w A, sum_by-cons (λ a. v a * w a) a A)
 
--- the product of lists that dominate weights dominates the product of the weights
 pub rank_product_dominates : (s t : List ℕ) (v w : ℕ → ℕ) → IsFalling t → DominatesWeights s v → DominatesWeights t w
     → DominatesWeights (rank_product s t) (λ a. v a * w a)
 rank_product_dominates s t v w fall dom_v dom_w A apart =

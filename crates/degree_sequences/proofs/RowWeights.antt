@@ -1,4 +1,4 @@
--- The weights of rows, child by child.
+-- The weights of rows are a rank-wise product with one factor for each child.
 use Rattle.std.proofs.Common.{List, [], ap, arith, get_or, replicate, suc, sum, sym, ℕ, ◌*◌, ◌+◌, ◌-◌, ◌<◌, ◌∙◌, ◌∷◌, ◌≡◌, ◌≤◌}
 use Rattle.std.proofs.Math.Nat.{mul_comm}
 use Rattle.std.proofs.lemmas.List.{get_or-map, get_or-replicate}
@@ -15,27 +15,23 @@ use Rattle.degree_sequences.specs.Families.{ChildIsAbove, ColumnFalls, IsChildOf
 use Rattle.degree_sequences.specs.Rank.{rank}
 use Rattle.degree_sequences.specs.RunningSums.{IsAbove, running_sum}
 
--- the weights of the rows 1 to n, child by child
+-- for each child, its class list is spread over its column: element r is repeated as often as element r of the column says
 abbrev pub spreads : List ChildLists → ℕ → List ℕ
 spreads [] n = replicate n 1
 spreads (c ∷ cs) n = rank_product (spreads cs n) (spread c.column c.class)
 
--- ones fall
 pub IsFalling-ones : (n : ℕ) → IsFalling (replicate n 1)
 IsFalling-ones n = IsFalling-from_sums (replicate n 1) (λ r. omega (arith, running_sum-ones n r, running_sum-ones n (suc r), running_sum-ones n (suc (suc r))))
 
--- row weights fall
 pub IsFalling-spreads : (total n : ℕ) (cs : List ChildLists) → AllByRecursion (IsChildOf total) cs → IsFalling (spreads cs n)
 IsFalling-spreads total n [] all = IsFalling-ones n
 IsFalling-spreads total n (c ∷ cs) all = IsFalling-rank_product (spreads cs n) (spread c.column c.class) (IsFalling-spreads total n cs all.1) (IsFalling-spread c.column c.class all.0.class_falls)
 
--- element k of the row weights
 pub get_or-row_weights : (cs : List ChildLists) (total k : ℕ) → k < total → get_or (row_weights cs total) k 0 ≡ weight_by_rank cs (suc k)
 get_or-row_weights cs total k h =
     get_or-map (weight_by_rank cs) (range_with_len 1 total) k 0 0 (omega (arith, length-range_with_len 1 total))
     ∙ ap (weight_by_rank cs) (get_or-range_with_len 1 total k 0 h ∙ omega arith)
 
--- they are the row weights, for children with that sum
 pub get_or-weights : (total : ℕ) (cs : List ChildLists) → AllByRecursion (IsChildOf total) cs → (k : ℕ) → k < total → get_or (spreads cs total) k 0 ≡ weight_by_rank cs (suc k)
 get_or-weights total [] all k h = get_or-replicate total k 1 0 h
 get_or-weights total (c ∷ cs) all r h =
@@ -44,20 +40,16 @@ get_or-weights total (c ∷ cs) all r h =
     ∙ ap (λ x. x * get_or (spreads cs total) r 0) (get_or-spread c.column c.class r (omega (arith, all.0.column_sum)))
     ∙ ap (λ x. get_or c.class (rank c.column (suc r) - 1) 0 * x) (get_or-weights total cs all.1 r h)
 
--- and so are their running sums
 pub running_sum-weights : (total : ℕ) (cs : List ChildLists) → AllByRecursion (IsChildOf total) cs → (m : ℕ) → m ≤ total → running_sum (row_weights cs total) m ≡ running_sum (spreads cs total) m
 running_sum-weights total cs all m h = running_sum-agree (row_weights cs total) (spreads cs total) m
     (λ k k_in. get_or-row_weights cs total k (omega arith) ∙ sym (get_or-weights total cs all k (omega arith)))
 
--- the running sums of a composition are those of the row weights, at those of the parent
 pub running_sum-composition : (g : List ℕ) (cs : List ChildLists) (r : ℕ) → running_sum (composed g cs) r ≡ running_sum (row_weights cs (sum g)) (running_sum g r)
 running_sum-composition g cs r = running_sum-trimmed (block_sums g (row_weights cs (sum g))) r ∙ running_sum-block_sums g (row_weights cs (sum g)) r
 
--- and so those of the weights child by child
 pub running_sum-composed : (g : List ℕ) (cs : List ChildLists) → AllByRecursion (IsChildOf (sum g)) cs → (r : ℕ) → running_sum (composed g cs) r ≡ running_sum (spreads cs (sum g)) (running_sum g r)
 running_sum-composed g cs all r = running_sum-composition g cs r ∙ running_sum-weights (sum g) cs all (running_sum g r) (running_sum-le-sum g r)
 
--- a composition falls
 pub IsFalling-composed : (g : List ℕ) (cs : List ChildLists) → IsFalling g → AllByRecursion (IsChildOf (sum g)) cs → IsFalling (composed g cs)
 IsFalling-composed g cs fall ok = IsFalling-from_sums (composed g cs) (λ r.
     let u : List ℕ = spreads cs (sum g) in
@@ -73,7 +65,7 @@ IsFalling-composed g cs fall ok = IsFalling-from_sums (composed g cs) (λ r.
       window u (IsFalling-spreads (sum g) (sum g) cs ok) (running_sum g r) (running_sum g (suc r)) (get_or g r 0) (get_or g (suc r) 0) (running_sum-mono g r (suc r) (omega arith)) (fall r),
     ))
 
--- larger lists give larger row weights. Of the columns only the lower ones need to fall
+-- of the columns, only those of the smaller lists need to fall
 pub spreads-above : (total total' : ℕ) → total' ≤ total → (cs ds : List ChildLists) → AllByRecursion (IsChildOf total) cs → AllByRecursion (IsChildOf total') ds
     → AllByRecursion ColumnFalls ds → AllZip ChildIsAbove cs ds → IsAbove (spreads cs total) (spreads ds total')
 spreads-above total total' h [] [] ok ok' fall all = λ r. omega (arith, running_sum-ones total r, running_sum-ones total' r)
@@ -85,7 +77,6 @@ spreads-above total total' h (c ∷ cs) (d ∷ ds) ok ok' fall all =
     (spreads-above total total' h cs ds ok.1 ok'.1 fall.1 all.1)
     (spread-above c.column c.class d.column d.class ok.0.class_falls fall.0 all.0.column all.0.class)
 
--- larger lists give a larger composition
 pub composed-above : (g h : List ℕ) (cs ds : List ChildLists) → AllByRecursion (IsChildOf (sum g)) cs → AllByRecursion (IsChildOf (sum h)) ds
     → AllByRecursion ColumnFalls ds → IsAbove g h → AllZip ChildIsAbove cs ds → IsAbove (composed g cs) (composed h ds)
 composed-above g h cs ds ok ok' fall above all r =

@@ -1,4 +1,4 @@
--- Saturation carries sums, products and what is made of them.
+-- Saturating numbers first changes no saturated sum or product, and no saturated list of sums or products.
 use Rattle.std.proofs.Common.{List, [], ap, arith, drop, inl, inr, map, min, refl, suc, sym, zero, ℕ, ◌*◌, ◌-◌, ◌<◌, ◌^◌, ◌∙◌, ◌∷◌, ◌≡◌, ◌≤◌}
 use Rattle.std.proofs.Math.Nat.{mul-le-mul_left, mul-le-mul_right, mul-zero, mul_comm}
 use Rattle.std.proofs.lemmas.Bool.{cases_lt}
@@ -8,7 +8,6 @@ use Rattle.degree_sequences.specs.Falling.{onto, trimmed}
 use Rattle.degree_sequences.specs.RunningSums.{running_sum}
 use Rattle.degree_sequences.specs.Saturation.{saturated}
 
--- one factor
 pub min-mul-min_left : (a b m : ℕ) → min (min a m * b) m ≡ min (a * b) m
 min-mul-min_left a zero m = ap (λ k. min k m) (mul-zero (min a m) ∙ sym (mul-zero a))
 min-mul-min_left a (suc b) m = elim (cases_lt a m) [
@@ -19,50 +18,41 @@ min-mul-min_left a (suc b) m = elim (cases_lt a m) [
       rw e (omega arith))
 ]
 
--- both factors
 pub min-mul-min : (a b m : ℕ) → min (min a m * min b m) m ≡ min (a * b) m
 min-mul-min a b m =
     min-mul-min_left a (min b m) m ∙ ap (λ k. min k m) (mul_comm a (min b m)) ∙ min-mul-min_left b a m ∙ ap (λ k. min k m) (mul_comm b a)
 
--- a saturated product
 pub saturated-mul : (a b : ℕ) → saturated (saturated a * saturated b) ≡ saturated (a * b)
 saturated-mul a b = min-mul-min a b (2 ^ 128 - 1)
 
--- a saturated rank-wise product
 pub saturated-rank_product : (s t : List ℕ) → map saturated (rank_product (map saturated s) (map saturated t)) ≡ map saturated (rank_product s t)
 saturated-rank_product [] t = refl
 saturated-rank_product (x ∷ s) [] = refl
 saturated-rank_product (x ∷ s) (y ∷ t) = rw (saturated-mul x y, saturated-rank_product s t) refl
 
--- a saturated running sum
 pub saturated-running_sum : (u : List ℕ) (r : ℕ) → saturated (running_sum (map saturated u) r) ≡ saturated (running_sum u r)
 saturated-running_sum u zero = refl
 saturated-running_sum [] (suc r) = refl
 saturated-running_sum (x ∷ u) (suc r) = let ih : saturated (running_sum (map saturated u) r) ≡ saturated (running_sum u r) = saturated-running_sum u r in omega arith
 
--- what is left of saturated numbers
 pub drop-saturated : (x : ℕ) (u : List ℕ) → drop x (map saturated u) ≡ map saturated (drop x u)
 drop-saturated zero u = refl
 drop-saturated (suc x) [] = refl
 drop-saturated (suc x) (y ∷ u) = drop-saturated x u
 
--- saturated block sums
 pub saturated-block_sums : (g u : List ℕ) → map saturated (block_sums g (map saturated u)) ≡ map saturated (block_sums g u)
 saturated-block_sums [] u = refl
 saturated-block_sums (x ∷ g) u = rw (saturated-running_sum u x, drop-saturated x u, saturated-block_sums g (drop x u)) refl
 
--- a positive number is never left out
 pub onto-pos : (n : ℕ) (s : List ℕ) → 0 < n → onto n s ≡ n ∷ s
 onto-pos zero s h = absurd (omega arith)
 onto-pos (suc n) s h = refl
 
--- zeros stay zeros
 pub saturated-onto : (x : ℕ) (s : List ℕ) → map saturated (onto x s) ≡ onto (saturated x) (map saturated s)
 saturated-onto zero [] = refl
 saturated-onto zero (y ∷ s) = refl
 saturated-onto (suc x) s = sym (onto-pos (saturated (suc x)) (map saturated s) (omega arith))
 
--- the same zeros are left out
 pub saturated-trimmed : (s : List ℕ) → map saturated (trimmed s) ≡ trimmed (map saturated s)
 saturated-trimmed [] = refl
 saturated-trimmed (x ∷ s) = saturated-onto x (trimmed s) ∙ ap (onto (saturated x)) (saturated-trimmed s)

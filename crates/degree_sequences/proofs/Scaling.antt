@@ -1,4 +1,4 @@
--- Lists that are near give a composition that is near.
+-- If lists are near other lists (`SumsAreWithin`), their composition is near the composition of the other lists.
 use Rattle.std.proofs.Common.{List, [], ap, arith, get_or, length, map, min, refl, replicate, suc, sum, sym, zero, ℕ, ◌*◌, ◌++◌, ◌+◌, ◌-◌, ◌∙◌, ◌∷◌, ◌≡◌, ◌≤◌}
 use Rattle.std.proofs.Math.Nat.{mul-add, mul-le-mul_left, mul-suc, mul-zero, mul_assoc, mul_comm}
 use Rattle.std.proofs.lemmas.List.{append-nil}
@@ -14,27 +14,22 @@ use Rattle.degree_sequences.specs.Falling.{IsFalling}
 use Rattle.degree_sequences.specs.Families.{ColumnFalls, IsChildOf, IsNear, SumsAreWithin, MatchedChild, factors, scales}
 use Rattle.degree_sequences.specs.RunningSums.{running_sum}
 
--- each element times c
 abbrev pub scale : ℕ → List ℕ → List ℕ
 scale c s = map (λ x. c * x) s
 
--- its running sums are c times those
 pub running_sum-scale : (c : ℕ) (s : List ℕ) (r : ℕ) → running_sum (scale c s) r ≡ c * running_sum s r
 running_sum-scale c s zero = sym (mul-zero c)
 running_sum-scale c [] (suc r) = sym (mul-zero c)
 running_sum-scale c (x ∷ s) (suc r) = omega (arith, running_sum-scale c s r)
 
--- its elements are c times those
 pub get_or-scale : (c : ℕ) (s : List ℕ) (r : ℕ) → get_or (scale c s) r 0 ≡ c * get_or s r 0
 get_or-scale c [] r = sym (mul-zero c)
 get_or-scale c (x ∷ s) zero = refl
 get_or-scale c (x ∷ s) (suc r) = get_or-scale c s r
 
--- it falls where the list does
 pub IsFalling-scale : (c : ℕ) (s : List ℕ) → IsFalling s → IsFalling (scale c s)
 IsFalling-scale c s fall r = omega (arith, get_or-scale c s r, get_or-scale c s (suc r), mul-le-mul_left c (fall r))
 
--- the product of scaled lists is scaled by both
 pub rank_product-scale : (c e : ℕ) (s t : List ℕ) → rank_product (scale c s) (scale e t) ≡ scale (c * e) (rank_product s t)
 rank_product-scale c e [] t = refl
 rank_product-scale c e (x ∷ s) [] = refl
@@ -43,7 +38,6 @@ rank_product-scale c e (x ∷ s) (y ∷ t) = rw (times c x e y, rank_product-sca
     times : (c x e y : ℕ) → (c * x) * (e * y) ≡ (c * e) * (x * y)
     times c x e y = omega arith
 
--- products of lists that are near are near by the products of the numbers
 pub rank_product-near : (b c d e : ℕ) (s t s' t' : List ℕ) → IsFalling t → IsFalling s' → SumsAreWithin b c s' s → SumsAreWithin d e t' t
     → SumsAreWithin (b * d) (c * e) (rank_product s' t') (rank_product s t)
 rank_product-near b c d e s t s' t' ft fs' near_s near_t r =
@@ -57,12 +51,11 @@ rank_product-near b c d e s t s' t' ft fs' near_s near_t r =
       running_sum-scale (b * d) (rank_product s' t') r,
     )
 
--- each element c times
+-- each element is repeated c times. So lists that are spread over different numbers of rows can be compared
 abbrev pub stretched : ℕ → List ℕ → List ℕ
 stretched c [] = []
 stretched c (x ∷ u) = replicate c x ++ stretched c u
 
--- c times as many elements sum to c times as much
 pub running_sum-stretched : (c : ℕ) (u : List ℕ) (m : ℕ) → running_sum (stretched c u) (c * m) ≡ c * running_sum u m
 running_sum-stretched c u zero = rw (mul-zero c) refl
 running_sum-stretched c [] (suc m) = omega (arith, running_sum-nil (c * suc m), mul-zero c)
@@ -72,12 +65,10 @@ running_sum-stretched c (x ∷ u) (suc m) =
     let rest : (c + c * m) - c ≡ c * m = omega arith in
     rw e (running_sum-front c x (stretched c u) (c + c * m) ∙ rw (all, rest) (ap (λ z. c * x + z) (running_sum-stretched c u m) ∙ sym (mul-add c x (running_sum u m))))
 
--- runs of one length in front of a product
 pub rank_product-front : (c x y : ℕ) (s t : List ℕ) → rank_product (replicate c x ++ s) (replicate c y ++ t) ≡ replicate c (x * y) ++ rank_product s t
 rank_product-front zero x y s t = refl
 rank_product-front (suc c) x y s t = ap (λ (u : List ℕ). x * y ∷ u) (rank_product-front c x y s t)
 
--- the product of stretched lists is stretched
 pub rank_product-stretched : (c : ℕ) (s t : List ℕ) → rank_product (stretched c s) (stretched c t) ≡ stretched c (rank_product s t)
 rank_product-stretched c [] t = refl
 rank_product-stretched c (x ∷ s) [] = rank_product-nil (replicate c x ++ stretched c s)
@@ -87,46 +78,38 @@ rank_product-stretched c (x ∷ s) [] = rank_product-nil (replicate c x ++ stret
     rank_product-nil (x ∷ s) = refl
 rank_product-stretched c (x ∷ s) (y ∷ t) = rank_product-front c x y (stretched c s) (stretched c t) ∙ ap (λ (u : List ℕ). replicate c (x * y) ++ u) (rank_product-stretched c s t)
 
--- a run in front of a stretched list
 pub stretched-front : (c x y : ℕ) (s : List ℕ) → replicate (c * x) y ++ stretched c s ≡ stretched c (replicate x y ++ s)
 stretched-front c zero y s = rw (mul-zero c) refl
 stretched-front c (suc x) y s =
     let e : c * suc x ≡ c + c * x = omega (arith, mul-suc c x) in
     rw e (run-add c (c * x) y (stretched c s) ∙ ap (λ (u : List ℕ). replicate c y ++ u) (stretched-front c x y s))
 
--- counts that are scaled stretch the rows
 pub spread-stretched : (c : ℕ) (g v : List ℕ) → spread (scale c g) v ≡ stretched c (spread g v)
 spread-stretched c [] v = refl
 spread-stretched c (x ∷ g) v = ap (λ (u : List ℕ). replicate (c * x) (get_or v 0 0) ++ u) (spread-stretched c g (tail_of v)) ∙ stretched-front c x (get_or v 0 0) (spread g (tail_of v))
 
--- the first element of a stretched list
 pub stretched-head : (c : ℕ) (u : List ℕ) (b : ℕ) → IsFalling u → get_or u 0 0 ≤ b → get_or (stretched c u) 0 0 ≤ b
 stretched-head c [] b fall h = omega arith
 stretched-head zero (x ∷ u) b fall h = stretched-head zero u b (λ r. fall (suc r)) (omega (arith, fall 0))
 stretched-head (suc c) (x ∷ u) b fall h = h
 
--- a stretched list falls where the list does
 pub IsFalling-stretched : (c : ℕ) (u : List ℕ) → IsFalling u → IsFalling (stretched c u)
 IsFalling-stretched c [] fall = λ r. omega arith
 IsFalling-stretched c (x ∷ u) fall = IsFalling-front c x (stretched c u) (stretched-head c u x (λ r. fall (suc r)) (fall 0)) (IsFalling-stretched c u (λ r. fall (suc r)))
 
--- a run in front of a scaled list
 pub scale-front : (c x y : ℕ) (s : List ℕ) → scale c (replicate x y ++ s) ≡ replicate x (c * y) ++ scale c s
 scale-front c zero y s = refl
 scale-front c (suc x) y s = ap (λ (u : List ℕ). c * y ∷ u) (scale-front c x y s)
 
--- the rest of a scaled list
 pub tail_of-scale : (c : ℕ) (v : List ℕ) → tail_of (scale c v) ≡ scale c (tail_of v)
 tail_of-scale c [] = refl
 tail_of-scale c (y ∷ v) = refl
 
--- elements that are scaled scale the rows
 pub spread-scale : (c : ℕ) (g v : List ℕ) → spread g (scale c v) ≡ scale c (spread g v)
 spread-scale c [] v = refl
 spread-scale c (x ∷ g) v =
     rw (get_or-scale c v 0, tail_of-scale c v, spread-scale c g (tail_of v)) (sym (scale-front c x (get_or v 0 0) (spread g (tail_of v))))
 
--- rows of lists that are near, when both are stretched to one length
 pub spread-near : (a e b c : ℕ) (g v f w : List ℕ) → IsFalling w → IsFalling g → SumsAreWithin a e g f → SumsAreWithin b c v w
     → SumsAreWithin b c (stretched a (spread g v)) (stretched e (spread f w))
 spread-near a e b c g v f w fw fg near_g near_v r =
@@ -142,22 +125,18 @@ spread-near a e b c g v f w fw fg near_g near_v r =
       ap (λ u. b * running_sum u r) (spread-stretched a g v),
     )
 
--- stretched ones sum to their number
 pub running_sum-stretched-ones : (c n r : ℕ) → running_sum (stretched c (replicate n 1)) r ≡ min (c * n) r
 running_sum-stretched-ones c n r = ap (λ u. running_sum u r) (ones c n) ∙ running_sum-ones (c * n) r
   where
     ones : (c n : ℕ) → stretched c (replicate n 1) ≡ replicate (c * n) 1
     ones c n = ap (stretched c) (sym (append-nil (replicate n 1))) ∙ sym (stretched-front c n 1 []) ∙ append-nil (replicate (c * n) 1)
 
--- the children that are near
 abbrev pub nears : List MatchedChild → List ChildLists
 nears ms = map (λ m. m.near) ms
 
--- the children that they are near
 abbrev pub exacts : List MatchedChild → List ChildLists
 exacts ms = map (λ m. m.exact) ms
 
--- row weights of children that are near, when both are stretched to one length
 pub spreads-near : (a n k : ℕ) → a * n ≤ (a + 1) * k → (ms : List MatchedChild) → AllByRecursion (IsNear a) ms
     → AllByRecursion (IsChildOf n) (nears ms) → AllByRecursion (IsChildOf k) (exacts ms) → AllByRecursion ColumnFalls (nears ms)
     → SumsAreWithin (scales ms) (factors ms) (stretched a (spreads (nears ms) n)) (stretched (a + 1) (spreads (exacts ms) k))
@@ -175,7 +154,6 @@ spreads-near a n k h (m ∷ ms) near ok ok' fall r =
     (spread-near a (a + 1) m.scale m.factor m.near.column m.near.class m.exact.column m.exact.class ok'.0.class_falls fall.0 near.0.column near.0.class) r in
     rw (mul_comm m.scale (scales ms), mul_comm m.factor (factors ms), sym (rank_product-stretched a s' t'), sym (rank_product-stretched (a + 1) s t)) both
 
--- lists that are near, by an accuracy and by two numbers for each class, give a composition that is near
 pub composed-near : (a : ℕ) (g f : List ℕ) (ms : List MatchedChild) → SumsAreWithin a (a + 1) g f → AllByRecursion (IsNear a) ms
     → AllByRecursion (IsChildOf (sum g)) (map (λ m. m.near) ms) → AllByRecursion (IsChildOf (sum f)) (map (λ m. m.exact) ms)
     → AllByRecursion ColumnFalls (map (λ m. m.near) ms)

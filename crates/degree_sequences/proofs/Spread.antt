@@ -1,4 +1,4 @@
--- A list cut at a sum, and a list whose elements are spread over rows.
+-- A list is cut at a sum (`cut`), and the elements of a list are spread over rows (`spread`). The lemmas are about the running sums of both.
 use Rattle.std.proofs.Common.{List, [], ap, arith, false, get_or, inl, inr, leb, length, length-append, max, min, refl, replicate, suc, sum, sym, true, zero, ℕ, ◌*◌, ◌++◌, ◌+◌, ◌-◌, ◌<◌, ◌∙◌, ◌∷◌, ◌≡◌, ◌≤◌}
 use Rattle.std.proofs.Math.Nat.{suc-mul, zero-mul}
 use Rattle.std.proofs.lemmas.Bool.{cases_lt, le-leb, lt-leb}
@@ -14,66 +14,56 @@ use Rattle.degree_sequences.specs.Falling.{IsFalling}
 use Rattle.degree_sequences.specs.Rank.{rank}
 use Rattle.degree_sequences.specs.RunningSums.{IsAbove, running_sum}
 
--- the list whose first elements are those of g, as far as the sum m goes
+-- `cut g m` has the first elements of g, cut so that they sum to at most m, and then zeros
 abbrev pub cut : List ℕ → ℕ → List ℕ
 cut [] m = []
 cut (x ∷ g) m = min x m ∷ cut g (m - x)
 
--- its running sums are the minima with m
 pub running_sum-cut : (g : List ℕ) (m r : ℕ) → running_sum (cut g m) r ≡ min (running_sum g r) m
 running_sum-cut g m zero = omega arith
 running_sum-cut [] m (suc r) = omega arith
 running_sum-cut (x ∷ g) m (suc r) = omega (arith, running_sum-cut g (m - x) r)
 
--- it is as long
 pub length-cut : (g : List ℕ) (m : ℕ) → length (cut g m) ≡ length g
 length-cut [] m = refl
 length-cut (x ∷ g) m = ap suc (length-cut g (m - x))
 
--- it falls where the list does
 pub IsFalling-cut : (g : List ℕ) (m : ℕ) → IsFalling g → IsFalling (cut g m)
 IsFalling-cut g m fall = IsFalling-from_sums (cut g m)
     (λ r. omega (arith, running_sum-cut g m r, running_sum-cut g m (suc r), running_sum-cut g m (suc (suc r)), sums_fall g fall r, running_sum-mono g r (suc r) (omega arith)))
 
--- the list without its first element
 abbrev pub tail_of : List ℕ → List ℕ
 tail_of [] = []
 tail_of (y ∷ v) = v
 
--- its elements are one rank further
 pub get_or-tail_of : (v : List ℕ) (i : ℕ) → get_or (tail_of v) i 0 ≡ get_or v (suc i) 0
 get_or-tail_of [] i = refl
 get_or-tail_of (y ∷ v) i = refl
 
--- it falls where the list does
 pub IsFalling-tail_of : (v : List ℕ) → IsFalling v → IsFalling (tail_of v)
 IsFalling-tail_of [] fall = λ r. omega arith
 IsFalling-tail_of (y ∷ v) fall = λ r. fall (suc r)
 
--- element r of v as often as element r of g says
+-- `spread g v` repeats each element of v as often as the element of g at the same index says
 abbrev pub spread : List ℕ → List ℕ → List ℕ
 spread [] v = []
 spread (x ∷ g) v = replicate x (get_or v 0 0) ++ spread g (tail_of v)
 
--- there are as many rows as the counts say
 pub length-spread : (g v : List ℕ) → length (spread g v) ≡ sum g
 length-spread [] v = refl
 length-spread (x ∷ g) v =
     omega (arith, length-append (replicate x (get_or v 0 0)) (spread g (tail_of v)), length-replicate x (get_or v 0 0), length-spread g (tail_of v), sum_by-cons (λ (y : ℕ). y) x g)
 
--- within a run
 pub get_or-front : (n x : ℕ) (s : List ℕ) (k : ℕ) → k < n → get_or (replicate n x ++ s) k 0 ≡ x
 get_or-front zero x s k h = absurd (omega arith)
 get_or-front (suc n) x s zero h = refl
 get_or-front (suc n) x s (suc k) h = get_or-front n x s k (omega arith)
 
--- past a run
 pub get_or-past : (n x : ℕ) (s : List ℕ) (k : ℕ) → n ≤ k → get_or (replicate n x ++ s) k 0 ≡ get_or s (k - n) 0
 get_or-past zero x s k h = ap (λ i. get_or s i 0) (omega arith)
 get_or-past (suc n) x s zero h = absurd (omega arith)
 get_or-past (suc n) x s (suc k) h = get_or-past n x s k (omega arith) ∙ ap (λ i. get_or s i 0) (omega arith)
 
--- row k + 1 has the element of its rank
 pub get_or-spread : (g v : List ℕ) (k : ℕ) → k < sum g → get_or (spread g v) k 0 ≡ get_or v (rank g (suc k) - 1) 0
 get_or-spread [] v k h = absurd (omega arith)
 get_or-spread (x ∷ g) v k h = elim (cases_lt k x) [
@@ -90,7 +80,6 @@ get_or-spread (x ∷ g) v k h = elim (cases_lt k x) [
       ∙ get_or-tail_of v (r - 1) ∙ ap (λ i. get_or v i 0) last))
 ]
 
--- running sums with a run in front
 pub running_sum-front : (x y : ℕ) (s : List ℕ) (m : ℕ) → running_sum (replicate x y ++ s) m ≡ min x m * y + running_sum s (m - x)
 running_sum-front zero y s m =
     let none : min zero m ≡ 0 = omega arith in
@@ -105,7 +94,6 @@ running_sum-front (suc x) y s (suc m) =
     let rest : suc m - suc x ≡ m - x = omega arith in
     omega (arith, running_sum-front x y s m, ap (λ k. k * y) one, ap (running_sum s) rest, suc-mul (min x m) y)
 
--- the first m rows have each element as often as the cut list says
 pub sum_below-cut : (g v : List ℕ) (m : ℕ) → sum_below (λ r. get_or (cut g m) r 0 * get_or v r 0) (length g) ≡ running_sum (spread g v) m
 sum_below-cut [] v m = sym (running_sum-nil m)
 sum_below-cut (x ∷ g) v m =
@@ -114,7 +102,6 @@ sum_below-cut (x ∷ g) v m =
     (λ r h. ap (λ k. get_or (cut g (m - x)) r 0 * k) (sym (get_or-tail_of v r))) in
     omega (arith, same, sum_below-cut g (tail_of v) (m - x), running_sum-front x (get_or v 0 0) (spread g (tail_of v)) m)
 
--- the product with a cut list sums to at most the rows up to the cut
 pub running_sum-cut_product-le : (g v : List ℕ) (m n : ℕ) → running_sum (rank_product (cut g m) v) n ≤ running_sum (spread g v) m
 running_sum-cut_product-le g v m n =
     omega (
@@ -125,7 +112,6 @@ running_sum-cut_product-le g v m n =
       running_sum-past (rank_product (cut g m) v) (length g) (omega (arith, length-rank_product-le (cut g m) v, length-cut g m)),
     )
 
--- at its end that is an equality
 pub running_sum-spread : (g v : List ℕ) (m r : ℕ) → length g ≤ r → running_sum (rank_product (cut g m) v) r ≡ running_sum (spread g v) m
 running_sum-spread g v m r h =
     omega (
@@ -136,7 +122,6 @@ running_sum-spread g v m r h =
       running_sum-past (rank_product (cut g m) v) r (omega (arith, length-rank_product-le (cut g m) v, length-cut g m)),
     )
 
--- a run in front of what is not above it
 pub IsFalling-front : (x y : ℕ) (s : List ℕ) → get_or s 0 0 ≤ y → IsFalling s → IsFalling (replicate x y ++ s)
 IsFalling-front zero y s h fall = fall
 IsFalling-front (suc zero) y s h fall = λ r. step r
@@ -150,7 +135,6 @@ IsFalling-front (suc (suc x)) y s h fall = λ r. step (IsFalling-front (suc x) y
     step ih zero = omega arith
     step ih (suc r) = ih r
 
--- the first row has at most the first element
 pub spread-head : (g v : List ℕ) (m : ℕ) → IsFalling v → get_or v 0 0 ≤ m → get_or (spread g v) 0 0 ≤ m
 spread-head [] v m fall h = omega arith
 spread-head (zero ∷ g) v m fall h = spread-head g (tail_of v) m (λ r. tail_falls v fall r) (omega (arith, h, get_or-tail_of v 0, fall 0))
@@ -160,14 +144,12 @@ spread-head (zero ∷ g) v m fall h = spread-head g (tail_of v) m (λ r. tail_fa
     tail_falls (y ∷ v) fall = λ r. fall (suc r)
 spread-head (suc x ∷ g) v m fall h = h
 
--- rows of a falling list fall
 pub IsFalling-spread : (g v : List ℕ) → IsFalling v → IsFalling (spread g v)
 IsFalling-spread [] v fall = λ r. omega arith
 IsFalling-spread (x ∷ g) v fall = IsFalling-front x (get_or v 0 0) (spread g (tail_of v))
     (spread-head g (tail_of v) (get_or v 0 0) (IsFalling-tail_of v fall) (omega (arith, get_or-tail_of v 0, fall 0)))
     (IsFalling-spread g (tail_of v) (IsFalling-tail_of v fall))
 
--- rows of larger lists sum to more
 pub spread-above : (g v g' v' : List ℕ) → IsFalling v → IsFalling g' → IsAbove g g' → IsAbove v v' → IsAbove (spread g v) (spread g' v')
 spread-above g v g' v' fv fg' above_g above_v m =
     let n : ℕ = max (length g) (length g') in

@@ -1,32 +1,28 @@
--- Summation by parts, over functions from ranks.
+-- These lemmas are about sums of functions of ranks, up to summation by parts.
 use Rattle.std.proofs.Common.{List, [], ap, arith, get_or, refl, suc, zero, zero-add, ℕ, ◌*◌, ◌+◌, ◌-◌, ◌<◌, ◌∙◌, ◌∷◌, ◌≡◌, ◌≤◌}
 use Rattle.std.proofs.Math.Nat.{mul-le-mul_right, mul-zero, zero-mul}
 use Rattle.degree_sequences.specs.ByRank.{rank_product}
 use Rattle.degree_sequences.specs.RunningSums.{running_sum}
 
--- the sum of f 0 up to f (n - 1)
 abbrev pub sum_below : (ℕ → ℕ) → ℕ → ℕ
 sum_below f zero = 0
 sum_below f (suc n) = f 0 + sum_below (λ r. f (suc r)) n
 
--- zeros sum to 0
 pub sum_below-zero : (n : ℕ) → sum_below (λ r. 0) n ≡ 0
 sum_below-zero zero = refl
 sum_below-zero (suc n) = rw zero-add (sum_below-zero n)
 
--- functions that agree below n have one sum there
 pub sum_below-same : (f g : ℕ → ℕ) (n : ℕ) → ((r : ℕ) → r < n → f r ≡ g r) → sum_below f n ≡ sum_below g n
 sum_below-same f g zero h = refl
 sum_below-same f g (suc n) h =
     omega (arith, h 0 (omega arith), sum_below-same (λ r. f (suc r)) (λ r. g (suc r)) n (λ r k. h (suc r) (omega arith)))
 
--- over the elements of a list it is the running sum
 pub sum_below-list : (s : List ℕ) (n : ℕ) → sum_below (λ r. get_or s r 0) n ≡ running_sum s n
 sum_below-list s zero = refl
 sum_below-list [] (suc n) = rw zero-add (sum_below-zero n)
 sum_below-list (x ∷ s) (suc n) = ap (λ k. x + k) (sum_below-list s n)
 
--- weights that fall keep the order of running sums
+-- this is summation by parts: if sums of b aren't above sums of c, this stays true when both are weighted by a function that falls
 pub sum_below-mul-le : (n : ℕ) (a b c : ℕ → ℕ) (d : ℕ) → ((r : ℕ) → a (suc r) ≤ a r) → ((r : ℕ) → r ≤ n → sum_below b r ≤ d + sum_below c r)
     → sum_below (λ r. a r * b r) n ≤ a 0 * d + sum_below (λ r. a r * c r) n
 sum_below-mul-le zero a b c d fall le = omega arith
@@ -38,7 +34,6 @@ sum_below-mul-le (suc n) a b c d fall le =
     (λ r h. omega (arith, le (suc r) (omega arith))) in
     omega (arith, ih, mul-le-mul_right (d + c 0 - b 0) (fall 0), ap (λ z. a 0 * z) slack)
 
--- the running sums of a product by rank
 pub sum_below-product : (s t : List ℕ) (n : ℕ) → sum_below (λ r. get_or s r 0 * get_or t r 0) n ≡ running_sum (rank_product s t) n
 sum_below-product s t zero = refl
 sum_below-product [] t (suc n) = sum_below-same (λ r. 0 * get_or t r 0) (λ r. 0) (suc n) (λ r h. zero-mul (get_or t r 0)) ∙ sum_below-zero (suc n)

@@ -5,7 +5,7 @@ use Rattle.degree_sequences.specs.Falling.{trimmed}
 use Rattle.degree_sequences.specs.RunningSums.{running_sum}
 use Rattle.degree_sequences.specs.Rank.{rank}
 
--- a child of a table: the list of the table's column that joins it, and the list of the weights of its class
+-- a child of a table: the list of the table's column that joins the child, and the list of the child's class weights
 pub record ChildLists : Type 0 where
   pub column : List ℕ
   pub class : List ℕ
@@ -19,7 +19,7 @@ weight_by_rank (child ∷ children) t = slice_index child.class (rank child.colu
 abbrev pub row_weights : List ChildLists → ℕ → List ℕ
 row_weights children n = map (weight_by_rank children) (range_with_len 1 n)
 
--- the sum of the first g(1) weights, of the next g(2), and so on
+-- the sum of the first g(1) weights, of the next g(2) weights, and so on
 abbrev pub block_sums : List ℕ → List ℕ → List ℕ
 block_sums [] weights = []
 block_sums (count ∷ g) weights = running_sum weights count ∷ block_sums g (drop count weights)

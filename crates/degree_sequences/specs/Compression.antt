@@ -21,7 +21,7 @@ heads accuracy f = heads_from accuracy (slice_index f 0) f
 abbrev pub slope : ℕ → List ℕ → ℕ → ℕ
 slope accuracy f m = slice_index (heads accuracy f) (rank f (suc m) - 1)
 
--- at most `count` elements that follow elements of sum m: each is the slope there, or what is left of f's sum if that is less
+-- up to `count` further elements, after elements whose sum is m: each is the slope at the sum so far, or the rest of f's sum if the rest is less
 abbrev pub compressed_from : ℕ → List ℕ → ℕ → ℕ → List ℕ
 compressed_from accuracy f zero m = []
 compressed_from accuracy f (suc count) m =

@@ -16,7 +16,7 @@ abbrev pub put_in : ℕ → List ℕ → List ℕ
 put_in n [] = n ∷ []
 put_in n (m ∷ ms) = if nat_le m n then n ∷ (m ∷ ms) else (m ∷ put_in n ms)
 
--- the same numbers in falling order
+-- the numbers in falling order
 abbrev pub in_falling_order : List ℕ → List ℕ
 in_falling_order [] = []
 in_falling_order (n ∷ ns) = put_in n (in_falling_order ns)

@@ -3,11 +3,11 @@ use Rattle.std.specs.Prelude.{ℕ, ◌≤◌, ◌==◌, List, length}
 use Rattle.std.specs.List.{sum_by, count_by, list_any, IsDistinct}
 use Rattle.degree_sequences.specs.RunningSums.{running_sum}
 
--- any r different keys stand at no more places of `keys` than the first r elements of s sum to
+-- for any r different keys, the number of places of `keys` that have one of these keys is at most the sum of the first r elements of s
 abbrev pub DominatesKeys : List ℕ → List ℕ → Type 0
 DominatesKeys s keys = (picked : List ℕ) → IsDistinct ◌==◌ picked
     → count_by (λ key. list_any (λ a. key == a) picked) keys ≤ running_sum s (length picked)
 
--- any r different keys weigh together no more than the first r elements of s sum to
+-- the weights of any r different keys sum to at most the first r elements of s
 abbrev pub DominatesWeights : List ℕ → (ℕ → ℕ) → Type 0
 DominatesWeights s weight = (picked : List ℕ) → IsDistinct ◌==◌ picked → sum_by weight picked ≤ running_sum s (length picked)

@@ -1,7 +1,7 @@
 -- Falling lists of whole numbers of any size. Ranks count from 1, and past its end a list is 0.
 use Rattle.std.specs.Prelude.{ℕ, zero, suc, ◌≤◌, List, [], ◌∷◌, slice_index}
 
--- each element is at most the one before it
+-- each element is at most the element before it
 abbrev pub IsFalling : List ℕ → Type 0
 IsFalling s = (r : ℕ) → slice_index s (suc r) ≤ slice_index s r
 

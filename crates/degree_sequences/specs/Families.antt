@@ -14,16 +14,16 @@ pub record IsChildOf (total : ℕ) (child : ChildLists) : Type 0 where
 abbrev pub ColumnFalls : ChildLists → Type 0
 ColumnFalls child = IsFalling child.column
 
--- both lists of a child are above those of the other child
+-- both lists of a child are above the lists of the other child
 pub record ChildIsAbove (child other : ChildLists) : Type 0 where
   pub column : IsAbove child.column other.column
   pub class : IsAbove child.class other.class
 
--- at every rank, `scale` times the running sum of s is at most `factor` times that of t
+-- at every rank, `scale` times the running sum of s is at most `factor` times the running sum of t
 abbrev pub SumsAreWithin : ℕ → ℕ → List ℕ → List ℕ → Type 0
 SumsAreWithin scale factor s t = (r : ℕ) → scale * running_sum s r ≤ factor * running_sum t r
 
--- a child, the exact child that it is near, and how near its class list is: SumsAreWithin with `scale` and `factor`
+-- a child and the exact child that it is near. Their class lists are near by the numbers `scale` and `factor` (`SumsAreWithin`)
 pub record MatchedChild : Type 0 where
   pub near : ChildLists
   pub exact : ChildLists

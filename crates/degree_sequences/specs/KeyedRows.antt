@@ -17,12 +17,12 @@ pub record DominatesChild (rows : ℕ) (lists : ChildLists) (child : ChildKeys) 
   pub class_falls : IsFalling lists.class
   pub key_per_row : length child.keys ≡ rows
 
--- the weight of row i, counted from 0: the product over the children of the class weights of its keys
+-- the weight of row i, counted from 0: the product over the children of the class weights of the row's keys
 abbrev pub weight_of_row : List ChildKeys → ℕ → ℕ
 weight_of_row [] i = 1
 weight_of_row (child ∷ children) i = child.weight (slice_index child.keys i) * weight_of_row children i
 
--- the weight that the rows give to a parent key: the sum of the weights of the rows that have it
+-- the weight that the rows give to a parent key: the sum of the weights of the rows that have this key
 abbrev pub weight_of_key : List ℕ → List ChildKeys → ℕ → ℕ
 weight_of_key parent_keys children a = sum_by (λ i. if slice_index parent_keys i == a then weight_of_row children i
     else 0) (range_with_len 0 (length parent_keys))

@@ -9,7 +9,7 @@ running_sum s zero = 0
 running_sum [] (suc r) = 0
 running_sum (x ∷ s) (suc r) = x + running_sum s r
 
--- at every rank the running sum of s is at least that of t
+-- at every rank the running sum of s is at least the running sum of t
 abbrev pub IsAbove : List ℕ → List ℕ → Type 0
 IsAbove s t = (r : ℕ) → running_sum t r ≤ running_sum s r
 
@@ -17,10 +17,10 @@ IsAbove s t = (r : ℕ) → running_sum t r ≤ running_sum s r
 abbrev pub with_running_sums : (ℕ → ℕ) → ℕ → List ℕ
 with_running_sums sums n = map (λ r. sums (suc r) - sums r) (range_with_len 0 n)
 
--- the list whose running sums are the minima of those of s and t
+-- the list whose running sums are the minima of the running sums of s and t
 abbrev pub lesser : List ℕ → List ℕ → List ℕ
 lesser s t = trimmed (with_running_sums (λ r. min (running_sum s r) (running_sum t r)) (max (length s) (length t)))
 
--- the list whose running sums are the minima of those of s and n
+-- the list whose running sums are the minima of n and the running sums of s
 abbrev pub cut_at : List ℕ → ℕ → List ℕ
 cut_at s n = trimmed (with_running_sums (λ r. min (running_sum s r) n) (length s))

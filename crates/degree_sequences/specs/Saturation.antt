@@ -1,6 +1,6 @@
 -- Numbers as 128 bits hold them.
 use Rattle.std.specs.Prelude.{ℕ, ◌-◌, ◌^◌, min}
 
--- n, or the largest number of 128 bits where n is larger
+-- n, or the largest number of 128 bits if n is larger
 abbrev pub saturated : ℕ → ℕ
 saturated n = min n (2 ^ 128 - 1)

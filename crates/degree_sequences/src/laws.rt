@@ -53,7 +53,7 @@ pub fn operations()
 /// A compressed list is above its list, has its sum, stays near it and has few runs. Compression by heads and its
 /// accuracy are this project's own.
 pub fn compressions()
-    // each element is the slope at the sum of the elements before it, or what is left of f's sum if that is less
+    // each element is the slope at the sum of the elements before it, or the rest of f's sum if the rest is less
     ensures element { (accuracy : ℕ) (f : List ℕ) (r : ℕ) → r < length (compressed accuracy f)
         → slice_index (compressed accuracy f) r
         ≡ min (slope accuracy f (running_sum (compressed accuracy f) r)) (sum f - running_sum (compressed accuracy f) r) }
@@ -70,7 +70,7 @@ pub fn compressions()
         → (digits : ℕ) → slice_index f 0 < 2 ^ digits → runs (compressed accuracy f) ≤ accuracy * digits + 1 }
 {}
 
-/// A composition's running sum at r is the sum of the first row weights, as many as the parent's running sum at r says.
+/// A composition's running sum at r is the sum of the first m row weights, where m is the parent's running sum at r.
 pub fn compositions()
     ensures blocks { (parent : List ℕ) (children : List ChildLists) (r : ℕ)
         → running_sum (composed parent children) r ≡ running_sum (row_weights children (sum parent)) (running_sum parent r) }

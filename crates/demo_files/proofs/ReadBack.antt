@@ -1,4 +1,4 @@
--- A file of records is read as these records.
+-- Reading the text of some records as CSV gives these records.
 use Rattle.std.proofs.Common.{◌≡◌, ℕ, suc, zero, ◌+◌, ◌≤◌, ◌<◌, List, [], ◌∷◌, ◌++◌, length, Some, false, refl, sym, ap, ◌∙◌, arith, append_assoc}
 use Rattle.std.specs.Prelude.{◌==◌}
 use Rattle.std.specs.List.{flat_map, join_with_byte}
@@ -12,7 +12,7 @@ use Rattle.csv.specs.declared.parser.State.TheVariants as st
 use Rattle.csv.proofs.ReadFacts.{run-copies}
 use Rattle.demo_files.specs.Files.{file_text, record_text}
 
--- digits, letters and what stands between them: none parts fields or records
+-- each byte is 48 or more, so it is no comma, quote, CR or LF: it ends no field and no record
 abbrev pub AreLater : List ℕ → Type 0
 AreLater [] = Unit {0}
 AreLater (b ∷ bs) = (48 ≤ b) × AreLater bs
@@ -33,7 +33,6 @@ abbrev pub AreRecords : List (List (List ℕ)) → Type 0
 AreRecords [] = Unit {0}
 AreRecords (r ∷ rs) = IsRecord r × AreRecords rs
 
--- where such a byte leads
 abbrev Copies : State → Type 0
 Copies s = (b : ℕ) → 48 ≤ b → step default_config s b ≡ (st.InField, act.Copy)
 

@@ -1,4 +1,4 @@
--- The records of the tables are of names and numerals, which stand in a file as they are.
+-- The records of the tables consist of names and numerals. These stand in a file as they are, without quotes, so each file is read back as its records.
 use Rattle.std.proofs.Common.{◌≡◌, inl, inr, ℕ, suc, zero, ◌+◌, ◌*◌, ◌%◌, ◌^◌, ◌<◌, List, [], ◌∷◌, length, map, decimal, refl, sym, subst, arith, rules}
 use Rattle.std.specs.Prelude.{◌==◌}
 use Rattle.std.specs.Fmt.{digits}
@@ -27,7 +27,6 @@ nought : IsField (decimal 0)
 unfolding digits
 nought = (omega arith, tt)
 
--- a numeral has digits, and nothing else
 numeral : (n : ℕ) → n < 2 ^ 64 → IsField (decimal n)
 numeral zero small = nought
 numeral (suc n) small =
@@ -39,7 +38,6 @@ rows : (numbers : ℕ → List ℕ) (a n : ℕ) → ((i : ℕ) → i < a + n →
 rows numbers a zero each = tt
 rows numbers a (suc n) each = (each a (omega arith), rows numbers (a + 1) n (λ i less. each i (omega (arith, less))))
 
--- a file with a header of names is read as its records
 whole : (columns : List (List ℕ)) (numbers : ℕ → List ℕ) (count b : ℕ) (bs : List ℕ) → record_text columns ≡ b ∷ bs → b < 128
     → IsRecord columns → ((i : ℕ) → i < count → IsRecord (map decimal (numbers i))) → IsReadBack (table_records columns numbers count)
 unfolding table_records

@@ -41,7 +41,7 @@ pub fn push_product(file: &mut Vec<u8>, i: u64) -> Result<(), NoMemory>
     push_last(file, i % 4)
 }
 
-// Even items are of a product that sells often, odd ones of any product.
+// Even items are of a product that sells often, odd items are of any product.
 fn product_of_item(i: u64) -> u64
     ensures { result ≡ product_of i }
 {

@@ -1,4 +1,4 @@
--- No stage over the shop's files refuses one for its absence.
+-- No stage that reads the shop's files refuses a file because it is absent.
 use Rattle.std.proofs.Common.{◌≡◌, ℕ, zero, suc, ◌+◌, ◌<◌, Bool, true, false, List, [], ◌∷◌, Option, Some, Result, Ok, Err, length, refl, ap, sym, ◌∙◌, subst, arith}
 use Rattle.std.specs.Prelude.{codes, if◌then◌else◌, nat_lt}
 use Rattle.std.specs.List.{All}
@@ -28,18 +28,17 @@ use Rattle.demo_files.specs.Texts.{query_text, schema_text}
 use Rattle.demo_tables.specs.ShopSchema.{shop_schema}
 use Rattle.demo_tables.proofs.SchemaRead.{schema_read}
 
--- ---- one step after the other
+-- ---- steps one after the other that refuse no file because it is absent (`MissesNothing`)
 
 pub ok_misses : {A : Type 0} (x : A) → MissesNothing (Ok x)
 ok_misses x id e = cc
 
--- the second step may go by what the first one gave
 pub then_misses : {A B : Type 0} (r : Result A Refusal) (f : A → Result B Refusal) → MissesNothing r
     → ((x : A) → r ≡ Ok x → MissesNothing (f x)) → MissesNothing (r >>= f)
 then_misses (Ok x) f first next = next x refl
 then_misses (Err s) f first next = λ id e. first id (let same : s ≡ refusal.Missing id = cc in ap Err same)
 
--- ---- one file
+-- ---- reading one file
 
 either_misses : {A : Type 0} (refused : Bool) (r : Refusal) (x : A) → IsOfWhatIsThere r → MissesNothing (if refused then Err r else Ok x)
 either_misses true r x there id e = there id (let same : r ≡ refusal.Missing id = cc in same)

@@ -1,8 +1,8 @@
 -- How the proofs of this crate go: what was hard, and what closed it.
 --
--- - The schema text is read by computation (`schema_read`), as the small texts of worked_run are. The files' records stay closed: that a
---   file is there is a comparison of names.
--- - That a stage refuses no file for its absence goes through `>>=` (`then_misses`): it holds of the first step, and of the second after
---   any value of the first.
+-- - The schema text is read by computation (`schema_read`), as the small texts of worked_run are. The files' records aren't computed:
+--   names are compared to find out whether a file is there.
+-- - `then_misses` is about `>>=`. Suppose that the first step refuses no file for its absence, and that the second step doesn't either, after
+--   any value of the first. Then both together refuse no file for its absence.
 pub mod SchemaRead
 pub mod Absences

@@ -1,4 +1,4 @@
--- The schema text of the shop is read as its four tables, by computation.
+-- Computation shows that the schema text of the shop is read as its four tables.
 use Rattle.std.specs.Str.{chars, is_utf8}
 use Rattle.std.specs.Str.Lossy.{utf8_valid_len}
 use Rattle.std.proofs.Common.{◌≡◌, Ok, refl}

@@ -1,4 +1,4 @@
--- An entry is taken out of a set, or put into it: what the number and its bits are then.
+-- These lemmas say which number and which bits a set has after an entry is taken out or put in.
 use Rattle.std.proofs.Common.{◌≡◌, ℕ, zero, suc, ◌+◌, ◌-◌, ◌*◌, ◌/◌, ◌%◌, ◌^◌, ◌<◌, ◌≤◌, refl, ap, sym, ◌∙◌, arith, inl, inr}
 use Rattle.std.specs.Int.{bit_at}
 use Rattle.std.proofs.lemmas.Nat.Bits.{bit_at_lowest, bit_at-suc, bit_at_above}
@@ -18,7 +18,6 @@ power_within entry set has = elim (cases_lt set (2 ^ entry)) [
 pub less_without : (set entry : ℕ) → bit_at set entry ≡ 1 → set - 2 ^ entry < set
 less_without set entry has = omega (arith, power_within entry set has, pow_pos entry)
 
--- an entry of a set of entries below n is below n
 pub entry_below : (n set entry : ℕ) → set < 2 ^ n → bit_at set entry ≡ 1 → entry < n
 entry_below n set entry fits has = elim (cases_lt entry n) [
   | inl below ↦ below
@@ -53,7 +52,6 @@ bit_without_same (suc entry) set has =
     ∙ ap (λ n. bit_at n entry) (half_without entry set has)
     ∙ bit_without_same entry (set / 2) (sym (bit_at-suc set entry) ∙ has)
 
--- where the bit is 0, the power sets it
 pub bit_added : (entry set : ℕ) → bit_at set entry ≡ 0 → bit_at (2 ^ entry + set) entry ≡ 1
 bit_added zero set out =
     let even : set % 2 ≡ 0 = sym (bit_at_lowest set) ∙ out in

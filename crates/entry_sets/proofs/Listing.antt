@@ -1,4 +1,4 @@
--- The list of a set's entries, from a first one on.
+-- The list of a set's entries from a given entry on ascends, and it has exactly the entries whose bits are 1.
 use Rattle.std.proofs.Common.{◌≡◌, ℕ, zero, suc, ◌+◌, ◌-◌, ◌^◌, ◌<◌, ◌≤◌, Bool, true, false, eqb, ltb, List, [], ◌∷◌, refl, ap, sym, ◌∙◌, subst, arith, inl, inr}
 use Rattle.std.specs.Prelude.{filter, ◌&&◌, ◌⊎◌, Some}
 use Rattle.std.specs.Iterator.{MakesProgress, item_count}
@@ -9,7 +9,7 @@ use Rattle.std.proofs.lemmas.Bool.{cases_Bool, cases_eq, cases_lt, eq-eqb, eqb-t
 use Rattle.std.proofs.lemmas.Nat.Bits.{bit_at_above}
 use Rattle.entry_sets.specs.Sets.{entries_from, entries_of_set, has_entry}
 
--- ---- lists
+-- ---- members of lists, ascending lists, and the numbers of a range
 
 pub in_rest : {X : Type 0} (x : X) (xs : List X) (y : X) → Contains xs y → Contains (x ∷ xs) y
 in_rest x xs y h = (suc h.0, omega (arith, h.1), h.2)
@@ -48,7 +48,7 @@ kept_all Q test (x ∷ xs) h = elim (cases_Bool (test x)) [
   | inr n ↦ rw n (kept_all Q test xs h.1)
 ]
 
--- ---- the entries of a set
+-- ---- the list of a set's entries ascends, and has the entries whose bits are 1
 
 from_increase : (set first count : ℕ) → IsStrictlyIncreasing (entries_from set first count)
 from_increase set first zero = λ k l. absurd (omega (arith, l))
@@ -104,7 +104,7 @@ set_bits set x k = (
 pub set_bits_only : (set x : ℕ) → (x < 16) × (bit_at set x ≡ 1) → Contains (entries_of_set set) x
 set_bits_only set x h = set_has set x h.0 (eq-eqb (bit_at set x) 1 h.1)
 
--- ---- membership
+-- ---- an entry is in the set exactly if it is in the list of the set's entries
 
 pub has_bit : (set x : ℕ) → has_entry set x ≡ true → (x < 16) × (bit_at set x ≡ 1)
 has_bit set x h =
@@ -120,7 +120,6 @@ set_entries set x k = bit_has set x (set_bits set x k)
 pub set_entries_only : (set x : ℕ) → has_entry set x ≡ true → Contains (entries_of_set set) x
 set_entries_only set x h = set_bits_only set x (has_bit set x h)
 
--- the entries of a set below 2^n are below n
 pub entry_below : (n subset entry : ℕ) → subset < 2 ^ n → has_entry subset entry ≡ true → entry < n
 entry_below n subset entry fits has =
     let bit : (entry < 16) × (bit_at subset entry ≡ 1) = has_bit subset entry has in
@@ -145,11 +144,10 @@ step_over set i low out =
     let more : 16 - i ≡ suc (16 - (i + 1)) = omega arith in
     ap (entries_from set i) more ∙ from_skip set i (16 - (i + 1)) (not_there (ltb i 16) (eqb (bit_at set i) 1) (lt-ltb i 16 low) out)
 
--- an iterator that gives the first item of a list leaves fewer
 pub goes_on : (can : List ℕ → Type 0) → ((xs : List ℕ) → can xs) → (xs rest : List ℕ) (i : ℕ) → xs ≡ i ∷ rest → MakesProgress can (item_count (λ (left : List ℕ). left)) xs (Some i) rest
 goes_on can may xs rest i is = rw is (record { on = λ _. (may rest, tt, omega arith); keeps = may rest; rests = λ _. tt })
 
--- ---- the bit alone
+-- ---- for entries below 16, `has_entry` tests the entry's bit
 
 pub bit_told : (set i : ℕ) → has_entry set i ≡ true → eqb (bit_at set i) 1 ≡ true
 bit_told set i has = (and_parts (ltb i 16) (eqb (bit_at set i) 1) has).1

@@ -1,4 +1,4 @@
--- The entries of a set with an entry, without one, of two sets together, and of a set within another.
+-- These lemmas say which entries and which number a set has after `with` and `without`, and what `is_within` tests.
 use Rattle.std.proofs.Common.{◌≡◌, ℕ, ◌+◌, ◌-◌, ◌*◌, ◌%◌, ◌^◌, ◌<◌, ◌≤◌, true, false, eqb, ltb, bit_and, bit_or, refl, ap, sym, ◌∙◌, pow_mono, w16, arith, inl, inr}
 use Rattle.std.specs.Prelude.{◌&&◌, ◌||◌, ◌↔◌, not, IsTrue}
 use Rattle.std.specs.Int.{bit_at, bit_not}
@@ -10,7 +10,7 @@ use Rattle.entry_sets.specs.Sets.{IsWithin, has_entry}
 use Rattle.entry_sets.proofs.Bits.{bit_without_other, bit_without_same}
 use Rattle.entry_sets.proofs.Listing.{bit_has, has_bit}
 
--- the number of one entry
+-- the code shifts a 16-bit number, so the result is taken modulo 65536. No bit is lost
 one_bit : (entry : ℕ) → entry < 16 → 1 * 2 ^ entry % 65536 ≡ 2 ^ entry
 one_bit entry low = omega (arith, powers)
   where

@@ -1,4 +1,4 @@
--- Tests of the entries that a condition names. A list of them has an entry as often as the condition names it.
+-- Tests of the entries that a condition names. The list of named entries has an entry as often as the condition names it.
 use Rattle.std.specs.Prelude.{ℕ, Bool, not, ◌&&◌, ◌==◌, List, [], ◌∷◌}
 use Rattle.std.specs.List.{list_all, list_any}
 
@@ -6,6 +6,6 @@ use Rattle.std.specs.List.{list_all, list_any}
 abbrev pub are_within : List ℕ → List ℕ → Bool
 are_within named placed = list_all (λ entry. list_any (λ e. entry == e) placed) named
 
--- this entry is named, and no other one
+-- the entry is named, and no other entry is
 abbrev pub are_just : List ℕ → ℕ → Bool
 are_just named entry = are_within named (entry ∷ []) && not (are_within named [])

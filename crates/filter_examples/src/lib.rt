@@ -21,9 +21,10 @@ pub fn small_columns()
     // X = 1 OR X = 1 OR X = 1 over 1, 1, 1, 2, 2, 3: the lists sum to 9 rows, and the list of all rows cuts them to 6
     ensures thrice { list_where (lists_of (1 ∷ 1 ∷ 1 ∷ 2 ∷ 2 ∷ 3 ∷ [])) (Or (x_is op.Eq 1 ∷ x_is op.Eq 1 ∷ x_is op.Eq 1 ∷ []))
         ≡ 3 ∷ 3 ∷ [] }
-    // NOT (X IN (1, 3)): the lists sum to 9 and 7 rows, and their minima are cut in the same way
+    // NOT (X IN (1, 3)): the lists sum to 9 and 7 rows, and the list of all rows cuts their minima to 6
     ensures not_in { list_where (lists_of (1 ∷ 1 ∷ 1 ∷ 2 ∷ 2 ∷ 3 ∷ [])) (Not (Or (x_is op.Eq 1 ∷ x_is op.Eq 3 ∷ []))) ≡ 3 ∷ 3 ∷ [] }
-    // these two sums: X <> 1 is up to 1 (3 rows) or from 1 on (6), and X <> 3 is up to 3 (6) or from 3 on (1)
+    // the two sums of NOT (X IN (1, 3)). X <> 1 is the range up to 1 (3 rows) or the range from 1 on (6 rows). X <> 3 is the range up to 3 (6
+    // rows) or the range from 3 on (1 row)
     ensures other_than_one { let lists = lists_of (1 ∷ 1 ∷ 1 ∷ 2 ∷ 2 ∷ 3 ∷ []) in
         sum (rank_sum (lists.range (range_x None (Some (value 1)))) (lists.range (range_x (Some (value 1)) None))) ≡ 9 }
     ensures other_than_three { let lists = lists_of (1 ∷ 1 ∷ 1 ∷ 2 ∷ 2 ∷ 3 ∷ []) in

@@ -1,4 +1,4 @@
--- How many of an entry's rows pass tests, and how many its own conjuncts leave.
+-- These lemmas count the rows of an entry that pass tests, and the rows that the entry's own conjuncts leave.
 use Rattle.std.proofs.Common.{◌≡◌, ℕ, ◌+◌, ◌≤◌, Bool, true, false, not, ◌&&◌, ◌||◌, eqb, cond, List, [], ◌∷◌, map, length, refl, ap, sym, ◌∙◌, subst, inl, inr, arith}
 use Rattle.std.specs.List.{AllByRecursion, count_by, filter, list_all, list_any, range_with_len, sum}
 use Rattle.std.proofs.lemmas.Bool.{cases_Bool, eqb-true, and_parts, and_from, or_cases, false≢true}
@@ -26,7 +26,7 @@ use Rattle.filtered_lists.proofs.Lists.{running_sums, running_sum-filtered}
 use Rattle.filtered_lists.proofs.Passing.{Passes, row_tests, and_passes, joined_passes, cond_passes}
 use Rattle.filtered_lists.proofs.Related.{filtered_related}
 
--- ---- rows that are counted, among those that pass a test
+-- ---- the number of counted rows among the rows that pass a test
 
 module _ (counted : ℕ → Bool) where
   abbrev number : List ℕ → ℕ
@@ -84,7 +84,7 @@ implied : (b c : Bool) → b ≡ true → (not b || c) ≡ true → c ≡ true
 implied b c h k = rw h at k
 
 module _ (tables : Tables) (entry : ℕ) where
-  -- the conjuncts of the scan hold in this row
+  -- the entry's own conjuncts leave this row
   abbrev leaves : List Cond → ℕ → Bool
   leaves conjuncts row = list_all (λ c. not (levels.names_just c entry) || c.holds (λ e. row)) (map (conjunct_of tables) conjuncts)
 
@@ -108,7 +108,7 @@ module _ (tables : Tables) (entry : ℕ) where
       let members : List (Conjunction (ℕ → Bool)) = map (λ c. conjunction_of (row_tests tables entry) c true) (own_conjuncts entry conjuncts) in
       and_from (and_answer (row_tests tables entry) (one_conjunction members) row) true (and_passes tables entry row (one_conjunction members) (joined_passes tables entry row members (own_pass row conjuncts h))) refl
 
-  -- ---- counts that are enough for the rows that are counted
+  -- ---- if each number of the statistics is at least the number of counted rows, so is the row bound
 
   pub record AreEnough (counted : ℕ → Bool) (counts : RowCounts) : Type 0 where
     pub whole : count_by counted (range_with_len 0 (row_counts tables entry)) ≤ counts.whole
@@ -130,7 +130,7 @@ module _ (tables : Tables) (entry : ℕ) where
       }) entry conjuncts in
       omega (arith, passing, fewer_pass counted (leaves conjuncts) (filtered (row_tests tables entry) entry conjuncts) (left_pass conjuncts) rows)
 
--- ---- never under
+-- ---- filtered lists and row bounds are never too low
 
 number-map : (test : ℕ → Bool) (key : ℕ → ℕ) (rows : List ℕ) → count_by test (map key rows) ≡ count_by (λ row. test (key row)) rows
 number-map test key [] = refl

@@ -1,4 +1,4 @@
--- The running sums and the sum of a filtered list, from those of its lists.
+-- A filtered list is made of other lists. Its running sums and its sum are computed from the running sums and the sums of these lists.
 use Rattle.std.proofs.Common.{◌≡◌, ℕ, ◌+◌, ◌<◌, ◌≤◌, min, List, [], length, refl, ◌∙◌, arith}
 use Rattle.std.specs.List.{All, sum}
 use Rattle.degree_sequences.proofs.ByRank.{running_sum-rank_sum, IsFalling-rank_sum, sum-rank_sum}
@@ -13,9 +13,8 @@ use Rattle.filtered_lists.specs.Standing.{ListsFall, SumTo}
 use Rattle.filtered_lists.proofs.Trimmed.{lesser_self}
 use Rattle.filtered_lists.proofs.Related.{filtered_related}
 
--- ---- running sums
+-- ---- the running sums of a filtered list
 
--- the running sums of lists at a rank
 abbrev pub running_sums : ColumnLists → ℕ → RowCounts
 running_sums lists r = record {
   whole = running_sum lists.whole r;
@@ -23,7 +22,6 @@ running_sums lists r = record {
   range = λ range. running_sum (lists.range range) r;
 }
 
--- those of the filtered list are put together in the same way
 pub running_sum-filtered : (lists : ColumnLists) (r entry : ℕ) (conjuncts : List Cond)
     → running_sum (filtered_list lists entry conjuncts) r ≡ row_bound (running_sums lists r) entry conjuncts
 running_sum-filtered lists r =
@@ -36,9 +34,9 @@ running_sum-filtered lists r =
       either = λ s t m n h k. running_sum-rank_sum s t r ∙ omega (arith, h, k);
     })
 
--- ---- sums
+-- ---- the sum of a filtered list
 
--- a rank beyond the ends of three lists
+-- at this rank each of the three running sums has reached the sum of its list
 past : (s t u : List ℕ) → ℕ
 past s t u = length s + length t + length u
 
@@ -62,7 +60,6 @@ sum-filtered lists counts entry conjuncts h =
 
 -- ---- falling lists
 
--- where the lists fall, the filtered list falls
 pub filtered_falls : (lists : ColumnLists) (entry : ℕ) (conjuncts : List Cond) → ListsFall lists → IsFalling (filtered_list lists entry conjuncts)
 filtered_falls lists entry conjuncts h =
     filtered_related (List ℕ) (List ℕ) (λ s t. IsFalling s) (list_answers lists) (list_answers lists) (record {
@@ -74,7 +71,7 @@ filtered_falls lists entry conjuncts h =
       either = λ s t s' t' f g. IsFalling-rank_sum s t f g;
     }) entry conjuncts
 
--- ---- no own conjunct
+-- ---- entries without own conjuncts
 
 pub unfiltered : (lists : ColumnLists) (entry : ℕ) (conjuncts : List Cond) → own_conjuncts entry conjuncts ≡ [] → All (λ x. 0 < x) lists.whole
     → filtered_list lists entry conjuncts ≡ lists.whole
@@ -83,7 +80,7 @@ unfiltered lists entry conjuncts none positive = rw none (lesser_self lists.whol
 pub unfiltered_rows : (counts : RowCounts) (entry : ℕ) (conjuncts : List Cond) → own_conjuncts entry conjuncts ≡ [] → row_bound counts entry conjuncts ≡ counts.whole
 unfiltered_rows counts entry conjuncts none = rw none (omega arith)
 
--- ---- within the whole
+-- ---- the filtered list is at most the list of all rows
 
 pub filtered_within : (lists : ColumnLists) (entry : ℕ) (conjuncts : List Cond) → IsAbove lists.whole (filtered_list lists entry conjuncts)
 filtered_within lists entry conjuncts r = omega (arith, running_sum-filtered lists r entry conjuncts)

@@ -1,4 +1,4 @@
--- Comparisons of two values, and values at the ends of ranges.
+-- These are laws about comparing two values, and about values at the ends of ranges.
 use Rattle.std.proofs.Common.{◌≡◌, Bool, true, false, List, [], ◌∷◌, Option, None, Some, refl, ap, sym, ◌∙◌, cond}
 use Rattle.std.specs.List.{AllByRecursion}
 use Rattle.std.specs.Ordering.{is_lt, is_le, is_gt, is_ge, ordering_reverse}
@@ -14,7 +14,7 @@ use Rattle.filtered_lists.specs.Comparisons.{opposite, mirrored}
 use Rattle.filtered_lists.specs.Ranges.{greater_of, lesser_of, greatest_value, least}
 use Rattle.filtered_lists.specs.Standing.{is_from, is_up_to}
 
--- ---- comparisons
+-- ---- opposite and mirrored comparisons
 
 pub value_cmp-reverse : (a b : Value) → value_cmp a b ≡ ordering_reverse (value_cmp b a)
 value_cmp-reverse (Int a) (Int b) = int_cmp_total.antisymm a b
@@ -65,9 +65,8 @@ reversed_compares op.Ge Greater = refl
 pub turned_compares : (o : Op) (a b : Value) → compares (mirrored o) (value_cmp b a) ≡ compares o (value_cmp a b)
 turned_compares o a b = reversed_compares o (value_cmp b a) ∙ ap (compares o) (sym (value_cmp-reverse a b))
 
--- ---- ends
+-- ---- the greatest low end and the least high end of ranges
 
--- a value is from the greatest of the ends that it is from
 from_greater : (value low : Value) (other : Option Value) → is_from (Some low) value ≡ true → is_from other value ≡ true → is_from (Some (greater_of low other)) value ≡ true
 from_greater value low None h k = h
 from_greater value low (Some other) h k = either_end (is_lt (value_cmp low other))

@@ -1,4 +1,4 @@
--- What a condition adds to its AND, by its parts.
+-- `conjunction_of` says what a condition adds to the AND around it. The lemmas say it for AND, OR, NOT and a comparison, from what their members add.
 use Rattle.std.proofs.Common.{◌≡◌, Bool, List, map, ap, sym, ◌∙◌}
 use Rattle.query_grammar.specs.declared.tree.Op.{Op}
 use Rattle.query_types.specs.declared.types.Operand.{Operand}

@@ -1,4 +1,4 @@
--- A row of which a condition holds passes the tests that the condition makes of it.
+-- If a condition holds for a row, the row passes the tests that are made of the condition.
 use Rattle.std.proofs.Common.{◌≡◌, ℕ, Bool, true, false, not, ◌&&◌, ◌||◌, eqb, List, [], ◌∷◌, ◌++◌, map, Option, None, Some, refl, ap, sym, ◌∙◌, subst, inl, inr}
 use Rattle.std.specs.List.{AllByRecursion, cons_option, filter_map, flat_map}
 use Rattle.std.specs.Ordering.{is_ne, is_lt, is_le, is_gt, is_ge}
@@ -26,7 +26,7 @@ use Rattle.filtered_lists.specs.Ranges.{Range, from_value, up_to_value, ranges_o
 use Rattle.filtered_lists.specs.Standing.{value_in_row, is_from, is_up_to, has_value, is_in_range}
 use Rattle.filtered_lists.proofs.Ordered.{opposite_compares, turned_compares, from_greatest, up_to_least}
 
--- tests of an entry's rows
+-- the answers to comparisons are tests of an entry's rows
 abbrev pub row_tests : Tables → ℕ → ComparisonAnswers (ℕ → Bool)
 row_tests tables entry = record {
   whole = λ row. true;
@@ -59,7 +59,6 @@ module _ (tables : Tables) (entry row : ℕ) where
   abbrev Holds : (ℕ → Bool) → Type 0
   Holds test = test row ≡ true
 
-  -- the row is in each range, and passes each other test
   pub record Passes (c : Conjunction (ℕ → Bool)) : Type 0 where
     pub ranges : AllByRecursion IsIn c.ranges
     pub others : AllByRecursion Holds c.others
@@ -77,7 +76,7 @@ module _ (tables : Tables) (entry row : ℕ) where
         others = joined_parts Holds c.others (one_conjunction cs).others first.others rest.others;
       }
 
-  -- ---- one range of each column
+  -- ---- a row that is in each range is in the intersection of a column's ranges
 
   abbrev value : ℕ → Value
   value column = value_in_row tables entry column row
@@ -130,7 +129,7 @@ module _ (tables : Tables) (entry row : ℕ) where
       (from_greatest (value column) (filter_map (λ range. range.low) (ranges_of column ranges)) (ends_hold (λ end. is_from (Some end) (value column) ≡ true) (λ range. range.low) column ranges (lows column ranges h)))
       (up_to_least (value column) (filter_map (λ range. range.high) (ranges_of column ranges)) (ends_hold (λ end. is_up_to (Some end) (value column) ≡ true) (λ range. range.high) column ranges (highs column ranges h)))
 
-  -- ---- AND and OR
+  -- ---- the AND and the OR of tests
 
   and_more_passes : (t : ℕ → Bool) (ts : List (ℕ → Bool)) → t row ≡ true → AllByRecursion Holds ts → and_more tests t ts row ≡ true
   and_more_passes t [] r h = r
@@ -140,7 +139,6 @@ module _ (tables : Tables) (entry row : ℕ) where
   all_pass [] h = refl
   all_pass (t ∷ ts) h = and_more_passes t ts h.0 h.1
 
-  -- what passed so far still passes with more
   still_passes : (t : ℕ → Bool) (ts : List (ℕ → Bool)) → t row ≡ true → or_more tests t ts row ≡ true
   still_passes t [] h = h
   still_passes t (u ∷ ts) h = still_passes (λ row. t row || u row) ts (or_left (t row) (u row) h)
@@ -153,7 +151,7 @@ module _ (tables : Tables) (entry row : ℕ) where
       each [] = tt
       each (column ∷ columns) = (in_one_range c.ranges column h.ranges, each columns)
 
-  -- ---- comparisons
+  -- ---- comparisons with a literal
 
   below_or_above : (order : Ordering) → is_ne order ≡ true → ((true && is_le order) || (is_ge order && true)) ≡ true
   below_or_above Less h = refl
@@ -187,7 +185,6 @@ module _ (tables : Tables) (entry row : ℕ) where
   comparison_passes op.Gt column literal h = passes_range (from_value column literal) (gt_ge (value_cmp (value column) literal) h)
   comparison_passes op.Ge column literal h = passes_range (from_value column literal) (ge_ge (value_cmp (value column) literal) h)
 
-  -- the value of an operand's column, where the column is of this entry
   column_is : (column : ColumnRef) → column.from ≡ entry → column_value tables (λ e. row) column ≡ value column.column
   column_is column same = ap (λ (from : ℕ). column_value tables (λ e. row) (record { from = from; column = column.column })) same
 
@@ -219,7 +216,7 @@ module _ (tables : Tables) (entry row : ℕ) where
   abbrev says : Cond → Bool
   says c = cond_holds tables (λ e. row) c
 
-  -- where it names this entry alone
+  -- the induction over conditions proves this: the row passes the tests that are made of the condition, or of its opposite if the condition doesn't hold
   abbrev Says : Cond → Type 0
   Says c = AllByRecursion (λ e. e ≡ entry) (entries_named c) → (holds : Bool) → says c ≡ holds → Passes (conjunction_of tests c holds)
 

@@ -1,4 +1,5 @@
--- Where answers are related, so is what conjuncts make of them.
+-- If answers of two kinds (lists, numbers of rows or tests of a row) are related for each comparison, they are related for the conjuncts of an
+-- entry.
 use Rattle.std.proofs.Common.{◌≡◌, ℕ, Bool, true, false, List, [], ◌∷◌, ◌++◌, map, Option, None, Some, refl, ap, sym, ◌∙◌, subst}
 use Rattle.std.specs.List.{AllZip}
 use Rattle.csv_tables.specs.Values.{Value}
@@ -12,7 +13,7 @@ use Rattle.filtered_lists.specs.Comparisons.{Comparison, comparison_of, opposite
 use Rattle.filtered_lists.specs.Filters.{ComparisonAnswers, Conjunction, of_answer, one_conjunction, and_more, all_of, or_more, and_answer, or_answer, of_comparison, of_comparison_or_whole, conjunction_step, conjunction_of, own_conjuncts, filtered}
 use Rattle.filtered_lists.specs.Ranges.{Range, from_value, up_to_value, intersection_for_each_column}
 
--- answers to each comparison are related, and stay so when they are put together
+-- the answers to each comparison are related, and joining related answers gives related answers
 pub record AreRelated (A B : Type 0) (R : A → B → Type 0) (a : ComparisonAnswers A) (b : ComparisonAnswers B) : Type 0 where
   pub whole : R a.whole b.whole
   pub equal : (column : ℕ) (value : Value) → R (a.equal column value) (b.equal column value)
@@ -22,7 +23,6 @@ pub record AreRelated (A B : Type 0) (R : A → B → Type 0) (a : ComparisonAns
   pub either : (x y : A) (x' y' : B) → R x x' → R y y' → R (a.either x y) (b.either x' y')
 
 module _ (A B : Type 0) (R : A → B → Type 0) (a : ComparisonAnswers A) (b : ComparisonAnswers B) (related : AreRelated A B R a b) where
-  -- the same ranges, and answers that are related
   pub record Alike (x : Conjunction A) (y : Conjunction B) : Type 0 where
     pub ranges : x.ranges ≡ y.ranges
     pub others : AllZip R x.others y.others

@@ -1,4 +1,4 @@
--- Lists that are known by their running sums.
+-- A list's running sums determine it, up to zeros at its end.
 use Rattle.std.proofs.Common.{◌≡◌, ℕ, zero, suc, ◌<◌, min, max, List, [], ◌∷◌, length, refl, ap, sym, ◌∙◌, arith}
 use Rattle.std.specs.List.{All, AllByRecursion}
 use Rattle.std.proofs.lemmas.List.Elements.{recursion_from_All}
@@ -13,7 +13,6 @@ zero_sums (y ∷ t) h =
     let first : y ≡ 0 = omega (arith, h 1) in
     rw (zero_sums t (λ r. omega (arith, h (suc r))), first) refl
 
--- lists with the same running sums are one, up to zeros at the end
 pub same_sums : (s t : List ℕ) → ((r : ℕ) → running_sum s r ≡ running_sum t r) → trimmed s ≡ trimmed t
 same_sums [] t h = sym (zero_sums t (λ r. sym (h r) ∙ nothing r))
   where
@@ -34,7 +33,6 @@ positive_whole [] h = refl
 positive_whole (zero ∷ s) h = absurd (omega (arith, h.0))
 positive_whole (suc x ∷ s) h = ap (onto (suc x)) (positive_whole s h.1)
 
--- positive numbers have no zeros at the end
 pub trimmed-positive : (s : List ℕ) → All (λ x. 0 < x) s → trimmed s ≡ s
 trimmed-positive s h = positive_whole s (recursion_from_All (λ x. 0 < x) s h)
 
@@ -44,11 +42,9 @@ trimmed_again s = same_sums (trimmed s) s (running_sum-trimmed s)
 trimmed_twice : (s t : List ℕ) → trimmed (lesser s t) ≡ lesser s t
 trimmed_twice s t = trimmed_again (with_running_sums (λ r. min (running_sum s r) (running_sum t r)) (max (length s) (length t)))
 
--- a list of positive numbers with the running sums of a lesser list is that list
 pub is_lesser : (list s t : List ℕ) → All (λ x. 0 < x) list → ((r : ℕ) → running_sum list r ≡ min (running_sum s r) (running_sum t r)) → list ≡ lesser s t
 is_lesser list s t positive h =
     sym (trimmed-positive list positive) ∙ same_sums list (lesser s t) (λ r. h r ∙ sym (running_sum-lesser s t r)) ∙ trimmed_twice s t
 
--- the lesser of a list with itself
 pub lesser_self : (s : List ℕ) → All (λ x. 0 < x) s → lesser s s ≡ s
 lesser_self s positive = sym (is_lesser s s s positive (λ r. omega arith))

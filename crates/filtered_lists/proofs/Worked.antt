@@ -1,4 +1,4 @@
--- Worked examples, by computation.
+-- The worked examples are proved by computation.
 use Rattle.std.proofs.Common.{◌≡◌, ℕ, Bool, true, false, List, [], ◌∷◌, ◌++◌, None, Some, refl, ap}
 use Rattle.degree_sequences.specs.ByRank.{rank_sum}
 use Rattle.degree_sequences.specs.RunningSums.{lesser}
@@ -15,12 +15,11 @@ use Rattle.filtered_lists.specs.Lists.{ColumnLists, list_answers}
 use Rattle.filtered_lists.specs.Filters.{Conjunction, and_answer, one_conjunction, conjunction_of, conjunction_step}
 use Rattle.filtered_lists.proofs.Parts.{of_and, of_or, of_not, of_compare}
 
--- a comparison of the entry's columns alone
+-- `one` and `other` are the two cases of a single comparison: it names entry 0 alone, or it doesn't
 pub one : (lists : ColumnLists) (o : Op) (left right : Operand) → are_just (entries_of_operand left ++ entries_of_operand right) 0 ≡ true
     → list_where lists (Compare o left right) ≡ lesser (and_answer (list_answers lists) (one_conjunction (conjunction_step (list_answers lists) (layer.Compare o left right) true ∷ []))) lists.whole
 one lists o left right named = rw (entries_compare o left right, named, of_compare (list_answers lists) o left right true) refl
 
--- a comparison with columns of other entries
 pub other : (lists : ColumnLists) (o : Op) (left right : Operand) → are_just (entries_of_operand left ++ entries_of_operand right) 0 ≡ false
     → list_where lists (Compare o left right) ≡ lesser lists.whole lists.whole
 other lists o left right named = rw (entries_compare o left right, named) refl

@@ -6,7 +6,7 @@ use Rattle.query_grammar.specs.declared.tree.Op.TheVariants as op
 use Rattle.query_types.specs.declared.types.Operand.{Operand}
 use Rattle.query_types.specs.declared.types.Operand.TheVariants as operand
 
--- the comparison that holds exactly where this one does not
+-- the opposite of a comparison, which holds exactly if the comparison doesn't
 abbrev pub opposite : Op → Op
 opposite op.Eq = op.Ne
 opposite op.Ne = op.Eq

@@ -9,7 +9,7 @@ use Rattle.query_types.specs.declared.types.Cond.{Cond, Compare}
 use Rattle.filtered_lists.specs.Lists.{ColumnLists, filtered_list}
 use Rattle.filtered_lists.specs.Ranges.{Range}
 
--- the list of entry 0, if this is its only conjunct
+-- the list of entry 0, if `cond` is the entry's only conjunct
 abbrev pub list_where : ColumnLists → Cond → List ℕ
 list_where lists cond = filtered_list lists 0 (cond ∷ [])
 
@@ -67,7 +67,7 @@ abbrev pub list_of_value : Value → List ℕ
 list_of_value (Int n) = if is_lt (int_cmp n (pos 2)) then 3 ∷ [] else (if is_lt (int_cmp n (pos 3)) then 2 ∷ [] else 1 ∷ [])
 list_of_value (Text t) = []
 
--- the list of the least node that holds both leaves: of leaves 0 to 15, of the last leaf, or of all
+-- the list of the least node that holds both leaves: of leaves 0 to 15, of the last leaf, or of all leaves
 abbrev pub list_of_leaves : ℕ → ℕ → List ℕ
 list_of_leaves low high = if nat_le high 15 then 3 ∷ [] else (if nat_le 31 low then 1 ∷ [] else 3 ∷ (3 ∷ []))
 

@@ -94,7 +94,7 @@ conjunction_step answers (layer.Compare op left right) false = of_comparison_or_
 abbrev pub conjunction_of : {A : Type 0} → ComparisonAnswers A → Cond → Bool → Conjunction A
 conjunction_of {A} answers = fold-Cond (Bool → Conjunction A) (conjunction_step answers)
 
--- the conjuncts that name an entry and no other one
+-- the conjuncts that name an entry and no other entry
 abbrev pub own_conjuncts : ℕ → List Cond → List Cond
 own_conjuncts entry conjuncts = filter (names_just entry) conjuncts
 

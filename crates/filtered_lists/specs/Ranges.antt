@@ -27,17 +27,17 @@ abbrev pub lesser_of : Value → Option Value → Value
 lesser_of value None = value
 lesser_of value (Some other) = if is_gt (value_cmp value other) then other else value
 
--- the greatest of values, if there is one
+-- the greatest of the values, if there are any
 abbrev pub greatest_value : List Value → Option Value
 greatest_value [] = None
 greatest_value (value ∷ values) = Some (greater_of value (greatest_value values))
 
--- the least of values, if there is one
+-- the least of the values, if there are any
 abbrev pub least : List Value → Option Value
 least [] = None
 least (value ∷ values) = Some (lesser_of value (least values))
 
--- those of the ranges that are of this column
+-- the ranges of this column among `ranges`
 abbrev pub ranges_of : ℕ → List Range → List Range
 ranges_of column ranges = filter (λ range. range.column == column) ranges
 
@@ -49,6 +49,6 @@ intersection_of ranges column = record {
   high = least (filter_map (λ range. range.high) (ranges_of column ranges));
 }
 
--- for each column that has ranges among these, their intersection
+-- for each column that has a range among `ranges`, the intersection of the column's ranges
 abbrev pub intersection_for_each_column : List Range → List Range
 intersection_for_each_column ranges = map (intersection_of ranges) (different (map (λ range. range.column) ranges))

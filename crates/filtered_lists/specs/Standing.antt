@@ -26,7 +26,7 @@ abbrev pub is_up_to : Option Value → Value → Bool
 is_up_to None value = true
 is_up_to (Some high) value = is_le (value_cmp value high)
 
--- whether an entry's row has a value in a column, and whether it is in a range
+-- whether an entry's row has a value in a column, and whether the row is in a range of a column
 abbrev pub has_value : Tables → ℕ → ℕ → Value → ℕ → Bool
 has_value tables entry column value row = is_eq (value_cmp (value_in_row tables entry column row) value)
 

@@ -26,17 +26,16 @@ pub fn filters_are_never_under()
         → length (scan_of tables entry conjuncts) ≤ row_bound counts entry conjuncts }
 {}
 
-/// The row bound is the sum of the filtered list. So it is the same for every joined column whose
-/// lists sum to the same numbers of rows. It is at most the number of all rows.
+/// The row bound is the sum of the filtered list. So it is the same for every joined column whose lists sum to the same numbers of rows. The row
+/// bound is at most the number of all rows.
 pub fn row_bounds_are_sums()
     ensures sum { (lists : ColumnLists) (counts : RowCounts) (entry : ℕ) (conjuncts : List Cond)
         → SumTo lists counts → sum (filtered_list lists entry conjuncts) ≡ row_bound counts entry conjuncts }
     ensures rows { (counts : RowCounts) (entry : ℕ) (conjuncts : List Cond) → row_bound counts entry conjuncts ≤ counts.whole }
 {}
 
-/// The filtered list falls if the lists fall. At every rank its running sum is at most that of the
-/// list of all rows. Without own conjuncts it is the list of all rows, if that has no zeros, and the
-/// row bound is the number of all rows.
+/// The filtered list falls if the lists fall. At every rank its running sum is at most the running sum of the list of all rows. Without own
+/// conjuncts, the filtered list is the list of all rows, if this list has no zeros, and the row bound is the number of all rows.
 pub fn filters_stay_within_the_whole()
     ensures falls { (lists : ColumnLists) (entry : ℕ) (conjuncts : List Cond) → ListsFall lists
         → IsFalling (filtered_list lists entry conjuncts) }

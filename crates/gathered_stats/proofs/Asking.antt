@@ -1,4 +1,4 @@
--- The lists that filter columns make are those of the keys.
+-- The code makes a list for a literal and for a range. It is the list that the keys have for this literal or range (`HaveLists`).
 use Rattle.std.proofs.Common.{◌≡◌, ℕ, ◌+◌, ◌<◌, ◌≤◌, ◌^◌, List, [], ◌∷◌, ◌++◌, map, length, take, get_or, sum, Option, Some, option_map, refl, ap, sym, ◌∙◌, subst, arith}
 use Rattle.std.specs.Prelude.{unwrap_or, slice_get}
 use Rattle.std.specs.List.{All, zip}
@@ -31,7 +31,6 @@ module _ (texts : List (List ℕ)) (cells : Cells) where
   pub as_many : AreCells texts cells → (column : ℕ) → column < length cells.kinds → column < length cells.columns
   as_many are column low = omega (arith, low, columns_long texts cells.rows cells.kinds cells.columns are)
 
-  -- a column as it is read
   module _ (are : AreCells texts cells) (column : ℕ) (low : column < length cells.kinds) (k : Kind) (items read : List ℕ)
       (at : slice_get cells.kinds column ≡ Some k) (there : slice_get cells.columns column ≡ Some items) (same : read ≡ items) where
     kind_is : kind_in cells column ≡ k
@@ -55,7 +54,6 @@ module _ (texts : List (List ℕ)) (cells : Cells) where
         column_is : (k l : Kind) (r s : List ℕ) → k ≡ l → r ≡ s → (let c : CellColumn = record { texts = texts; kind = k; cells = r } in c) ≡ record { texts = texts; kind = l; cells = s }
         column_is k l r s h i = rw (h, i) refl
 
-  -- a column of the table has one cell for each row
   pub heights : AreCells texts cells → (column : ℕ) (sorted : CellColumn) → IsColumnIn texts cells column sorted → length sorted.cells ≡ cells.rows
   heights are column sorted is =
       ap (λ (s : CellColumn). length s.cells) is.is ∙ (column_at texts cells.rows cells.kinds cells.columns are column kind.Int [] is.exists).height
@@ -84,7 +82,7 @@ module _ (texts : List (List ℕ)) (cells : Cells) where
         ∙ ap (λ (o : Option ℕ). list_of_range (cell_le texts k) accuracy (zip column keys) (option_map (leaf_of_value texts k (filter_values (zip column keys))) range.low) o) (high_is ∙ end_is range.high)
         ∙ have.range range is.exists
 
--- ---- sizes
+-- ---- no list sums to more than 2^32
 
 pub literal_small : (accuracy n : ℕ) (filter keys list : List ℕ) (cell : Option ℕ) → length keys ≡ n → n < 2 ^ 32 → list ≡ list_of_value accuracy (zip filter keys) cell → sum list ≤ 2 ^ 32
 literal_small accuracy n filter keys list cell tall small made =
@@ -95,7 +93,7 @@ pub range_small : (accuracy n : ℕ) (texts : List (List ℕ)) (k : Kind) (filte
 range_small accuracy n texts k filter keys list low high tall small made =
     omega (arith, ap sum made, node_within accuracy (zip filter keys) (cell_le texts k) (node_size (unwrap_or low 0) (unwrap_or high 31)) (unwrap_or low 0), zipped_within filter keys n (omega (arith, tall)), small)
 
--- ---- step by step
+-- ---- the loop that makes the list of each step
 
 pub one_listed : (lists : ColumnLists) (steps : List Step) (i : ℕ) (step : Step) (old new : List ListStep) (one : ListStep) → i < length steps → step ≡ get_or steps i step
     → old ≡ map (listed lists) (take i steps) → one ≡ listed lists step → new ≡ old ++ one ∷ [] → new ≡ map (listed lists) (take (i + 1) steps)

@@ -1,4 +1,4 @@
--- What is gathered for columns and entries, one after another.
+-- Statistics are gathered for the columns of an entry, one after another, and so for all entries. The lemmas are about the steps of both loops.
 use Rattle.std.proofs.Common.{◌≡◌, ℕ, ◌+◌, ◌<◌, ◌≤◌, ◌^◌, List, [], ◌∷◌, ◌++◌, map, length, take, get_or, Some, slice_get, Result, Ok, Err, IfOk, replicate, ap, sym, ◌∙◌, subst, inl, inr, arith}
 use Rattle.std.proofs.lemmas.Bool.{cases_eq}
 use Rattle.std.proofs.lemmas.List.{get_or_append_left, get_or_past, get_or_push, length_push, map-append, take_more}
@@ -26,7 +26,6 @@ use Rattle.gathered_stats.specs.Columns.{HaveLists, keys_in}
 use Rattle.gathered_stats.specs.Asked.{AreGathered, AreStepsOf, AsksWithin, IsGathered, asked_columns}
 use Rattle.gathered_stats.proofs.Known.{steps_within}
 
--- one column more
 pub one_column : (columns : List ℕ) (i : ℕ) (old new : List ColumnSteps) (one : ColumnSteps) → i < length columns → one.column ≡ get_or columns i 0
     → map (λ g. g.column) old ≡ take i columns → new ≡ old ++ one ∷ [] → map (λ g. g.column) new ≡ take (i + 1) columns
 one_column columns i old new one low is before pushed =
@@ -60,7 +59,7 @@ column_made r texts cells accuracy column keys steps is h k =
     if_both r (λ g. g.column ≡ column) (λ g. (lists : ColumnLists) → HaveLists texts cells accuracy keys lists → g.steps ≡ map (listed lists) steps) (AreStepsOf texts cells accuracy steps)
     (λ g named made lists have. made lists (subst (λ (s : List ℕ). HaveLists texts cells accuracy s lists) (ap (keys_in cells) named ∙ sym is) have)) h k
 
--- ---- entries
+-- ---- the loop over entries
 
 module _ (query : Query) (db : Database) (accuracy : ℕ) where
   pub one_gathered : (n : ℕ) (old new : List EntryStats) (one : EntryStats) → AreGathered query db accuracy n old → IsGathered query db accuracy n one → new ≡ old ++ one ∷ []
@@ -75,7 +74,7 @@ module _ (query : Query) (db : Database) (accuracy : ℕ) where
     ]);
   }
 
--- ---- an entry's table
+-- ---- the table of an entry, and the steps of its own conjuncts
 
 pub cells_read : (db : Database) (entry slot : ℕ) (cells : Cells) → slice_get db.slots entry ≡ Some slot → slice_get db.cells slot ≡ Some cells → cells ≡ cells_of db entry
 cells_read db entry slot cells at there =
@@ -105,7 +104,6 @@ entry_gathered r query db accuracy entry cells es columns columns_read steps rea
       rows = subst (λ (t : Cells). t.rows < 2 ^ 32) is small;
     }) h k
 
--- an entry's own steps, as they are read
 pub own_read : (query : Query) (db : Database) (accuracy entry : ℕ) (stats : EntryStats) (cells : Cells) (steps read : List Step) → IsGathered query db accuracy entry stats
     → cells ≡ cells_of db entry → steps ≡ steps_of entry query.conjuncts → read ≡ steps → All (AreStepsOf db.pool cells accuracy read) stats.columns
 own_read query db accuracy entry stats cells steps read own is are same =

@@ -1,4 +1,5 @@
--- The columns of an entry that statistics are asked for.
+-- Statistics are asked for the joined columns of an entry, which are the columns that equalities name. If an entry has no joined column, they are asked for
+-- a column that no table has.
 use Rattle.std.proofs.Common.{◌≡◌, ◌⊎◌, ℕ, ◌+◌, ◌<◌, Bool, true, false, not, ◌&&◌, cond, eqb, List, [], ◌∷◌, ◌++◌, map, length, take, get_or, Some, refl, ap, sym, ◌∙◌, subst, inl, inr, arith}
 use Rattle.std.specs.Prelude.{if◌then◌else◌}
 use Rattle.std.specs.List.{All, Contains, filter}
@@ -28,7 +29,7 @@ use Rattle.sql_meaning.specs.Databases.{IsAskable, IsColumnOf, IsDatabaseOf, IsC
 use Rattle.sql_meaning.specs.Tables.{cells_of}
 use Rattle.gathered_stats.specs.Asked.{asked_columns, joined_columns, no_column, or_no_column, with_place}
 
--- ---- one place more
+-- ---- the loop over equalities: the columns of both places are added
 
 abbrev is_of : ℕ → Place → Bool
 is_of entry p = eqb p.entry entry
@@ -64,7 +65,7 @@ pair_more entry es items i d old mid new is low before first second =
     let one : mid ≡ different (columns_at entry (places ++ left ∷ [])) = first ∙ ap (λ (s : List ℕ). with_place entry s left) before ∙ one_more entry places left in
     second ∙ ap (λ (s : List ℕ). with_place entry s right) one ∙ one_more entry (places ++ left ∷ []) right ∙ ap (λ (s : List Place). different (columns_at entry s)) (sym (places_more es items i d is low))
 
--- ---- which they are
+-- ---- which columns are joined columns
 
 in_different : (L : List ℕ) (x : ℕ) → Contains L x → Contains (different L) x
 in_different [] x k = absurd (in_none x k)
@@ -89,7 +90,6 @@ or_more : (L : List ℕ) (x : ℕ) → Contains L x → Contains (or_no_column L
 or_more [] x k = absurd (in_none x k)
 or_more (y ∷ L) x k = k
 
--- each column of an entry that an equality names is one of its joined columns, and so it is asked for
 pub place_joined : (es : List Edge) (p : Place) → Contains (places_of es) p → Contains (joined_columns p.entry es) p.column
 place_joined es p k =
     in_different (columns_at p.entry (places_of es)) p.column
@@ -98,7 +98,6 @@ place_joined es p k =
 pub place_asked : (es : List Edge) (p : Place) → Contains (places_of es) p → Contains (asked_columns p.entry es) p.column
 place_asked es p k = or_more (joined_columns p.entry es) p.column (place_joined es p k)
 
--- a joined column is one that an equality names
 pub joined_place : (entry : ℕ) (es : List Edge) (column : ℕ) → Contains (joined_columns entry es) column
     → (p : Place) × Contains (places_of es) p × (p.entry ≡ entry) × (column ≡ p.column)
 joined_place entry es column k =
@@ -107,7 +106,6 @@ joined_place entry es column k =
     let kept : Contains (places_of es) at.0 × (is_of entry at.0 ≡ true) = from_filter (is_of entry) (places_of es) at.0 at.1 in
     (at.0, kept.0, eqb-true at.0.entry entry kept.1, at.2)
 
--- a column that is asked for is a joined one, or one that no table has
 pub asked_place : (entry : ℕ) (es : List Edge) (column : ℕ) → Contains (asked_columns entry es) column
     → ((p : Place) × Contains (places_of es) p × (p.entry ≡ entry) × (column ≡ p.column)) ⊎ (column ≡ no_column)
 asked_place entry es column k = by (joined_columns entry es) refl k
@@ -124,7 +122,7 @@ some_asked entry es = by (joined_columns entry es)
     by [] = omega arith
     by (c ∷ L) = omega arith
 
--- ---- that they exist
+-- ---- joined columns exist in their tables
 
 edge_of : (es : List Edge) (p : Place) → Contains (places_of es) p → (e : Edge) × Contains es e × ((p ≡ e.left) ⊎ (p ≡ e.right))
 edge_of [] p k = absurd (in_none p k)
@@ -151,7 +149,6 @@ place_exists query db of p k =
       | inr is ↦ subst (λ (q : Place). IsColumnOf db (ref_of q)) (sym (is ∙ ap (λ (e : Edge). e.right) j.joins)) can.right_kind.exists
     ]
 
--- each joined column is one of the entry's table
 pub joined_exist : (query : Query) (db : Database) → IsDatabaseOf query db → (entry : ℕ)
     → All (λ column. column < length (cells_of db entry).kinds) (joined_columns entry (equalities_of query))
 joined_exist query db of entry i d low =

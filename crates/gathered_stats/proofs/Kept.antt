@@ -1,4 +1,4 @@
--- Rest lists that are kept, and the values that have them.
+-- Rest lists are kept between steps. Each kept list stays the rest list of its column, and a value that isn't frequent has this list.
 use Rattle.std.proofs.Common.{◌≡◌, ℕ, Bool, true, false, eqb, List, [], ◌∷◌, ◌++◌, length, Option, Some, None, refl, sym, ap, ◌∙◌, subst}
 use Rattle.std.specs.Prelude.{if◌then◌else◌}
 use Rattle.std.specs.List.{All, list_any, zip}
@@ -18,13 +18,11 @@ module _ (table : EntryTable) (keys : List ℕ) (column : ℕ) (sorted : CellCol
   rest_made : rest table.accuracy (zip sorted.cells keys) ≡ rest_in table keys column
   rest_made = ap (λ (s : CellColumn). rest table.accuracy (zip s.cells keys)) is.is
 
-  -- one more list is kept
   pub one_kept : (list : List ℕ) (old new : List RestList) → list ≡ rest table.accuracy (zip sorted.cells keys)
       → is_kept old column ≡ false → new ≡ old ++ (record { column = column; list = list }) ∷ [] → new ≡ with_rest table keys column old
   one_kept list old new made missing pushed =
       pushed ∙ ap (λ (l : List ℕ). old ++ (record { column = column; list = l }) ∷ []) (made ∙ rest_made) ∙ rw missing refl
 
-  -- a value that isn't frequent has the rest list
   pub rest_of_value : (cell : Option ℕ) (list : List ℕ) → length keys ≡ length sorted.cells → among_frequent sorted.cells cell ≡ false
       → list ≡ rest_in table keys column → list ≡ list_of_value table.accuracy (zip sorted.cells keys) cell
   rest_of_value None list same other made = made ∙ sym rest_made ∙ sym (of_none table.accuracy (zip sorted.cells keys))
@@ -33,7 +31,6 @@ module _ (table : EntryTable) (keys : List ℕ) (column : ℕ) (sorted : CellCol
       ∙ sym (of_others table.accuracy (zip sorted.cells keys) v
       (ap (λ (s : List ℕ). list_any (λ value. eqb value v) (frequent s)) (filter_values-zip sorted.cells keys same) ∙ other))
 
--- what is kept stays what it is
 pub all_kept : (table : EntryTable) (keys : List ℕ) (column : ℕ) (old new : List RestList) → new ≡ with_rest table keys column old
     → All (IsRestOf table keys) old → All (IsRestOf table keys) new
 all_kept table keys column old new is before = subst (λ (s : List RestList). All (IsRestOf table keys) s) (sym is) (by (is_kept old column))

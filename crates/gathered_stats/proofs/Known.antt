@@ -35,7 +35,7 @@ use Rattle.filtered_lists.proofs.Passing.{joined_parts, front_part, back_part}
 use Rattle.filtered_lists.proofs.Counting.{all_entry}
 use Rattle.gathered_stats.specs.Asked.{AsksWithin}
 
--- ---- answers
+-- ---- answers that are steps
 
 module _ (cells : Cells) where
   abbrev Exists : ℕ → Type 0
@@ -44,7 +44,6 @@ module _ (cells : Cells) where
   abbrev AskWithin : List Step → Type 0
   AskWithin steps = AllByRecursion (AsksWithin cells) steps
 
-  -- its ranges are of columns that exist, and its steps ask for such columns
   pub record IsWithin (c : Conjunction (List Step)) : Type 0 where
     pub ranges : AllByRecursion (λ range. Exists range.column) c.ranges
     pub others : AllByRecursion AskWithin c.others
@@ -121,7 +120,8 @@ module _ (db : Database) (entry : ℕ) where
   abbrev AreOwn : List ℕ → Type 0
   AreOwn named = AllByRecursion (λ e. e ≡ entry) named
 
-  -- where it can be asked of the database, and names this entry alone
+  -- the induction over conditions proves this: if the condition can be asked of the database and names this entry alone, its steps ask for columns that
+  -- exist
   abbrev IsKnown : Cond → Type 0
   IsKnown c = IsAskable db c → AreOwn (entries_named c) → (holds : Bool) → IsIn (conjunction_of step_answers c holds)
 

@@ -1,4 +1,4 @@
--- A column that a table hasn't: all rows have one value there, and one key.
+-- In a column that a table doesn't have, all rows have the same value, and so the same key.
 use Rattle.std.proofs.Common.{◌≡◌, ℕ, zero, suc, ◌+◌, ◌<◌, ◌≤◌, pos, List, [], ◌∷◌, map, length, get_or, replicate, refl, ap, sym, subst, ◌∙◌, inl, inr, arith}
 use Rattle.std.specs.List.{All, range_with_len}
 use Rattle.std.proofs.lemmas.List.{get_or_past, length-replicate}
@@ -37,7 +37,7 @@ rows_width texts kinds columns zero = All-nil (λ (r : Row). length r ≤ length
 rows_width texts kinds columns (suc n) =
     All-push (λ (r : Row). length r ≤ length kinds) (rows_of_columns texts kinds columns n) (row_of_columns texts kinds columns n) (rows_width texts kinds columns n) (row_width texts kinds columns n)
 
--- ---- one value, and one key
+-- ---- all rows have the same value and the same key
 
 alike_rows : {Y : Type 0} (f : ℕ → Y) (v : Y) (a n : ℕ) → ((row : ℕ) → f row ≡ v) → map f (range_with_len a n) ≡ replicate n v
 alike_rows f v a zero h = refl

@@ -1,4 +1,4 @@
--- Filter columns at rows, one after another, and sorted.
+-- Filter columns are picked with their cells at some rows, one column after another, and then sorted.
 use Rattle.std.proofs.Common.{◌≡◌, ℕ, ◌+◌, ◌<◌, true, eqb, List, [], ◌∷◌, ◌++◌, length, map, get_or, take, Option, None, Some, slice_get, refl, ap, sym, ◌∙◌, subst, arith}
 use Rattle.std.specs.Prelude.{IfOk, IfSome, ◌||◌, Bool, Result, Ok, Err}
 use Rattle.std.specs.List.{All, list_any, range_with_len}
@@ -39,7 +39,6 @@ module _ (texts : List (List ℕ)) (cells : Cells) (are : AreCells texts cells) 
   whole_column : (column : ℕ) → column < length cells.kinds → IsColumn texts cells.rows (kind_in cells column) (cells_in cells column)
   whole_column column exists = column_at texts cells.rows cells.kinds cells.columns are column kind.Int [] exists
 
-  -- rows of the table are rows of a column as it is read
   pub rows_read : (column : ℕ) (items read : List ℕ) → column < length cells.kinds → slice_get cells.columns column ≡ Some items → read ≡ items → All (λ row. row < length read) rows
   rows_read column items read exists there same =
       subst (λ (n : ℕ). All (λ row. row < n) rows)
@@ -83,9 +82,8 @@ module _ (texts : List (List ℕ)) (cells : Cells) (are : AreCells texts cells) 
 pub one_more : {X : Type 0} (P : X → Type 0) (old new : List X) (one : X) → All P old → P one → new ≡ old ++ one ∷ [] → All P new
 one_more P old new one all here pushed = subst (All P) (sym pushed) (All-push P old one all here)
 
--- ---- steps that are served
+-- ---- the column of each step is among the picked columns, and then among the sorted columns
 
--- a step whose column is there already
 pub served_already : (columns read : List PickedColumn) (step : Step) (found : Option ℕ) (column : ℕ) → read ≡ columns → found ≡ column_asked step → found ≡ Some column
     → list_any (λ other. eqb other.column column) read ≡ true → ServeColumns columns step
 served_already columns read step found column same asked is there =
@@ -127,7 +125,7 @@ one_sorted columns i one old new filter low at before is pushed =
     ∙ ap (λ (n : ℕ). map (λ (one : PickedColumn). one.column) (take i columns) ++ n ∷ []) (is ∙ ap (λ (one : PickedColumn). one.column) at)
     ∙ sym (ap (map (λ (one : PickedColumn). one.column)) (take_more columns i one low) ∙ map-append (λ (one : PickedColumn). one.column) (take i columns) (get_or columns i one ∷ []))
 
--- ---- the steps of a column beside
+-- ---- the steps for one column of the other entry
 
 pub steps_beside : (texts : List (List ℕ)) (cells : Cells) (accuracy : ℕ) (beside : Cells) (rows : List ℕ) (steps : List Step) (gathered : ColumnSteps) (column : ℕ) (items read keys : List ℕ)
     → slice_get beside.columns column ≡ Some items → read ≡ items → keys ≡ picked rows read → gathered.column ≡ column
@@ -138,13 +136,11 @@ steps_beside texts cells accuracy beside rows steps gathered column items read k
     is : keys ≡ picked rows (cells_in beside gathered.column)
     is = made ∙ ap (picked rows) (same ∙ sym (get_or_from_slice_get beside.columns column items [] there)) ∙ ap (λ (n : ℕ). picked rows (cells_in beside n)) (sym number)
 
--- one row more, whose number is its place
 pub row_more : (rows : List ℕ) (at : ℕ) → at < length rows → get_or rows at 0 ≡ at → take at rows ≡ range_with_len 0 at → take (at + 1) rows ≡ range_with_len 0 (at + 1)
 row_more rows at low is before =
     let more : range_with_len 0 (at + 1) ≡ range_with_len 0 at ++ at ∷ [] = simp map-id at (map-range_with_len_more (λ (x : ℕ). x) 0 at at (omega arith)) in
     take_more rows at 0 low ∙ ap (λ (s : List ℕ). s ++ get_or rows at 0 ∷ []) before ∙ ap (λ (n : ℕ). range_with_len 0 at ++ n ∷ []) is ∙ sym more
 
--- all rows of a column have its cells
 pub all_picked : (rows read : List ℕ) → rows ≡ range_with_len 0 (length read) → read ≡ picked rows read
 all_picked rows read all =
     fill_by_all (λ (k : ℕ). get_or read k 0) read (length read) 0 refl (λ k low. refl) ∙ ap (λ (s : List ℕ). picked s read) (sym all)
@@ -157,7 +153,7 @@ column_beside (Ok gathered) texts cells accuracy beside rows steps column items 
     steps_beside texts cells accuracy beside rows steps gathered column items read keys there same made number each
 column_beside (Err e) texts cells accuracy beside rows steps column items read keys there same made number each = tt
 
--- ---- all columns beside
+-- ---- the steps for all joined columns of the other entry
 
 pub beside_gathered : (query : Query) (db : Database) (accuracy entry : ℕ) (rows : List ℕ) (other : ℕ) (other_rows : List ℕ) (cells beside : Cells) (es es_read : List Edge)
     (columns columns_read : List ℕ) (steps read : List Step) (stats : EntryStats) → cells ≡ cells_of db entry → beside ≡ cells_of db other → es ≡ equalities_of query → es_read ≡ es

@@ -1,4 +1,4 @@
--- A table's cells at rows.
+-- `seen` gives the cells that an entry's table shows: the cells of all its rows, or the cells at given rows.
 use Rattle.std.proofs.Common.{◌≡◌, ℕ, ◌<◌, Bool, true, false, cond, List, [], ◌∷◌, length, map, get_or, refl, ap, sym, subst, arith}
 use Rattle.std.specs.List.{All}
 use Rattle.std.proofs.lemmas.List.{get_or-map, length-map}
@@ -9,7 +9,6 @@ use Rattle.sql_meaning.specs.Databases.{AreCells}
 use Rattle.gathered_stats.specs.declared.entry_table.EntryTable.{EntryTable}
 use Rattle.gathered_stats.specs.Seen.{AreRowNumbersOf, cells_at, picked, seen}
 
--- rows have the kinds of their table
 pub seen_kinds : (table : EntryTable) → (seen table).kinds ≡ table.cells.now.kinds
 seen_kinds table = by table.whole
   where
@@ -17,14 +16,13 @@ seen_kinds table = by table.whole
     by true = refl
     by false = refl
 
--- a whole table shows its own cells
 pub whole_seen : (table : EntryTable) → table.whole ≡ true → seen table ≡ table.cells.now
 whole_seen table whole = ap (λ (b : Bool). cond b table.cells.now (cells_at table.rows.now table.cells.now)) whole
 
 pub rows_seen : (table : EntryTable) → table.whole ≡ false → seen table ≡ cells_at table.rows.now table.cells.now
 rows_seen table rows = ap (λ (b : Bool). cond b table.cells.now (cells_at table.rows.now table.cells.now)) rows
 
--- ---- cells at rows are in order
+-- ---- the cells at given rows are cells of their columns' kinds
 
 pub picked_cells : (texts : List (List ℕ)) (kind : Kind) (column : List ℕ) → All (IsCell texts kind) column → (rows : List ℕ) → All (λ row. row < length column) rows
     → All (IsCell texts kind) (picked rows column)

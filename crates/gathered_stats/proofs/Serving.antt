@@ -1,4 +1,4 @@
--- Filter columns for steps.
+-- The column of each step is among the filter columns (`Serve`).
 use Rattle.std.proofs.Common.{◌≡◌, ℕ, ◌+◌, ◌<◌, ◌≤◌, List, length, take, get_or, subst}
 use Rattle.std.specs.List.{All}
 use Rattle.std.proofs.lemmas.List.{take_all}
@@ -7,7 +7,7 @@ use Rattle.predicate_bounds.specs.declared.steps.Step.{Step}
 use Rattle.gathered_stats.specs.declared.filters.Filter.{Filter}
 use Rattle.gathered_stats.specs.Filters.{Serve}
 
--- ---- what holds along a list
+-- ---- what is true of each item of a list, item by item
 
 module _ {X : Type 0} (P : X → Type 0) where
   pub one_item_more : (xs : List X) (i : ℕ) (x : X) → i < length xs → x ≡ get_or xs i x → All P (take i xs) → P x → All P (take (i + 1) xs)
@@ -16,7 +16,7 @@ module _ {X : Type 0} (P : X → Type 0) where
   pub all_items : (xs : List X) (i : ℕ) → length xs ≤ i → All P (take i xs) → All P xs
   all_items xs i end all = subst (All P) (take_all i xs end) all
 
--- ---- one step more
+-- ---- one more step is served
 
 pub serve_all : (old new : List Filter) (steps : List Step) (i : ℕ) (step : Step) → i < length steps → step ≡ get_or steps i step
     → ((other : Step) → Serve old other → Serve new other) → Serve new step → All (Serve old) (take i steps) → All (Serve new) (take (i + 1) steps)

@@ -43,6 +43,5 @@ module _ (k : ℕ) (rows : List (ℕ × ℕ)) where
         as_many,
       )
 
--- the rows of two columns
 pub zipped_within : (filter keys : List ℕ) (n : ℕ) → length keys ≤ n → length (zip filter keys) ≤ n
 zipped_within filter keys n h = omega (arith, length-zip filter keys, h)

@@ -1,4 +1,4 @@
--- What stands for a literal in a column of cells.
+-- These lemmas say which cell a literal has in a column. A text's cell is its number in the pool, and a text that isn't in the pool has no cell.
 use Rattle.std.proofs.Common.{◌≡◌, ℕ, zero, suc, ◌+◌, ◌<◌, Bool, false, List, [], ◌∷◌, length, get_or, None, Some, ap, sym, ◌∙◌, inl, inr, arith}
 use Rattle.std.specs.Prelude.{All, position}
 use Rattle.std.specs.Cmp.Lexicographic.{slice_cmp}
@@ -15,7 +15,7 @@ use Rattle.schema_types.specs.declared.types.Kind.TheVariants as kind
 use Rattle.csv_tables.specs.Values.{Text}
 use Rattle.table_stats.specs.Cells.{IsCellFor}
 
--- ---- the place of a text
+-- ---- the place that `position` finds
 
 module _ {X : Type 0} (p : X → Bool) (d : X) where
   passed : (xs : List X) (k : ℕ) → k < position_or_len p xs → p (get_or xs k d) ≡ false
@@ -40,7 +40,6 @@ module _ {X : Type 0} (p : X → Bool) (d : X) where
 same_chars : (a b : List ℕ) → is_eq (slice_cmp nat_cmp (chars a) (chars b)) ≡ bytes_eq (chars a) (chars b)
 same_chars a b = is_eq-slice_cmp (chars a) (chars b)
 
--- a text has its cell
 pub found_stands : (texts : List (List ℕ)) (most : ℕ) (text : List ℕ) (cell : ℕ) → position (bytes_eq text) texts ≡ Some cell
     → IsCellFor texts (kind.Text most) (Text text) (Some cell)
 found_stands texts most text cell h =
@@ -48,7 +47,6 @@ found_stands texts most text cell h =
     let is : text ≡ get_or texts cell [] = (bytes_eq-Decides text (get_or texts cell [])).0 at.1 in
     (at.0, same_chars (get_or texts cell []) text ∙ (bytes_eq-Decides (chars (get_or texts cell [])) (chars text)).1 (ap chars (sym is)))
 
--- a text that the pool hasn't has none
 pub absent_stands : (texts : List (List ℕ)) (most : ℕ) (text : List ℕ) → All IsUtf8 texts → IsUtf8 text → position (bytes_eq text) texts ≡ None
     → IsCellFor texts (kind.Text most) (Text text) None
 absent_stands texts most text utf8 own h = λ cell low.

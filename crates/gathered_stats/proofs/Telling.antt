@@ -1,4 +1,4 @@
--- What is gathered for each entry tells the statistics of the tables.
+-- The statistics that are gathered for all entries are the statistics of the tables (`statistics_of`).
 use Rattle.std.proofs.Common.{◌≡◌, ℕ, zero, suc, ◌<◌, eqb, List, [], ◌∷◌, map, length, get_or, replicate, Some, option_map, slice_get, find, refl, ap, sym, ◌∙◌, subst, inl, inr, arith}
 use Rattle.std.specs.List.{All, AllByRecursion, Contains}
 use Rattle.std.proofs.lemmas.List.{length-map}
@@ -32,7 +32,7 @@ use Rattle.gathered_stats.specs.Statistics.{statistics_of}
 use Rattle.gathered_stats.proofs.Joined.{asked_place, place_asked, place_exists, some_asked}
 use Rattle.gathered_stats.proofs.MissingColumns.{missing_lists}
 
--- ---- the first of some, and the one of a column
+-- ---- looking up the steps that were gathered for a column
 
 pub found_one : (P : ColumnSteps → Type 0) (columns : List ColumnSteps) (x : ℕ) → Contains (map (λ g. g.column) columns) x → All P columns
     → (g : ColumnSteps) × (find (λ g. eqb g.column x) columns ≡ Some g) × (g.column ≡ x) × P g
@@ -106,7 +106,6 @@ module _ (query : Query) (db : Database) (accuracy : ℕ) (of : IsDatabaseOf que
       same_ref : (a b c d : ℕ) → a ≡ c → b ≡ d → (let r : ColumnRef = record { from = a; column = b } in r) ≡ record { from = c; column = d }
       same_ref a b c d h k = rw (h, k) refl
 
-  -- each column of an entry's table has its lists
   pub columns_have : (entry : ℕ) (cells : Cells) → entry < length query.from → cells ≡ cells_of db entry → (column : ℕ) → column < length cells.kinds → KeysHaveLists db.pool cells accuracy column
   columns_have entry cells low is column exists =
       let named : IsColumnOf db (record { from = entry; column = column }) =
@@ -114,7 +113,7 @@ module _ (query : Query) (db : Database) (accuracy : ℕ) (of : IsDatabaseOf que
       subst (λ (t : Cells). KeysHaveLists db.pool t accuracy column) (sym is)
       (column_lists (tables_of db) accuracy entry column, of_column (record { from = entry; column = column }) named (cells_there entry low))
 
-  -- ---- what is told
+  -- ---- the statistics of each entry, and of each joined column
 
   module _ (sums : (entry column : ℕ) → SumTo (column_lists (tables_of db) accuracy entry column) (entry_counts (tables_of db) entry))
       (stats : QueryStats) (gathered : (entry : ℕ) → entry < length query.from → IsGathered query db accuracy entry (get_or stats.entries entry no_columns)) where

@@ -1,4 +1,4 @@
--- The list of all rows among the steps of its column.
+-- Among the steps of a column, the list of all rows is the compressed degree list of the column's keys. It sums to at most 2^32.
 use Rattle.std.proofs.Common.{◌≡◌, ℕ, ◌<◌, ◌≤◌, ◌^◌, List, map, length, get_or, sum, ap, sym, ◌∙◌, subst, arith}
 use Rattle.std.specs.List.{All}
 use Rattle.csv_tables.specs.declared.types.Cells.{Cells}
@@ -11,7 +11,6 @@ use Rattle.predicate_bounds.specs.ListRuns.{listed}
 use Rattle.gathered_stats.specs.Asked.{AreStepsOf}
 use Rattle.gathered_stats.specs.Columns.{KeysHaveLists, HaveLists, keys_in}
 
--- a list that is the one of all rows wherever a column's steps have their lists is that of the column's keys
 pub column_whole : (texts : List (List ℕ)) (cells : Cells) (accuracy column : ℕ) (steps : List Step) (columns read : List ColumnSteps) (i : ℕ) (gathered : ColumnSteps) (list : List ℕ)
     → read ≡ columns → i < length read → gathered ≡ get_or read i gathered → gathered.column ≡ column
     → ((lists : ColumnLists) → gathered.steps ≡ map (listed lists) steps → list ≡ lists.whole)
@@ -21,7 +20,6 @@ column_whole texts cells accuracy column steps columns read i gathered list same
     subst (AreStepsOf texts cells accuracy steps) (sym at) (subst (All (AreStepsOf texts cells accuracy steps)) (sym same) all i gathered low) in
     whole has.0 (mine has.0 (subst (λ (c : ℕ). HaveLists texts cells accuracy (keys_in cells c) has.0) (sym named) has.1)) ∙ sym has.1.whole
 
--- and has no more rows than their table
 pub whole_small : (accuracy n : ℕ) (keys read list : List ℕ) → read ≡ keys → length read ≡ n → n < 2 ^ 32 → list ≡ compressed_degrees accuracy keys → sum list ≤ 2 ^ 32
 whole_small accuracy n keys read list same tall small made =
     omega (arith, ap sum made, sum-compressed_degrees accuracy keys, ap (λ (s : List ℕ). length s) same, tall, small)

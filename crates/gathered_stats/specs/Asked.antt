@@ -1,4 +1,5 @@
--- What is asked of an entry's table: its joined columns, and the columns that steps compare with literals.
+-- What is asked of an entry's table: its joined columns, and the columns that steps compare with literals. A step is a comparison of an own
+-- conjunct, an AND or an OR (`predicate_bounds`).
 use Rattle.std.specs.Prelude.{◌≡◌, ℕ, Bool, true, false, ◌==◌, ◌<◌, ◌^◌, ◌&&◌, not, if◌then◌else◌, slice_index_or}
 use Rattle.std.specs.Prelude.{All, List, [], ◌∷◌, ◌++◌, map, length, Option, None, Some, IfSome}
 use Rattle.std.specs.List.{filter, list_any}
@@ -36,11 +37,11 @@ abbrev pub or_no_column : List ℕ → List ℕ
 or_no_column [] = no_column ∷ []
 or_no_column (column ∷ columns) = column ∷ columns
 
--- an entry's joined columns; if it joins no column, the missing column, over which its row bound is the same as over any other
+-- an entry's joined columns; if it joins no column, the missing column, over which its row bound is the same as over any other column
 abbrev pub asked_columns : ℕ → List Edge → List ℕ
 asked_columns entry es = or_no_column (joined_columns entry es)
 
--- the columns, with the place's column added at the end if the place is of the entry and the column isn't there yet
+-- the columns, with the place's column added at the end if the place is of the entry and the column isn't among the columns yet
 abbrev pub with_place : ℕ → List ℕ → Place → List ℕ
 with_place entry columns place = if place.entry == entry && not (list_any (λ column. place.column == column) columns)
     then columns ++ place.column ∷ [] else columns
@@ -65,11 +66,11 @@ is_whole step.And = false
 is_whole step.Nothing = false
 is_whole step.Or = false
 
--- the column that a step asks for, if it asks for one, is one of the table's
+-- if the step asks for a column, the column is a column of the table
 abbrev pub AsksWithin : Cells → Step → Type 0
 AsksWithin cells step = IfSome (column_asked step) (λ column. column < length cells.kinds)
 
--- ---- the answer
+-- ---- what is gathered for columns and entries
 
 -- what is gathered for a column has these steps, each with its list from the lists of the column's keys
 abbrev pub AreStepsOf : List (List ℕ) → Cells → ℕ → List Step → ColumnSteps → Type 0

@@ -1,4 +1,5 @@
--- Filter columns at some rows of their table, and what is gathered for columns of other cells that stand beside these rows.
+-- Filter columns at some rows of their table, and what is gathered for columns of another entry whose rows stand beside these rows: rows with the
+-- same index are paired.
 use Rattle.std.specs.Prelude.{◌≡◌, ℕ, ◌==◌, ◌<◌, true, List, All, IfSome, length, map}
 use Rattle.std.specs.List.{list_any}
 use Rattle.csv_tables.specs.declared.types.Cells.{Cells}
@@ -28,7 +29,7 @@ pub record IsPicked (cells : Cells) (rows : List ℕ) (column : ℕ) (one : Pick
 abbrev pub ArePicked : Cells → List ℕ → List PickedColumn → Type 0
 ArePicked cells rows columns = All (λ one. IsPicked cells rows one.column one) columns
 
--- the column that a step asks for, if it asks for one, is among these columns
+-- if the step asks for a column, the column is among these columns
 abbrev pub ServeColumns : List PickedColumn → Step → Type 0
 ServeColumns columns step = IfSome (column_asked step) (λ column. list_any (λ other. other.column == column) columns ≡ true)
 

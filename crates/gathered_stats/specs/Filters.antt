@@ -25,7 +25,7 @@ IsFilterOf texts cells filter = IsColumnIn texts cells filter.column filter.sort
 abbrev pub is_sorted : List Filter → ℕ → Bool
 is_sorted filters column = list_any (λ filter. filter.column == column) filters
 
--- some filter is of the column that the step asks for, if it asks for one
+-- if the step asks for a column, some filter is of this column
 abbrev pub Serve : List Filter → Step → Type 0
 Serve filters step = IfSome (column_asked step) (λ column. is_sorted filters column ≡ true)
 

@@ -1,4 +1,5 @@
-//! Gathers the steps of an entry's own conjuncts over rows of its table, for the columns of another entry whose rows stand beside these.
+//! Gathers the steps of an entry's own conjuncts over rows of its table, for the columns of another entry. Each of these rows is paired with a row
+//! of the other entry: its row stands beside this row.
 ghost use Rattle.std.specs.Prelude.{◌≡◌, ℕ, ◌==◌, ◌<◌, ◌^◌, All, length, map, slice_index, true, false, IfOk, IfSome, OnOk};
 ghost use Rattle.std.specs.List.{list_any, range_with_len};
 ghost use Rattle.join_graph.specs.Conjuncts.{equalities_of, local_of};
@@ -78,7 +79,7 @@ fn pick(
     })
 }
 
-// Adds the column that a step compares with literals, at these rows, if the step has such a column and it isn't there yet.
+// Adds the column that a step compares with literals, at these rows, if the step has such a column and it isn't in `columns` yet.
 fn add_picked(
     alloc: Global,
     pool: &Pool,
@@ -151,8 +152,8 @@ fn sorted_columns<'a>(
     Ok(filters)
 }
 
-/// Rows of an entry's table, and beside each of them a row of another entry's table. `other_stats` has what was gathered over all rows of the
-/// other table.
+/// Rows of an entry's table, and the rows of another entry's table that stand beside them: both lists have the paired rows at the same index.
+/// `other_stats` has what was gathered over all rows of the other table.
 #[derive(Clone, Copy)]
 pub struct Beside<'a> {
     pub entry: u8,
@@ -177,8 +178,8 @@ fn is_each_row(rows: &[u32], count: usize) -> bool
     true
 }
 
-// The steps of a joined column of the other entry. If `rows` are all rows of its table in order, no cell is copied, and the list of all rows is
-// `whole` if that is given.
+// Each step with its list, for a joined column of the other entry. If `rows` are all rows of the other entry's table in order, no cell is copied;
+// then `whole`, if it is given, is the list of all rows.
 fn gather_other(
     alloc: Global,
     table: &EntryTable<'_>,
@@ -210,7 +211,7 @@ fn gather_other(
     table.list_steps(alloc, keys.as_slice(), column, steps)
 }
 
-// The steps of each joined column of the other entry.
+// Each step with its list, for each joined column of the other entry.
 fn gather_others(
     alloc: Global,
     table: &EntryTable<'_>,
@@ -240,12 +241,12 @@ fn gather_others(
     Ok(EntryStats { columns: gathered })
 }
 
-/// Gathers the steps of an entry's own conjuncts over rows of its table, each step with its list, for each joined column of another entry. The
-/// other entry's rows stand beside these rows (SafeBound, SIGMOD 2023: the statistics of a dimension's filters for the columns of a fact
+/// Gathers the steps of an entry's own conjuncts over rows of its table, each step with its list, for each joined column of another entry. Each of
+/// these rows is paired with a row of the other entry (SafeBound, SIGMOD 2023: the statistics of a dimension's filters for the columns of a fact
 /// table).
 ///
-/// `parts` is what `split` gives for the query. Only cells of the columns that are asked for are copied. If the other entry's rows are all rows
-/// of its table in order, its lists of all rows are taken from `other_stats`, where it has them.
+/// `parts` is what `split` gives for the query. Only cells of the columns that are asked for are copied. If the other entry's rows are all rows of
+/// its table in order, the lists of all rows are taken from `other_stats`, if they are there.
 pub fn gather_beside(
     alloc: Global,
     query: &Query,

@@ -15,7 +15,8 @@ fn has(columns: &[u32], column: u32) -> bool
     columns.iter().any(|other| column == *other)
 }
 
-// Adds a place's column at the end of the list, if the place is in this entry and the column isn't there yet.
+// Adds the column of `place` at the end of the list, if the place is of this entry and the column isn't in the list yet. A place is an entry with
+// one of its columns.
 fn add(columns: &mut Seq<u32>, place: Place, entry: u8) -> Result<(), NoMemory>
     ensures { OnOk result (columns.new ≡ with_place entry columns.old place) }
 {
@@ -37,8 +38,8 @@ pub fn joined_columns(alloc: Global, equalities: &[Edge], entry: u8) -> Result<S
     Ok(columns)
 }
 
-/// The columns of an entry that equalities name, each once. If they name no column of the entry, the answer is one column that no table has.
-/// There all rows have the same key, so its list is made without a sort. The row bound is the same over every column.
+/// The columns of an entry that equalities name, each once. If they name no column of the entry, the answer is one column that no table has. In
+/// this column all rows have the same key, so its list is made without a sort. The row bound is the same over every column.
 pub fn asked_columns(alloc: Global, equalities: &[Edge], entry: u8) -> Result<Seq<u32>, NoMemory>
     ensures { IfOk result (λ columns. columns ≡ asked_columns entry equalities.now) }
 {

@@ -7,8 +7,8 @@ use base_io::Seq;
 use csv_tables::{Cells, Database, Pool};
 use limits::Accuracy;
 
-/// The table of a FROM entry, the columns that the entry's own conjuncts compare with literals, and the accuracy of lists. If `whole` is true,
-/// the table shows all its rows. Otherwise it shows only those whose numbers are in `rows`, in that order.
+/// The table of a FROM entry, the columns that the entry's own conjuncts compare with literals, and the accuracy of lists. If `whole` is true, the
+/// table shows all its rows. Otherwise it shows only the rows whose numbers are in `rows`, in the order of `rows`.
 #[derive(Drop)]
 pub(crate) struct EntryTable<'a> {
     pub pool: &'a Pool,

@@ -1,4 +1,5 @@
-//! The filter columns of an entry: those that its own conjuncts compare with literals, each sorted once.
+//! The filter columns of an entry: the columns that its own conjuncts compare with literals, each sorted once. A step is a comparison of an own
+//! conjunct, an AND or an OR (`predicate_bounds`).
 ghost use Rattle.std.specs.Prelude.{◌≡◌, ◌<◌, ℕ, List, All, length, true, IfOk, OnOk};
 ghost use Rattle.predicate_bounds.specs.declared.steps.Step.{Step};
 ghost use Rattle.sql_meaning.specs.Databases.{AreCells};
@@ -12,7 +13,7 @@ use csv_tables::{Cells, Pool};
 use predicate_bounds::Step;
 use std::alloc::Global;
 
-/// A sorted filter column. `column` is its number in its table.
+/// A sorted filter column. `column` is the column's number in its table.
 #[derive(Drop)]
 pub(crate) struct Filter<'a> {
     pub column: u32,
@@ -55,7 +56,7 @@ fn sorted<'a>(
     Ok(Filter { column, sorted })
 }
 
-// Adds the column that a step compares with literals, if the step has such a column and it isn't there yet.
+// Adds the column that a step compares with literals, if the step has such a column and it isn't in `filters` yet.
 fn add_filter<'a>(
     alloc: Global,
     pool: &'a Pool,

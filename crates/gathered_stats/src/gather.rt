@@ -52,7 +52,7 @@ fn gather_column(
     table.list_steps(alloc, keys.as_slice(), column, steps)
 }
 
-// The same for each of these columns, in their order.
+// Gathers the steps for each of these columns, in their order.
 fn gather_columns(
     alloc: Global,
     table: &EntryTable<'_>,
@@ -73,7 +73,8 @@ fn gather_columns(
     Ok(EntryStats { columns: gathered })
 }
 
-// The statistics of an entry: of each column that it joins. An entry that joins no column is asked for one that its table doesn't have.
+// The statistics of an entry: of each column that it joins. For an entry that joins no column, they are those of one column that its table doesn't
+// have.
 fn gather_entry(
     alloc: Global,
     query: &Query,
@@ -104,7 +105,7 @@ fn gather_entry(
     gather_columns(alloc, &table, steps, columns.as_slice())
 }
 
-/// No two texts of a pool have the same characters, so two texts are equal exactly if their cells are. The call changes nothing: proofs need
+/// No two texts of a pool have the same characters, so two texts are equal exactly if their cells are equal. The call changes nothing: proofs need
 /// its contract.
 pub fn characters_differ(pool: &Pool)
     ensures { HaveDifferentCharacters pool.now }
@@ -112,9 +113,9 @@ pub fn characters_differ(pool: &Pool)
     let _ = pool.len();
 }
 
-/// The statistics that the bounds of a query ask for (SafeBound, SIGMOD 2023): for each FROM entry and each column that it joins,
-/// the steps of the entry's own conjuncts, each with its list. `parts` is what `split` makes of the query. `accuracy` is that of compression:
-/// if it is larger, the lists are nearer to the degree sequences and have more runs. On `NoMemory` nothing is kept.
+/// The statistics that the bounds of a query ask for (SafeBound, SIGMOD 2023): for each FROM entry and each column that it joins, the steps of the
+/// entry's own conjuncts, each with its list. `parts` is what `split` makes of the query. `accuracy` is the accuracy of compression: if it is
+/// larger, the lists are nearer to the degree sequences and have more runs. On `NoMemory` nothing is kept.
 pub fn gather_query(
     alloc: Global,
     query: &Query,

@@ -1,14 +1,15 @@
 //! Gathers from a query's tables the statistics that its bounds ask for.
 //!
-//! This is the stage between the tables and the bounds. In: a query, its database and an accuracy. Out: for each FROM entry and each of its
-//! joined columns, the steps of the entry's own conjuncts, each with its list (SafeBound, SIGMOD 2023).
+//! This is the stage between the tables and the bounds. In: a query, its database and an accuracy. Out: for each FROM entry and each of its joined
+//! columns, the steps of the entry's own conjuncts, each with its list (SafeBound, SIGMOD 2023). Steps run over a stack: a comparison puts its
+//! list there, and AND and OR combine the two lists on top (`predicate_bounds`).
 //!
 //! A list is made only if a step asks for it. A filter column is sorted once for each entry; an entry without conditions sorts no column. The
 //! rest list of a filter column is made once for each joined column, if a value needs it, and copied for each further value.
 //!
-//! `gather_beside` is for conditions that are carried along a reference to a key. Each row of one entry stands beside the row of another entry
-//! to which it refers. The filter columns are those of the second entry, and the joined columns are those of the first. If the rows are all
-//! rows of the first entry's table, the list of all rows is taken from that entry's own steps where they have it.
+//! `gather_beside` is for conditions that are carried along a reference to a key. Each row of one entry is paired with the row of another entry to
+//! which it refers. The filter columns are those of the second entry, and the joined columns are those of the first. If the rows are all rows of
+//! the first entry's table, the list of all rows is taken from the first entry's own steps, if these have it.
 //!
 //! Callers cite `statistics_of` (in `specs/Statistics.antt`) for what the statistics tell, and `IsGatheredBeside` for what `gather_beside`
 //! gives.

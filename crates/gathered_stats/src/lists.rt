@@ -1,4 +1,5 @@
-//! Makes the list of each step, for the keys of one joined column.
+//! Makes the list of each step, for the keys of one joined column. A step is a comparison of an own conjunct, an AND or an OR
+//! (`predicate_bounds`).
 ghost use Rattle.std.specs.Prelude.{◌≡◌, ◌^◌, ◌≤◌, All, length, map, true, IfOk, IsTrue, OnOk, option_map};
 ghost use Rattle.std.specs.List.{list_any, sum, zip};
 ghost use Rattle.cond_stats.specs.Lists.{compressed_degrees, list_of_value};
@@ -61,7 +62,7 @@ impl EntryTable<'_> {
         Ok(copy)
     }
 
-    // The list for the value of a filter column that has this cell: its own list if it is frequent, else the rest list.
+    // The list for the value of a filter column that has this cell: the value's own list if the value is frequent, else the rest list.
     fn list_of_cell(
         &self,
         keys: &[u64],
@@ -107,7 +108,7 @@ impl EntryTable<'_> {
         self.list_of_cell(keys, column, sorted, cell, rests)
     }
 
-    // The list for the rows that have a value of a range in its filter column.
+    // The list for the rows whose value in the range's filter column lies in the range.
     fn list_within(&self, keys: &[u64], range: &Range) -> Result<Pieces, NoMemory>
         requires ready { IsReady self.now }
         requires keys { length keys.now ≡ (seen self.now).rows }
@@ -186,7 +187,7 @@ impl EntryTable<'_> {
         self.list_steps_over(alloc, keys, &whole, column, steps)
     }
 
-    /// As `list_steps`, where the caller has the list of all rows, `whole`.
+    /// As `list_steps`, but the caller has the list of all rows, `whole`.
     pub(crate) fn list_steps_over(
         &self,
         alloc: Global,

@@ -42,7 +42,7 @@ fn cell_of_text(pool: &Pool, kind: Kind, text: &str) -> Option<u64>
     }
 }
 
-/// The cell of a literal in a column of this kind, if it has one.
+/// The cell of a literal in a column of this kind, if the literal has a cell there.
 pub(crate) fn cell_of_literal(pool: &Pool, kind: Kind, literal: &Literal) -> Option<u64>
     ensures { IsCellFor pool.now kind (value_of literal.now) result }
 {

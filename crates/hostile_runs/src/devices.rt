@@ -187,8 +187,7 @@ fn is_unsaid(ran: &Ran, slowly: bool, k: u64) -> bool {
     }
 }
 
-// Calls of `out` fail one after another, until a run is done. Tells whether each run before that is cut, and whether there
-// is at least one.
+// Calls of `out` fail one after another, until a run is done. Tells whether each run before this run is cut, and whether there is such a run.
 fn rows_are_cut(alloc: Global, slowly: bool) -> Result<bool, NoMemory> {
     for k in 1u64..1000 {
         let ran = run(alloc, slowly, Failing { out: k, ..SOUND })?;
@@ -202,7 +201,7 @@ fn rows_are_cut(alloc: Global, slowly: bool) -> Result<bool, NoMemory> {
     Ok(false)
 }
 
-// As `rows_are_cut`, for calls of `notes`, which leave a front of the plan.
+// As `rows_are_cut`, for calls of `notes`, which leave the beginning of the plan.
 fn plans_are_unsaid(alloc: Global, slowly: bool) -> Result<bool, NoMemory> {
     for k in 1u64..1000 {
         let ran = run(alloc, slowly, Failing { notes: k, ..SOUND })?;

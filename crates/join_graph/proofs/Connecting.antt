@@ -1,4 +1,4 @@
--- Kept equalities, by connection and by the names of parts.
+-- Two ways to keep equalities agree: by which entries are connected, and by names of parts.
 use Rattle.std.proofs.Common.{◌≡◌, ◌⊎◌, ℕ, Bool, true, false, eqb, List, [], ◌∷◌, refl, ap, sym, ◌∙◌, inl, inr}
 use Rattle.std.specs.List.{AllByRecursion}
 use Rattle.std.proofs.lemmas.Bool.{cases_Bool, eqb-true, eqb-false, eq-eqb}
@@ -9,7 +9,7 @@ use Rattle.berge_tree.proofs.NoCycle.{apart_by}
 use Rattle.berge_tree.proofs.Tested.{joined_same, joined_ends}
 use Rattle.join_graph.specs.Kept.{AreConnected, KeepsAfter, at_end, keeps, leaves_out, kept_by_names}
 
--- two entries have one name exactly where equalities connect them
+-- two entries have the same name exactly if the equalities of `earlier` connect them
 pub record Tell (name : ℕ → ℕ) (earlier : List Edge) : Type 0 where
   pub along : AllByRecursion (λ e. name e.left.entry ≡ name e.right.entry) earlier
   pub parts : (side : ℕ → Bool) → AllByRecursion (λ e. side e.left.entry ≡ side e.right.entry) earlier → (x : ℕ) → side (name x) ≡ side x
@@ -17,7 +17,7 @@ pub record Tell (name : ℕ → ℕ) (earlier : List Edge) : Type 0 where
 pub own_names : Tell (λ x. x) []
 own_names = record { along = tt; parts = λ side all x. refl }
 
--- ---- one equality more
+-- ---- the names after one more equality
 
 joined_yes : (name : ℕ → ℕ) (a b x : ℕ) → eqb (name x) (name b) ≡ true → joined_parts name a b x ≡ name a
 joined_yes name a b x t = rw t refl
@@ -40,7 +40,7 @@ join_names name earlier e tell = record {
   ];
 }
 
--- ---- what names tell
+-- ---- entries with the same name are connected, and entries with different names are apart
 
 connects : (name : ℕ → ℕ) (earlier : List Edge) (a b : ℕ) → Tell name earlier → name a ≡ name b → AreConnected earlier a b
 connects name earlier a b tell is side all = sym (tell.parts side all a) ∙ ap side is ∙ tell.parts side all b
@@ -61,7 +61,7 @@ apart_names name earlier a b tell apart = elim (cases_Bool (eqb (name a) (name b
   | inr n ↦ n
 ]
 
--- ---- the two forms are one
+-- ---- the equalities that names compute are the kept ones
 
 pub keeps_computed : (name : ℕ → ℕ) (earlier es : List Edge) → Tell name earlier → KeepsAfter earlier es (kept_by_names name es)
 keeps_computed name earlier [] tell = at_end earlier
@@ -89,9 +89,8 @@ kept_joins name (e ∷ es) = elim (cases_Bool (eqb (name e.left.entry) (name e.r
   | inr n ↦ rw (n, n) (kept_joins (joined_parts name e.left.entry e.right.entry) es)
 ]
 
--- ---- apart or connected
+-- ---- two entries are apart or connected
 
--- the parts that equalities make
 abbrev parts_of : List Edge → ℕ → ℕ
 parts_of [] = λ x. x
 parts_of (e ∷ es) = joined_parts (parts_of es) e.left.entry e.right.entry

@@ -1,4 +1,4 @@
--- The conjuncts of a query over a schema name FROM entries alone.
+-- The conjuncts of a query over a schema name only FROM entries.
 use Rattle.std.proofs.Common.{◌<◌, length}
 use Rattle.std.proofs.lemmas.Option.{slice_get_within}
 use Rattle.schema_types.specs.declared.types.Schema.{Schema}

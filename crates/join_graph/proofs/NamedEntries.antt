@@ -1,4 +1,5 @@
--- What lists of entries name.
+-- `Named` says in short what a list of entries names: no entry, just one, or several. These lemmas compute it for lists that are appended, and for
+-- equalities.
 use Rattle.std.proofs.Common.{◌≡◌, ℕ, ◌+◌, ◌<◌, Bool, true, false, ◌&&◌, eqb, List, [], ◌∷◌, ◌++◌, map, length, get_or, drop, Some, None, refl, ap, sym, ◌∙◌, subst, inl, inr}
 use Rattle.std.specs.List.{flat_map, list_all}
 use Rattle.std.proofs.lemmas.Bool.{cases_Bool, eqb-true, eqb-false, eq-eqb, ne_eqb}
@@ -43,7 +44,7 @@ pub named_of-append : (xs ys : List ℕ) → named_of (xs ++ ys) ≡ together (n
 named_of-append [] ys = refl
 named_of-append (x ∷ xs) ys = ap (together (named.Just x)) (named_of-append xs ys) ∙ sym (assoc (named.Just x) (named_of xs) (named_of ys))
 
--- one member more
+-- This is the step of the loop over the members of AND or OR. `names` is what the members before i name.
 pub member_more : (members : List Cond) (i : ℕ) (d : Cond) (names more one : Named) → i < length members → one ≡ named_of (entries_named (get_or members i d)) → more ≡ together names one
     → together names (named_of (flat_map (λ inner. inner) (map entries_named (drop i members)))) ≡ named_of (flat_map (λ inner. inner) (map entries_named members))
     → together more (named_of (flat_map (λ inner. inner) (map entries_named (drop (i + 1) members)))) ≡ named_of (flat_map (λ inner. inner) (map entries_named members))
@@ -54,9 +55,8 @@ member_more members i d names more one h is is_more so_far =
     ∙ ap (together names) (sym (named_of-append (entries_named (get_or members i d)) (flat_map (λ inner. inner) (map entries_named rest))))
     ∙ ap (λ cs. together names (named_of (flat_map (λ inner. inner) (map entries_named cs)))) (sym front) ∙ so_far)
 
--- ---- just one entry
+-- ---- whether a list names just one entry
 
--- what a name in short tells of an entry
 abbrev pub tells_just : ℕ → Named → Bool
 tells_just entry named.Nothing = false
 tells_just entry (named.Just own) = eqb own entry
@@ -67,7 +67,6 @@ tells_one named.Nothing = false
 tells_one (named.Just own) = true
 tells_one named.Several = false
 
--- whether nothing but this entry is named
 abbrev tells_all : ℕ → Named → Bool
 tells_all entry named.Nothing = true
 tells_all entry (named.Just own) = eqb own entry
@@ -125,7 +124,7 @@ pub one_named : (xs : List ℕ) → are_one xs ≡ tells_one (named_of xs)
 one_named [] = refl
 one_named (x ∷ xs) = all_named x xs ∙ one_with x (named_of xs)
 
--- ---- an equality that joins two entries names several
+-- ---- an equality that joins two entries names several entries
 
 joins_several : (left right : Operand) (edge : Edge) → joining (column_of left) (column_of right) ≡ Some edge → named_of (entries_of_operand left ++ entries_of_operand right) ≡ named.Several
 joins_several (operand.Column left) (operand.Column right) edge e = elim (cases_Bool (eqb left.from right.from)) [
@@ -145,7 +144,6 @@ compares_several op.Le left right edge e = absurd (cc)
 compares_several op.Gt left right edge e = absurd (cc)
 compares_several op.Ge left right edge e = absurd (cc)
 
--- what out-Cond gives, put together, is the condition
 rolled_several : (layer : Cond-F Cond) (edge : Edge) → equality_in layer ≡ Some edge → named_of (entries_named (roll-Cond layer)) ≡ named.Several
 rolled_several (Cond-F.Compare op left right) edge e = ap named_of (fold-roll-Cond (List ℕ) entries_step (Cond-F.Compare op left right)) ∙ compares_several op left right edge e
 rolled_several (Cond-F.And members) edge e = absurd (cc)

@@ -1,4 +1,4 @@
--- What stands in a list of numbers of conjuncts.
+-- `numbers_where` lists a number exactly if the conjunct with this number passes the test.
 use Rattle.std.proofs.Common.{◌≡◌, ◌⊎◌, ℕ, zero, suc, ◌+◌, ◌-◌, ◌<◌, ◌≤◌, Bool, IsTrue, List, [], ◌∷◌, length, get_or, refl, subst, inl, inr, arith}
 use Rattle.std.specs.Prelude.{IsSomeAnd, slice_get}
 use Rattle.std.specs.List.{Contains}
@@ -13,7 +13,6 @@ first_or_later x y xs (suc k) h e = inr (k, omega arith, e)
 later : (x y : ℕ) (xs : List ℕ) → Contains xs y → Contains (x ∷ xs) y
 later x y xs c = let h : c.0 < length xs = c.1 in (suc c.0, omega arith, c.2)
 
--- the condition at a place passes the test
 abbrev PassesAt : (Cond → Bool) → List Cond → ℕ → Type 0
 PassesAt test conds k = IsSomeAnd (slice_get conds k) (λ cond. IsTrue (test cond))
 

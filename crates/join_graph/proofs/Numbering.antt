@@ -1,4 +1,4 @@
--- Numbers of conjuncts by their parts.
+-- The test `is_alike` picks the numbers of the conjuncts in each part. They are the numbers that `local_of` and `residual_of` list.
 use Rattle.std.proofs.Common.{◌≡◌, ℕ, suc, ◌+◌, ◌-◌, ◌<◌, Bool, not, ◌&&◌, cond, List, [], ◌∷◌, ◌++◌, map, length, Option, Some, None, is_none, refl, ap, sym, ◌∙◌, arith}
 use Rattle.std.specs.List.{filter_map, range_with_len}
 use Rattle.std.proofs.lemmas.List.{append_assoc}
@@ -17,7 +17,7 @@ use Rattle.join_graph.proofs.NamedEntries.{tells_just, tells_one, just_named, on
 range_front : (entry entries : ℕ) → entry < entries → range_with_len entry (entries - entry) ≡ entry ∷ range_with_len (entry + 1) (entries - (entry + 1))
 range_front entry entries h = let e : entries - entry ≡ suc (entries - (entry + 1)) = omega arith in rw e refl
 
--- one entry's list more
+-- this is the step of the loop over entries
 pub entry_more : (f : ℕ → List ℕ) (entry entries : ℕ) (lists longer : List (List ℕ)) (one : List ℕ) → entry < entries → one ≡ f entry → longer ≡ lists ++ one ∷ []
     → lists ++ map f (range_with_len entry (entries - entry)) ≡ map f (range_with_len 0 entries)
     → longer ++ map f (range_with_len (entry + 1) (entries - (entry + 1))) ≡ map f (range_with_len 0 entries)
@@ -25,7 +25,6 @@ entry_more f entry entries lists longer one h is is_longer so_far =
     rw (is_longer, is) (append_assoc lists (f entry ∷ []) (map f (range_with_len (entry + 1) (entries - (entry + 1))))
     ∙ ap (λ es. lists ++ map f es) (sym (range_front entry entries h)) ∙ so_far)
 
--- numbers where a test passes of what is made of each
 pub numbers_where-map : {A B : Type 0} (test : B → Bool) (f : A → B) (test' : A → Bool) → ((x : A) → test (f x) ≡ test' x) → (first : ℕ) (xs : List A)
     → numbers_where test first (map f xs) ≡ numbers_where test' first xs
 numbers_where-map test f test' same first [] = refl
@@ -33,7 +32,7 @@ numbers_where-map test f test' same first (x ∷ xs) =
     ap (λ b. cond b (first ∷ numbers_where test (first + 1) (map f xs)) (numbers_where test (first + 1) (map f xs))) (same x)
     ∙ ap (λ ns. cond (test' x) (first ∷ ns) ns) (numbers_where-map test f test' same (first + 1) xs)
 
--- ---- each conjunct stands in its part
+-- ---- the test `is_alike` finds the conjuncts of each part
 
 alike_local : (entry : ℕ) (equality : Option Edge) (n : Named) → ((edge : Edge) → equality ≡ Some edge → n ≡ named.Several) → is_alike (part.Local entry) (part_from equality n) ≡ tells_just entry n
 alike_local entry (Some edge) n several = rw (several edge refl) refl

@@ -1,4 +1,4 @@
--- Each conjunct stands in just one part.
+-- Each conjunct is in exactly one part: the own conjuncts of one entry, the equalities, or the rest.
 use Rattle.std.proofs.Common.{◌≡◌, ◌≢◌, ℕ, zero, suc, ◌+◌, ◌<◌, ◌≤◌, Bool, false, not, ◌&&◌, cond, eqb, List, [], ◌∷◌, length, Option, Some, None, is_none, is_some, refl, ap, ◌∙◌, inl, inr, arith}
 use Rattle.std.specs.List.{All, filter, range_with_len}
 use Rattle.std.proofs.lemmas.Bool.{cases_Bool, eqb-true, eqb-false, ne_eqb}
@@ -20,7 +20,6 @@ filter_none : (es : List ℕ) → filter (λ e. false) es ≡ []
 filter_none [] = refl
 filter_none (e ∷ es) = filter_none es
 
--- an entry stands once in a range that has it, and nowhere else
 filter_before : (own from n : ℕ) → own < from → filter (λ e. eqb own e) (range_with_len from n) ≡ []
 filter_before own from zero h = refl
 filter_before own from (suc n) h = let no : eqb own from ≡ false = ne_eqb own from (λ e. omega arith) in rw no (filter_before own (from + 1) n (omega arith))
@@ -33,7 +32,7 @@ filter_one own from (suc n) h l = elim (cases_Bool (eqb own from)) [
   | inr f ↦ (let ne : own ≢ from = eqb-false own from f in rw f (filter_one own (from + 1) n (omega arith) (omega arith)))
 ]
 
--- an equality, and what is named in short
+-- the conjunct is given by its equality, if it is one, and by what it names (`Named`)
 counted : (entries : ℕ) (equality : Option Edge) (n : Named) → ((edge : Edge) → equality ≡ Some edge → n ≡ named.Several) → ((own : ℕ) → n ≡ named.Just own → own < entries)
     → once_if (is_some equality) + length (filter (λ e. tells_just e n) (range_with_len 0 entries)) + once_if (is_none equality && not (tells_one n)) ≡ 1
 counted entries (Some edge) n several below = rw (several edge refl, filter_none (range_with_len 0 entries)) refl
@@ -41,7 +40,6 @@ counted entries None named.Nothing several below = rw (filter_none (range_with_l
 counted entries None named.Several several below = rw (filter_none (range_with_len 0 entries)) refl
 counted entries None (named.Just own) several below = rw (filter_one own 0 entries (omega arith) (let h : own < entries = below own refl in omega arith)) refl
 
--- what is named alone is named
 first_named : (entries x : ℕ) (n : Named) (own : ℕ) → x < entries → ((own : ℕ) → n ≡ named.Just own → own < entries) → together (named.Just x) n ≡ named.Just own → own < entries
 first_named entries x named.Nothing own h below e = let is : x ≡ own = cc in omega arith
 first_named entries x named.Several own h below e = absurd (cc)

@@ -1,4 +1,5 @@
--- Parts of entries, by the names in a list of sixteen.
+-- The code names the part of each of at most sixteen entries in a list. These lemmas say what its loops keep while they join two parts and go through
+-- the equalities of a set.
 use Rattle.std.proofs.Common.{◌≡◌, ◌≢◌, ℕ, ◌+◌, ◌<◌, ◌≤◌, true, false, cond, eqb, List, [], ◌∷◌, ◌++◌, length, get_or, take, drop, refl, ap, sym, ◌∙◌}
 use Rattle.std.proofs.lemmas.Bool.{ne_eqb}
 use Rattle.std.proofs.lemmas.List.{append_assoc, append-nil}
@@ -10,12 +11,11 @@ use Rattle.join_graph.specs.Kept.{equalities_within, joins_within, order_of_turn
 use Rattle.join_graph.specs.Names.{IsNamed, AreNamed}
 use Rattle.join_graph.proofs.Turning.{append_all, are_named}
 
--- the names below i are joined, the others are as before
+-- This is the state of the loop that joins two parts. The places below i are done.
 pub record Joining (before now : List ℕ) (i old new : ℕ) : Type 0 where
   pub done : (x : ℕ) → x < i → get_or now x 0 ≡ cond (eqb (get_or before x 0) old) new (get_or before x 0)
   pub left : (x : ℕ) → i ≤ x → get_or now x 0 ≡ get_or before x 0
 
--- what is kept depends on the names of the entries alone
 pub kept_agree : (g h : ℕ → ℕ) → ((x : ℕ) → x < 16 → g x ≡ h x) → (es : List Edge) → AreNamed es → kept_by_names g es ≡ kept_by_names h es
 kept_agree g h same [] named = refl
 kept_agree g h same (e ∷ es) named = rw (same e.left.entry named.0.0, same e.right.entry named.0.1)
@@ -28,7 +28,7 @@ kept_agree g h same (e ∷ es) named = rw (same e.left.entry named.0.0, same e.r
     more : (x : ℕ) → x < 16 → joined_parts g e.left.entry e.right.entry x ≡ joined_parts h e.left.entry e.right.entry x
     more x less = rw (same x less, same e.left.entry named.0.0, same e.right.entry named.0.1) refl
 
--- an equality that is kept
+-- an equality between entries of two parts is kept, and the parts are joined
 pub taken : (e : Edge) (names more : List ℕ) (kept longer rest : List Edge) → IsNamed e → AreNamed rest
     → get_or names e.left.entry 0 ≢ get_or names e.right.entry 0 → longer ≡ kept ++ e ∷ []
     → ((x : ℕ) → x < 16 → get_or more x 0 ≡ cond (eqb (get_or names x 0) (get_or names e.right.entry 0)) (get_or names e.left.entry 0) (get_or names x 0))
@@ -43,7 +43,8 @@ taken e names more kept longer rest small named differ is_longer is_more =
 
 -- ---- going through the equalities of a set
 
--- what is kept already, and what will be kept of the equalities of the set among es and of more behind them, is `whole`
+-- `Leads` says with what the walk will end. The equalities kept so far, and those that will be kept among the set's equalities in `es` and any
+-- further equalities `rest`, are `whole rest`.
 abbrev pub Leads : ℕ → List ℕ → List Edge → List Edge → (List Edge → List Edge) → Type 0
 Leads subset names kept es whole = (rest : List Edge) → AreNamed rest → kept ++ kept_by_names (λ x. get_or names x 0) (equalities_within subset es ++ rest) ≡ whole rest
 
@@ -51,14 +52,14 @@ set_front : (subset i : ℕ) (es : List Edge) (d : Edge) → i < length es
     → equalities_within subset (drop i es) ≡ cond (joins_within subset (get_or es i d)) (get_or es i d ∷ equalities_within subset (drop (i + 1) es)) (equalities_within subset (drop (i + 1) es))
 set_front subset i es d h = rw add-one (ap (equalities_within subset) (drop-cons es i d h))
 
--- an equality that is not of the set
+-- an equality that isn't of the set is passed over
 pub passes_by : (subset i : ℕ) (es : List Edge) (d : Edge) (names : List ℕ) (kept : List Edge) (whole : List Edge → List Edge) → i < length es → joins_within subset (get_or es i d) ≡ false
     → Leads subset names kept (drop i es) whole → Leads subset names kept (drop (i + 1) es) whole
 passes_by subset i es d names kept whole h out leads rest named =
     let front : equalities_within subset (drop i es) ≡ equalities_within subset (drop (i + 1) es) = rw out at (set_front subset i es d h) in
     ap (λ s. kept ++ kept_by_names (λ x. get_or names x 0) (s ++ rest)) (sym front) ∙ leads rest named
 
--- an equality of the set
+-- an equality of the set is considered
 pub goes_on : (subset i : ℕ) (es : List Edge) (d : Edge) (names more : List ℕ) (kept longer : List Edge) (whole : List Edge → List Edge) → i < length es → joins_within subset (get_or es i d) ≡ true
     → ((rest : List Edge) → AreNamed rest → longer ++ kept_by_names (λ x. get_or more x 0) rest ≡ kept ++ kept_by_names (λ x. get_or names x 0) (get_or es i d ∷ rest))
     → Leads subset names kept (drop i es) whole → Leads subset more longer (drop (i + 1) es) whole
@@ -67,7 +68,7 @@ goes_on subset i es d names more kept longer whole h inside step leads rest name
     step (equalities_within subset (drop (i + 1) es) ++ rest) (append_all IsNamed (equalities_within subset (drop (i + 1) es)) rest (are_named subset (drop (i + 1) es)) named)
     ∙ ap (λ s. kept ++ kept_by_names (λ x. get_or names x 0) (s ++ rest)) (sym front) ∙ leads rest named
 
--- two halves, one after the other
+-- a turn goes through the equalities from place i on, and then through those before place i
 pub goes_round : (subset turn i : ℕ) (es front back start kept kept' : List Edge) (own names names' : List ℕ)
     → front ≡ take i es → back ≡ drop i es
     → equalities_within subset (take i es) ≡ take turn (equalities_within subset es) → equalities_within subset (drop i es) ≡ drop turn (equalities_within subset es)

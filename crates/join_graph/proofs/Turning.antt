@@ -1,4 +1,5 @@
--- The equalities of a set, in the order of a turn.
+-- A turn goes through the equalities of a set in text order, from one of them on, and around. These lemmas say where it begins, and what is true of
+-- each equality in it.
 use Rattle.std.proofs.Common.{◌≡◌, ℕ, zero, suc, ◌<◌, true, eqb, List, [], ◌∷◌, ◌++◌, length, take, drop, refl, ap, sym, ◌∙◌, inl, inr}
 use Rattle.std.specs.List.{AllByRecursion}
 use Rattle.std.proofs.lemmas.Bool.{cases_Bool, ltb-true, and_parts}
@@ -13,7 +14,7 @@ use Rattle.berge_tree.proofs.Tested.{has_within}
 use Rattle.join_graph.specs.Kept.{joins_within, equalities_within, order_of_turn, kept_by_names, kept_of}
 use Rattle.join_graph.specs.Names.{IsNamed, AreNamed}
 
--- ---- what holds of all
+-- ---- what is true of each equality of a set
 
 abbrev AreJoining : ℕ → List Edge → Type 0
 AreJoining subset es = AllByRecursion (λ e. joins_within subset e ≡ true) es
@@ -49,7 +50,6 @@ have_entries subset (e ∷ es) h =
     let k : (has_entry subset e.left.entry ≡ true) × (has_entry subset e.right.entry ≡ true) = and_parts (has_entry subset e.left.entry) (has_entry subset e.right.entry) h.0 in
     rw (k.0, k.1) (have_entries subset es h.1)
 
--- the equalities that a set keeps join its entries
 pub kept_within : (subset turn : ℕ) (es : List Edge) → AreWithin (entries_of_set subset) (kept_of subset turn es)
 kept_within subset turn es =
     let P : Edge → Type 0 = λ e. joins_within subset e ≡ true in
@@ -76,7 +76,7 @@ are_named subset es = names (equalities_within subset es) (filter_all subset es)
     names [] h = tt
     names (e ∷ es) h = (joining_named subset e h.0, names es h.1)
 
--- where the equalities of the set before a place are as many as the turn's number, the turn begins there
+-- if `turn` equalities of the set come before place i, then the turn begins at place i
 pub turn_begins : (subset turn i : ℕ) (es : List Edge) → turn ≡ length (equalities_within subset (take i es))
     → (equalities_within subset (take i es) ≡ take turn (equalities_within subset es)) × (equalities_within subset (drop i es) ≡ drop turn (equalities_within subset es))
 turn_begins subset turn i es is =

@@ -15,7 +15,7 @@ use Rattle.query_types.specs.declared.types.Cond.TheViews.{out-Cond}
 use Rattle.query_types.specs.Named.{entries_named}
 use Rattle.query_types.specs.declared.types.Query.{Query}
 
--- ---- what stands in which part
+-- ---- which conjunct is in which part
 
 -- the condition names this entry and no other entry
 abbrev pub names_just : ℕ → Cond → Bool

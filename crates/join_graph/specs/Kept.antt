@@ -22,7 +22,7 @@ equalities_within subset es = filter (joins_within subset) es
 abbrev pub turn_count : ℕ → List Edge → ℕ
 turn_count subset es = max (min (length (equalities_within subset es)) 16) 1
 
--- the elements from place `turn` on, and then those before it
+-- the elements from index `turn` on, and then the elements before it
 abbrev pub gone_round : ℕ → List Edge → List Edge
 gone_round turn es = drop turn es ++ take turn es
 
@@ -32,11 +32,11 @@ order_of_turn subset turn es = gone_round turn (equalities_within subset es)
 
 -- ---- kept equalities
 
--- whenever each entry is put on one of two sides, so that each equality has both entries on one side, a and b are on the same side
+-- a and b are connected: whenever the entries are put on two sides, so that each equality has both entries on one side, a and b are on the same side
 abbrev pub AreConnected : List Edge → ℕ → ℕ → Type 0
 AreConnected es a b = (side : ℕ → Bool) → AllByRecursion (λ e. side e.left.entry ≡ side e.right.entry) es → side a ≡ side b
 
--- from `es`, in order, `kept` takes each equality whose two entries aren't connected by the kept equalities before it, `earlier` included
+-- `kept` has, in order, each equality of `es` whose two entries aren't connected by the equalities kept before it, `earlier` included
 pub data KeepsAfter : List Edge → List Edge → List Edge → Type 0 where
   at_end : (earlier : List Edge) → KeepsAfter earlier [] []
   keeps : (earlier : List Edge) (e : Edge) (es kept : List Edge) → AreApart earlier e.left.entry e.right.entry
@@ -51,14 +51,14 @@ Keeps es kept = KeepsAfter [] es kept
 
 -- ---- kept equalities, computed
 
--- `name` gives each entry the name of its part. An equality is kept if it joins two parts, which are then one
+-- `name` gives each entry the name of its part. An equality is kept if its entries are in two parts, and these two then become one part
 abbrev pub kept_by_names : (ℕ → ℕ) → List Edge → List Edge
 kept_by_names name [] = []
 kept_by_names name (e ∷ es) =
     if name e.left.entry == name e.right.entry then kept_by_names name es
     else (e ∷ kept_by_names (joined_parts name e.left.entry e.right.entry) es)
 
--- what is kept of these equalities, in order, where at first each entry is a part of its own
+-- the equalities of `es` that are kept, in order. At first each entry is a part of its own
 abbrev pub kept_in_order : List Edge → List Edge
 kept_in_order es = kept_by_names (λ entry. entry) es
 

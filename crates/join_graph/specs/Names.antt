@@ -1,4 +1,4 @@
--- Equalities whose entries have names in a list of sixteen.
+-- Equalities whose entries have numbers below 16, so that a list of sixteen names has a name for each.
 use Rattle.std.specs.Prelude.{◌<◌, List}
 use Rattle.std.specs.List.{AllByRecursion}
 use Rattle.berge_tree.specs.declared.edges.Edge.{Edge}

@@ -31,7 +31,7 @@ part_from None named.Several = part.Residual
 abbrev pub part_of : Cond → Part
 part_of cond = part_from (equality_of cond) (named_of (entries_named cond))
 
--- both are the part of the same entry, or both are the residual part
+-- both are the own conjuncts of the same entry, or both are the residual part
 abbrev pub is_alike : Part → Part → Bool
 is_alike (part.Local a) (part.Local b) = b == a
 is_alike part.Residual part.Residual = true

@@ -42,8 +42,8 @@ pub fn turns(parts: &Parts, subset: EntrySet) -> u32
     count.min(MOST_TURNS).max(1) as u32
 }
 
-// The place, among all equalities, of the set's equality number `turn`, counted from 0. If the set has no equality of this number, the answer is
-// the number of all equalities.
+// The index in `edges` of the set's equality number `turn`. The set's equalities are those that join two of its entries, counted from 0. If there
+// are `turn` of them or fewer, the result is the length of `edges`.
 fn first_of_turn(edges: &[Edge], subset: EntrySet, turn: u32) -> usize
     ensures place { result ≤ length edges.now }
     ensures before { equalities_within subset (take result edges.now) ≡ take turn (equalities_within subset edges.now) }
@@ -61,7 +61,7 @@ fn first_of_turn(edges: &[Edge], subset: EntrySet, turn: u32) -> usize
     edges.len()
 }
 
-// The names before the first equality: each entry is a part of its own, and the part's name is the entry's number.
+// Each entry's part before any equality is kept: the entry alone, named by the entry's number. A part is a group of entries that kept equalities connect.
 fn own_names() -> [u8; ENTRIES]
     ensures { (x : ℕ) → x < 16 → slice_index result x ≡ x }
 {
@@ -84,7 +84,7 @@ fn join_parts(names: &mut [u8], left: u8, right: u8)
     }
 }
 
-// Keeps an equality if it joins two parts, and joins these.
+// Keeps an equality if its two entries are in different parts, and joins these two parts.
 fn consider(edge: Edge, names: &mut [u8], kept: &mut Seq<Edge>) -> Result<(), NoMemory>
     requires names { length names.old ≡ 16 }
     requires edge { IsNamed edge }
@@ -98,7 +98,7 @@ fn consider(edge: Edge, names: &mut [u8], kept: &mut Seq<Edge>) -> Result<(), No
     Ok(())
 }
 
-// Goes through equalities, and keeps those of the set that join two parts.
+// Goes through equalities, and keeps each equality of the set whose two entries are in different parts.
 fn consider_all(
     edges: &[Edge],
     subset: EntrySet,
@@ -119,9 +119,9 @@ fn consider_all(
 }
 
 /// The equalities that a set of entries keeps in a turn. The turn goes through the equalities that join two entries of the set: from number
-/// `turn` on, and then through those before it. It keeps each equality whose two entries aren't connected yet by kept ones.
+/// `turn` on, and then through the earlier ones. It keeps each equality whose two entries the kept equalities don't connect yet.
 ///
-/// `rooted` may be called on the answer with this set.
+/// The result may be passed to `rooted` of berge_tree, with the entries of this set.
 pub fn kept(
     alloc: Global,
     parts: &Parts,

@@ -18,20 +18,20 @@ ghost use Rattle.query_types.specs.Named.{NamesItsEntries};
 ghost use Rattle.join_graph.specs.Examples.{first_side, pair, second_side, seventeen, third_side, triangle};
 ghost use Rattle.join_graph.specs.Kept.{AreConnected, Keeps, kept_in_order, kept_of, turn_count};
 
-/// Of equalities in a given order exactly one list is kept, and `kept_in_order` computes it.
+/// For equalities in a given order there is exactly one list of kept equalities, and `kept_in_order` computes it.
 pub fn kept_equalities_are_one()
     ensures { (es kept : List Edge) → Keeps es kept ↔ (kept ≡ kept_in_order es) }
 {}
 
-/// What a set keeps in a turn joins only its entries, and closes no cycle. No class has two columns of one entry, and entries and classes make
-/// no cycle.
+/// The equalities that a set keeps in a turn join only entries of the set, and close no cycle. No class of them has two columns of one entry, and
+/// their entries and classes make no cycle.
 pub fn kept_equalities_make_no_cycle()
     ensures within { (subset turn : ℕ) (es : List Edge) → AreWithin (entries_of_set subset) (kept_of subset turn es) }
     ensures entries { (subset turn : ℕ) (es : List Edge) → ClosesNoCycle (kept_of subset turn es) }
     ensures classes { (subset turn : ℕ) (es : List Edge) → HasNoCycle (class_of (kept_of subset turn es)) }
 {}
 
-/// Each conjunct is in exactly one part, if all conjuncts name only FROM entries. In a query over a schema they do.
+/// Each conjunct is in exactly one part, if all conjuncts name only FROM entries. In a query over a schema all conjuncts do.
 pub fn conjuncts_stand_in_one_part()
     ensures of_schema { (schema : Schema) (query : Query) → IsOf schema query → NamesItsEntries query }
     ensures one { (query : Query) → NamesItsEntries query → All (λ cond. places_in_parts (length query.from) cond ≡ 1) query.conjuncts }
@@ -43,7 +43,7 @@ pub fn numbers_are_places()
         → Contains (numbers_where test 0 conds) k ↔ IsSomeAnd (slice_get conds k) (λ cond. IsTrue (test cond)) }
 {}
 
-/// Two entries are apart or connected, and never both.
+/// Two entries are either apart or connected, never both.
 pub fn entries_are_apart_or_connected()
     ensures one { (es : List Edge) (a b : ℕ) → AreApart es a b ⊎ AreConnected es a b }
     ensures not_both { (es : List Edge) (a b : ℕ) → AreApart es a b → AreConnected es a b → ⊥ }

@@ -13,7 +13,7 @@ use query_grammar::Op;
 use query_types::{ColumnRef, Cond, Query};
 use std::alloc::{AllocError, Global};
 
-/// The part of a conjunct: the own conjuncts of this entry, the equalities of columns of two entries, or all others.
+/// The part of a conjunct: the own conjuncts of one entry, the equalities of columns of two entries, or all others.
 #[derive(Clone, Copy)]
 pub(crate) enum Part {
     Local(u8),
@@ -69,7 +69,7 @@ fn part_of(cond: &Cond) -> Part
     }
 }
 
-// Whether both are the own part of the same entry, or both the part of all others. No two equalities are alike.
+// Whether `a` and `b` are both the own conjuncts of the same entry, or both the part of all others. If one of them is an equality, the result is false.
 fn is_alike(a: Part, b: Part) -> bool
     ensures { result ≡ is_alike a b }
 {
@@ -96,7 +96,7 @@ fn parts_of(alloc: Global, conjuncts: &[Cond]) -> Result<Vec<Part>, AllocError>
     conjuncts.iter().map(|cond| part_of(cond)).collect(alloc)
 }
 
-// The numbers of the conjuncts in this part, in text order. For an equality it is empty.
+// The numbers of the conjuncts in this part, in text order. If `part` is an equality, there are no numbers.
 fn numbers_in(alloc: Global, parts: &[Part], part: Part) -> Result<Seq<u32>, NoMemory>
     requires { length parts.now < 2 ^ 32 }
     ensures { IfOk result (λ numbers. numbers ≡ numbers_where (is_alike part) 0 parts.now) }

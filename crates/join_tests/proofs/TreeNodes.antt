@@ -1,4 +1,4 @@
--- What is joined by a plan has the nodes of its tree.
+-- When a plan's tree has been joined, there are as many nodes as the tree has.
 use Rattle.std.proofs.Common.{◌≡◌, ℕ, ◌<◌, List, length, sym, subst, arith}
 use Rattle.std.specs.List.{AllByRecursion}
 use Rattle.tree_plans.specs.declared.bushy.BushyPlan.{BushyPlan}

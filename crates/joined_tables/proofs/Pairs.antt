@@ -1,4 +1,4 @@
--- How many rows are in a pair of an inner join, and how many are in none.
+-- These lemmas bound how many rows are in a pair of an inner join, and how many are in no pair. Outer joins add the rows that are in no pair.
 use Rattle.std.proofs.Common.{◌≡◌, ◌≤◌, Bool, true, not, List, [], ◌∷◌, ◌++◌, map, length, inl, inr, arith, length-append}
 use Rattle.std.specs.List.{filter, flat_map, list_any}
 use Rattle.std.proofs.lemmas.Bool.{cases_Bool, false≢true}
@@ -35,14 +35,12 @@ paired_of is_true others (row ∷ rows) =
       | inr n ↦ rw n (omega (arith, length-append pairs more, paired_of is_true others rows))
     ]
 
--- a row that is in a pair has a pair
 pub paired_few : (is_true : Condition) (left right : Table) → length (left_paired is_true left right) ≤ length (inner_join is_true left right)
 paired_few is_true left right = paired_of is_true right.rows left.rows
 
 pub paired_within : (is_true : Condition) (left right : Table) → length (left_paired is_true left right) ≤ length left.rows
 paired_within is_true left right = no_more_pass (λ row. list_any (is_true row) right.rows) left.rows
 
--- rows that are in no pair are rows of their table
 pub alone_within : (is_true : Condition) (left right : Table) → length (left_alone is_true left right) ≤ length left.rows
 alone_within is_true left right = no_more_pass (λ row. not (list_any (is_true row) right.rows)) left.rows
 

@@ -1,10 +1,9 @@
--- Bounds in 64 bits, of which the greatest says nothing.
+-- These lemmas are about bounds of 64 bits. The greatest number of 64 bits excludes nothing.
 use Rattle.std.proofs.Common.{ℕ, ◌+◌, ◌≤◌, min, inl, inr, arith}
 use Rattle.std.proofs.lemmas.Bool.{cases_lt}
 use Rattle.safebound_bounds.specs.Meaning.{in_64_bits, no_bound}
 use Rattle.joined_tables.specs.Bounds.{IsWithin}
 
--- no more rows than a number are within it, as 64 bits hold it
 pub narrowed_within : (rows n : ℕ) → rows ≤ n → IsWithin rows (in_64_bits n)
 narrowed_within rows n few = elim (cases_lt n no_bound) [
   | inl low ↦ inl (omega (arith, few, low))
@@ -32,7 +31,6 @@ least_within rows x y x_fits y_fits few others = elim few [
   ]
 ]
 
--- fewer rows are within too
 pub fewer_within : (rows more x : ℕ) → rows ≤ more → IsWithin more x → IsWithin rows x
 fewer_within rows more x less few = elim few [
   | inl low ↦ inl (omega (arith, less, low))

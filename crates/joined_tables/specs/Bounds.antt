@@ -5,7 +5,7 @@ use Rattle.joined_tables.specs.declared.joins.Join.{Join}
 use Rattle.joined_tables.specs.declared.joins.Join.TheVariants.{Anti, Full, Left, Right, Semi}
 
 -- the most rows of a joined table, if the inner join has at most `inner`, the left table `left` and the right table `right`. An outer join
--- adds rows of a table to the inner join, and a semi-join has a row of the left table once for all its pairs
+-- adds rows of a table to the inner join. A semi-join has a row of the left table once, however many pairs the row is in
 abbrev pub most_joined : Join → ℕ → ℕ → ℕ → ℕ
 most_joined Left inner left right = inner + left
 most_joined Right inner left right = inner + right
@@ -13,6 +13,6 @@ most_joined Full inner left right = inner + left + right
 most_joined Semi inner left right = min inner left
 most_joined Anti inner left right = left
 
--- the number of rows is within a bound of 64 bits. The greatest number of 64 bits is no bound at all
+-- the number of rows is within a bound of 64 bits. The greatest number of 64 bits, as a bound, excludes nothing
 abbrev pub IsWithin : ℕ → ℕ → Type 0
 IsWithin rows bound = (rows ≤ bound) ⊎ (bound ≡ no_bound)

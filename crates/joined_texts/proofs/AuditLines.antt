@@ -1,4 +1,4 @@
--- The lines of the audit text, one after the other, and the numbers of rows in them.
+-- The audit text is written line by line. These lemmas say which line comes next, and that the number of rows in it is the size of its level or node.
 use Rattle.std.proofs.Common.{◌≡◌, ℕ, zero, suc, ◌+◌, ◌-◌, ◌<◌, List, [], ◌∷◌, ◌++◌, drop, length, map, get_or, refl, ap, sym, ◌∙◌, arith, add-one}
 use Rattle.std.specs.Prelude.{slice_get}
 use Rattle.std.specs.List.{range_with_len}
@@ -16,14 +16,12 @@ use Rattle.printed_texts.specs.TreePlans.{node_audit, node_audits}
 use Rattle.printed_texts.proofs.PlanLines.{left_at as left_in}
 use Rattle.joined_texts.specs.Printed.{level_counts, node_counts}
 
--- ---- lines
+-- ---- the lines of levels
 
--- what is left from place i on begins with the number there
 left_at : (xs : List ℕ) (i x : ℕ) → i < length xs → x ≡ get_or xs i 0 → drop i xs ≡ x ∷ drop (i + 1) xs
 left_at xs i x low at' =
     drop-cons xs i 0 low ∙ ap (λ (y : ℕ). y ∷ drop (suc i) xs) (sym at') ∙ ap (λ (j : ℕ). x ∷ drop j xs) (sym (add-one i))
 
--- the next level's line comes first
 pub next_audit : (k : ℕ) (sources : List Source) (order bounds counts : List ℕ) (i entry bound rows : ℕ)
     → i < length order → i < length bounds → i < length counts → entry ≡ get_or order i 0 → bound ≡ get_or bounds i 0 → rows ≡ get_or counts i 0
     → level_audits k sources (drop i order) (drop i bounds) (drop i counts)
@@ -33,7 +31,7 @@ next_audit k sources order bounds counts i entry bound rows some more count is a
     ∙ ap (λ (left : List ℕ). level_audits k sources (entry ∷ drop (i + 1) order) left (drop i counts)) (left_at bounds i bound more at')
     ∙ ap (λ (left : List ℕ). level_audits k sources (entry ∷ drop (i + 1) order) (bound ∷ drop (i + 1) bounds) left) (left_at counts i rows count counted)
 
--- ---- counts
+-- ---- the numbers of listed rows
 
 pub count_at : (levels : List Level) (i : ℕ) → get_or (level_counts levels) i 0 ≡ length (rows_at levels i)
 count_at [] i = refl
@@ -52,7 +50,6 @@ counts_from (level ∷ levels) f a same =
     let rest : level_counts levels ≡ map f (range_with_len (a + 1) (length levels)) = counts_from levels f (a + 1) (λ k low. let next : a + suc k ≡ a + 1 + k = omega arith in same (suc k) (omega (arith, low)) ∙ ap f next) in
     rw (first, rest) refl
 
--- the numbers of rows that were listed are the sizes of levels, whatever these are
 pub counts_of_levels : (levels : ℕ → List (List ℕ)) (order : List ℕ) (executed : List Level)
     → ((k : ℕ) → k < length order → rows_at executed k ≡ levels (k + 1)) → length executed ≡ length order
     → level_counts executed ≡ map (λ k. length (levels (k + 1))) (range_with_len 0 (length order))
@@ -67,9 +64,8 @@ pub counts_are_sizes : (query : Query) (db : Database) (order : List ℕ) (execu
     → level_counts executed ≡ level_sizes query db order
 counts_are_sizes query db order executed levels count = counts_of_levels (query_level query db order) order executed levels count
 
--- ---- nodes
+-- ---- the lines of inner nodes
 
--- the next inner node's line comes first
 pub next_node_audit : (k : ℕ) (joins : List Join) (counts : List ℕ) (i : ℕ) (otherwise : Join) (rows : ℕ) → i < length joins → i < length counts → rows ≡ get_or counts i 0
     → node_audits k (drop i joins) (drop i counts) ≡ node_audit k (get_or joins i otherwise) rows ++ node_audits (k + 1) (drop (i + 1) joins) (drop (i + 1) counts)
 next_node_audit k joins counts i otherwise rows some count counted =

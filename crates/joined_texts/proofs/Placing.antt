@@ -1,4 +1,5 @@
--- The row numbers of a choice at the places of their entries.
+-- The row numbers of a choice are put at the indexes of their entries. They are then a choice in FROM order, and the record printed for them is the
+-- record of the choice.
 use Rattle.std.proofs.Common.{◌≡◌, ℕ, suc, ◌<◌, ◌≤◌, true, false, eqb, List, [], ◌∷◌, length, get_or, slice_index, refl, ap, sym, ◌∙◌, subst, arith, inl, inr}
 use Rattle.std.specs.List.{AllByRecursion, IsDistinct}
 use Rattle.std.proofs.Math.Path.{fun_ext}
@@ -43,7 +44,6 @@ each_below n order low x here =
     let at = stands_at order x here in
     subst (λ (e : ℕ). e < n) at.is (All-from_recursion (λ entry. entry < n) order low at.place 0 at.within)
 
--- different numbers below n are at most n
 few_entries : (n : ℕ) (order : List ℕ) → AllByRecursion (λ entry. entry < n) order → IsDistinct eqb order → length order ≤ n
 few_entries n order low once = length-le_from_distinct_below order n once (each_below n order low)
 
@@ -51,11 +51,9 @@ small : (order : List ℕ) → ((i : ℕ) → get_or order i 0 < 256) → AllByR
 small [] h = tt
 small (e ∷ order) h = (h 0, small order (λ i. h (suc i)))
 
--- different numbers of one byte are at most 256
 pub few_bytes : (order : List ℕ) → ((i : ℕ) → get_or order i 0 < 256) → IsDistinct eqb order → length order ≤ 256
 few_bytes order h once = few_entries 256 order (small order h) once
 
--- n different numbers below n are all of them
 has_each : (n : ℕ) (order : List ℕ) → AllByRecursion (λ entry. entry < n) order → IsDistinct eqb order → length order ≡ n → (x : ℕ) → x < n → is_in order x ≡ true
 has_each n order low once all x below = elim (cases_Bool (is_in order x)) [
   | inl here ↦ here
@@ -95,7 +93,6 @@ module _ (query : Query) (db : Database) (is : IsDatabaseOf query db) (entries :
     ]
   ]
 
-  -- they are a choice in FROM order
   pub is_choice : IsChoice db (put entries choice rows)
   is_choice = record {
     one_each = omega (arith, put_size, is.entries);
@@ -107,7 +104,6 @@ module _ (query : Query) (db : Database) (is : IsDatabaseOf query db) (entries :
     );
   }
 
-  -- the record of the outputs is that of the choice
   pub text_is : choice_text query.select (tables_of db) (put entries choice rows) ≡ choice_record query db entries choice
   text_is =
       sym (ap record_text (map-map value_text (λ (out : Out). column_value (tables_of db) (slice_index (put entries choice rows)) out.column) query.select))

@@ -1,4 +1,4 @@
--- The choices of the last level, and the records of all of them.
+-- The header and the records of all choices of the last level are the whole text.
 use Rattle.std.proofs.Common.{◌≡◌, ℕ, ◌+◌, ◌-◌, ◌≤◌, List, ◌++◌, length, take, get_or, ap, sym, ◌∙◌, subst, arith}
 use Rattle.std.specs.Prelude.{All}
 use Rattle.std.specs.List.{flat_map}
@@ -25,7 +25,6 @@ each_choice : (rows : ℕ → ℕ) (entries : List ℕ) → All (IsChoiceOf rows
 each_choice rows entries k d low =
     is_choice rows entries (get_or (choices_of rows entries) k d) (Contains-get_or (choices_of rows entries) k d low)
 
--- each choice of the last level has a row of each entry
 whole_choices : (query : Query) (db : Database) (order : List ℕ)
     → All (IsChoiceOf (row_counts (tables_of db)) order) (query_level query db order (length order))
 whole_choices query db order =
@@ -34,14 +33,13 @@ whole_choices query db order =
     subst (λ (entries : List ℕ). All (IsChoiceOf counts entries) (query_level query db order (length order))) (take-length order)
     (All-filter (λ choice. all_hold (conjuncts_of query (tables_of db)) all (row_in all choice)) (IsChoiceOf counts all) (choices_of counts all) (each_choice counts all))
 
--- the header and the records of the listed rows are the whole text
 pub whole_text : (query : Query) (db : Database) (entries : List ℕ) (rows : List (List ℕ)) (outs : List Out) → outs ≡ query.select
     → header_text outs ++ flat_map (choice_record query db entries) rows ≡ rows_lines query.select (selected_rows query db entries rows)
 whole_text query db entries rows outs same =
     ap (λ (o : List Out). header_text o ++ flat_map (choice_record query db entries) rows) same
     ∙ ap (λ (rest : List ℕ). header_text query.select ++ rest) (sym (flat_map-map row_text (selected_in query db entries) rows))
 
--- ---- along an order
+-- ---- the last level of an order
 
 module _ (query : Query) (db : Database) (order : List ℕ) (executed : List Level) (is : IsDatabaseOf query db) (each : IsOrderOf query order)
     (last : (k : ℕ) → k + 1 ≡ length order → rows_at executed k ≡ query_level query db order (k + 1)) (count : length executed ≡ length order) where

@@ -18,7 +18,7 @@ use Rattle.joined_texts.specs.declared.listed.Listed.TheVariants as listed
 abbrev pub root_of : Query → List Node → Node
 root_of query nodes = node_at nodes (2 * length query.from - 2)
 
--- the choices of an order's last level or of a node, and the entries in the order in which a choice has their rows
+-- the choices of an order's last level or of a node, with the entries in the order in which each choice has their rows
 abbrev pub choices_listed : Listed → Node
 choices_listed (listed.Last executed order) = record { entries = order.now; rows = rows_at executed.now (length order.now - 1) }
 choices_listed (listed.Node done node) = node_at done.now.nodes node
@@ -29,7 +29,7 @@ pub record HasLevels (executed : List Level) (order : List ℕ) : Type 0 where
   pub few : length order ≤ most_entries
   pub count : length executed ≡ length order
 
--- the level or the node is there
+-- the last level, or the node, exists
 abbrev pub IsThere : Listed → Type 0
 IsThere (listed.Last executed order) = HasLevels executed.now order.now
 IsThere (listed.Node done node) = node < length done.now.nodes

@@ -22,7 +22,7 @@ pub(crate) enum Listed<'a> {
     },
 }
 
-// Writes the rows of a choice at the places of their entries.
+// Writes each row number of a choice into `rows`, at the index of its entry.
 fn place(order: &[u8], choice: &[u32], rows: &mut [u32])
     requires sizes { length choice.now ≡ length order.now }
     requires entries { All (λ entry. entry < length rows.old) order.now }
@@ -33,7 +33,7 @@ fn place(order: &[u8], choice: &[u32], rows: &mut [u32])
     }
 }
 
-// Writes the row numbers of a row of the last level, each at the place of its entry.
+// Reads row `i` of the last level: writes its row numbers into `rows`, each at the index of its entry.
 fn read_last(executed: &RowForest, order: &[u8], i: u32, rows: &mut [u32])
     requires levels { HasLevels executed.now order.now }
     requires row { i < length (rows_at executed.now (length order.now - 1)) }
@@ -57,7 +57,7 @@ pub(crate) fn count(listed: &Listed) -> u32
     }
 }
 
-/// Writes the row numbers of a listed row, each at the place of its entry.
+/// Writes the row numbers of listed row `i` into `rows`, each at the index of its entry.
 pub(crate) fn read(listed: &Listed, i: u32, rows: &mut [u32])
     requires there { IsThere listed.now }
     requires row { i < length (choices_listed listed.now).rows }

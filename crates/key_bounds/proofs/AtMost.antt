@@ -1,4 +1,5 @@
--- The bound of each set is at most the one without carried conjuncts, and what is known doesn't look past the parts of a set.
+-- The bound of each set is at most its bound without carried conjuncts. Bounds by carried conjuncts are the same in a set as in a part of it that
+-- no equality joins with the rest.
 use Rattle.std.proofs.Common.{◌≡◌, ℕ, ◌<◌, ◌≤◌, ◌^◌, Bool, true, List, [], length, sum, get_or, min, refl, ap, sym, ◌∙◌, subst, arith}
 use Rattle.std.specs.Prelude.{if◌then◌else◌}
 use Rattle.std.proofs.lemmas.Bool.{lt-ltb}

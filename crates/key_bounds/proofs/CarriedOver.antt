@@ -1,4 +1,4 @@
--- What statistics of the widened table tell: the lists that are carried along an equality.
+-- Statistics that are gathered for the rows of the widened table give the lists that are carried along an equality.
 use Rattle.std.proofs.Common.{◌≡◌, ℕ, ◌+◌, ◌-◌, ◌^◌, ◌<◌, ◌≤◌, min, eqb, List, [], ◌∷◌, ◌++◌, length, map, take, get_or, Option, Some, option_map, find, slice_get, sum, refl, ap, sym, ◌∙◌, subst, inl, inr, ◌⊎◌, arith}
 use Rattle.std.specs.Prelude.{slice_index_or}
 use Rattle.std.specs.List.{All, Contains, IsDistinct, filter}
@@ -48,7 +48,7 @@ use Rattle.key_stats.proofs.CarriedLists.{carried_sum}
 use Rattle.key_bounds.specs.Carrying.{AddUp, IsJoined}
 use Rattle.key_bounds.proofs.CellsBeside.{lists_beside}
 
--- ---- an equality of the query, either way round
+-- ---- an equality of the query, with its sides in order or exchanged
 
 from_both : (es : List Edge) (e : Edge) → Contains (both_ways es) e → ((f : Edge) × Contains es f × (e ≡ f)) ⊎ ((f : Edge) × Contains es f × (e ≡ exchanged f))
 from_both [] e has = absurd (in_none e has)
@@ -63,7 +63,6 @@ from_both (f ∷ es) e has = elim (one_in f (exchanged f ∷ both_ways es) e has
   ]
 ]
 
--- what holds of each equality, and of each with its sides exchanged
 of_both : (P : Edge → Type 0) (es : List Edge) (e : Edge) → ((f : Edge) → Contains es f → P f × P (exchanged f)) → Contains (both_ways es) e → P e
 of_both P es e each has = elim (from_both es e has) [
   | inl at ↦ subst P (sym at.2) (each at.0 at.1).0
@@ -109,7 +108,7 @@ module _ (query : Query) (db : Database) (of : IsDatabaseOf query db) (e : Edge)
       let places = edge_places (equalities_of query) f has in
       (place_joined (equalities_of query) f.left places.0, place_joined (equalities_of query) f.right places.1)) joined
 
-  -- ---- what was gathered beside
+  -- ---- statistics that were gathered for the rows of the widened table
 
   module _ (differ : HaveDifferentCharacters db.pool) (few_rows : row_counts (tables_of db) e.left.entry ≤ most_rows) (accuracy : ℕ) (gathered : EntryStats)
       (is : IsGatheredBeside query db accuracy e.right.entry (referred (tables_of db) e) e.left.entry (referring (tables_of db) e) gathered) where
@@ -209,7 +208,6 @@ module _ (query : Query) (db : Database) (of : IsDatabaseOf query db) (e : Edge)
           told made (rows ∙ ap (λ (s : List EntryStats). Some (row_bound_in_stats (of_entries s) 0)) only)
           (subst (λ (s : List EntryStats). All (λ g. list_of made e.left.entry g.column ≡ Some (list_in_stats (of_entries s) 0 g.column)) (columns_of (of_entries s) 0)) only lists)
 
--- rows that were found are those of the widened table
 pub as_widened : (query : Query) (db : Database) (accuracy : ℕ) (e : Edge) (others rows : List ℕ) (gathered : EntryStats) → others ≡ referred (tables_of db) e → rows ≡ referring (tables_of db) e
     → IsGatheredBeside query db accuracy e.right.entry others e.left.entry rows gathered
     → IsGatheredBeside query db accuracy e.right.entry (referred (tables_of db) e) e.left.entry (referring (tables_of db) e) gathered
@@ -217,7 +215,7 @@ as_widened query db accuracy e others rows gathered is same made =
     subst (λ (s : List ℕ). IsGatheredBeside query db accuracy e.right.entry s e.left.entry (referring (tables_of db) e) gathered) is
     (subst (λ (s : List ℕ). IsGatheredBeside query db accuracy e.right.entry others e.left.entry s gathered) same made)
 
--- ---- all of a query
+-- ---- the equalities of a query
 
 pub entries_named : (query : Query) (db : Database) → IsDatabaseOf query db → EachNamedColumn (λ entry column. entry < length query.from) (equalities_of query)
 entries_named query db of =
@@ -228,7 +226,7 @@ carriers_joined schema query es read are same =
     subst (All (IsJoined query)) (sym (same ∙ are)) (λ k d low.
     (from_filter (carries schema query) (both_ways (equalities_of query)) (get_or (carriers schema query) k d) (Contains-get_or (carriers schema query) k d low)).0)
 
--- ---- one after another
+-- ---- the loop over the equalities
 
 pub told_more : (query : Query) (tables : Tables) (accuracy : ℕ) (es : List Edge) (i : ℕ) (d : Edge) (old new : List Carried) (one : Carried) → i < length es → one.edge ≡ get_or es i d
     → TellsCarried query tables accuracy one → TellAlong query tables accuracy (take i es) old → new ≡ old ++ one ∷ [] → TellAlong query tables accuracy (take (i + 1) es) new

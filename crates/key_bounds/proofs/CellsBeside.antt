@@ -1,4 +1,4 @@
--- The lists of cells at rows, for a column of other cells at rows beside them, are those of the values there.
+-- Lists that are made of cells at some rows, and of another entry's cells at the rows beside them, are the lists that are made of the values there.
 use Rattle.std.proofs.Common.{◌≡◌, ℕ, ◌<◌, List, [], length, map, get_or, pos, Option, ap, sym, ◌∙◌, subst, arith}
 use Rattle.std.specs.Prelude.{slice_index_or}
 use Rattle.std.specs.List.{All, zip}
@@ -29,7 +29,7 @@ use Rattle.gathered_stats.proofs.Seeing.{picked_cells}
 use Rattle.key_carriers.specs.Widened.{tables_at, values_at}
 
 module _ (db : Database) (are : AreTables db) (differ : HaveDifferentCharacters db.pool) where
-  -- ---- a column at rows
+  -- ---- a column's cells at some rows
 
   module _ (entry : ℕ) (there : entry < length db.slots) (rows : List ℕ) (low : AreRowNumbersOf (cells_of db entry) rows) where
     abbrev cells : Cells
@@ -58,14 +58,12 @@ module _ (db : Database) (are : AreTables db) (differ : HaveDifferentCharacters 
       many_here : length (map of_cell here) ≡ length rows
       many_here = length-map here of_cell ∙ length-map rows (λ (row : ℕ). get_or (cells_in cells column) row 0)
 
-      -- they are the values of a column beside
       pub values_here : map of_cell here ≡ values_at (tables_of db) entry column rows
       values_here =
           ext_get_or (Int (pos 0)) (map of_cell here) (values_at (tables_of db) entry column rows) (many_here ∙ sym (length-map rows (value_at (tables_of db) entry column))) (λ k within.
           let inside : k < length rows = omega (arith, within, many_here) in
           value_here k inside ∙ sym (get_or-map (value_at (tables_of db) entry column) rows k 0 (Int (pos 0)) inside))
 
-      -- and those of the column in the tables at these rows
       pub values_there : map of_cell here ≡ column_values (tables_at (tables_of db) rows) entry column
       values_there =
           let at : Tables = tables_at (tables_of db) rows in
@@ -75,11 +73,10 @@ module _ (db : Database) (are : AreTables db) (differ : HaveDifferentCharacters 
           let inside : k < length rows = omega (arith, within, many) in
           value_here k inside ∙ sym (ap (λ (r : Row). slice_index_or r column (Int (pos 0))) (get_or-map row_of rows k 0 [] inside)))
 
-      -- the cells at these rows have it
       pub column_at : cells_in (cells_at rows cells) column ≡ here
       column_at = get_or-map (picked rows) cells.columns column [] [] (omega (arith, exists, columns_long db.pool cells.rows cells.kinds cells.columns (cells_are db are differ entry there)))
 
-  -- ---- a column of another entry beside
+  -- ---- a column of another entry, at the rows beside
 
   module _ (entry other : ℕ) (there : entry < length db.slots) (other_there : other < length db.slots) (rows beside : List ℕ) (low : AreRowNumbersOf (cells_of db entry) rows)
       (beside_low : AreRowNumbersOf (cells_of db other) beside) (as_many : length beside ≡ length rows) (accuracy column : ℕ) (exists : column < length (cells_of db other).kinds) where

@@ -1,4 +1,4 @@
--- Lists that are added one after another, each of a column of its own.
+-- The lists of the first entry are added one after another, each for another column.
 use Rattle.std.proofs.Common.{◌≡◌, ◌≢◌, ◌⊎◌, inl, inr, ℕ, ◌+◌, ◌<◌, ◌≤◌, eqb, List, length, map, get_or, slice_get, Option, None, Some, option_map, sum, ap, sym, ◌∙◌, subst, refl, arith}
 use Rattle.std.specs.Prelude.{IsSome}
 use Rattle.std.specs.List.{All, AllPairs, Contains}
@@ -22,11 +22,9 @@ use Rattle.key_bounds.proofs.Made.{is_some}
 abbrev IsThere : ColumnSteps → Type 0
 IsThere g = g.column ≡ g.column
 
--- the number of a column that statistics tell of their first entry
 abbrev number_of : QueryStats → ℕ → ℕ
 number_of stats k = get_or (map (λ g. g.column) (columns_of stats 0)) k 0
 
--- the lists of the first so many columns are there, and no other one
 pub record AreAdded (stats : QueryStats) (entry i : ℕ) (made : EntryLists) : Type 0 where
   pub rows : rows_of made entry ≡ Some (row_bound_in_stats stats 0)
   pub there : (k : ℕ) → k < i → list_of made entry (number_of stats k) ≡ Some (list_in_stats stats 0 (number_of stats k))
@@ -39,7 +37,6 @@ module _ (stats : QueryStats) (adds : AddUp stats) where
   abbrev number_at : ℕ → ℕ
   number_at k = number_of stats k
 
-  -- as they are read
   pub columns_read : (first : EntryStats) (read : List ColumnSteps) → slice_get stats.entries 0 ≡ Some first → read ≡ first.columns → read ≡ columns
   columns_read first read at same = same ∙ sym (ap (λ (e : EntryStats). e.columns) (get_or_from_slice_get stats.entries 0 first no_columns at))
 
@@ -66,7 +63,6 @@ module _ (stats : QueryStats) (adds : AddUp stats) where
     number_is : (i : ℕ) (one : ColumnSteps) → i < length columns → one ≡ get_or columns i one → one.column ≡ number_at i
     number_is i one low at = ap (λ (g : ColumnSteps). g.column) at ∙ sym (get_or-map (λ (g : ColumnSteps). g.column) columns i one 0 low)
 
-    -- a list may be added
     pub not_there : (i : ℕ) (one : ColumnSteps) (made : EntryLists) → i < length columns → one ≡ get_or columns i one → AreAdded stats entry i made → list_of made entry one.column ≡ None
     not_there i one made low at before = ap (list_of made entry) (number_is i one low at) ∙ before.later i (omega arith) low
 

@@ -1,4 +1,4 @@
--- What is known by carried conjuncts doesn't look past the parts of a set: a carrier is joined with the entry to which it carries.
+-- Bounds by carried conjuncts are the same in a set as in a part of it: a carrier is joined with the entry to which it carries, so both are in one part.
 use Rattle.std.proofs.Common.{◌≡◌, ℕ, ◌<◌, ◌≤◌, Bool, true, false, not, ◌&&◌, cond, eqb, List, [], ◌∷◌, length, get_or, refl, ap, sym, ◌∙◌, subst, arith, inl, inr}
 use Rattle.std.specs.Prelude.{if◌then◌else◌, nat_lt}
 use Rattle.std.specs.List.{Contains, filter}
@@ -29,7 +29,7 @@ use Rattle.key_bounds.proofs.Lower.{SetIsAbove, set_at_most}
 use Rattle.key_bounds.proofs.Standing.{has_list}
 use Rattle.key_bounds.proofs.Taking.{IsEitherWay, either_way}
 
--- ---- two filters
+-- ---- one filter after another
 
 module _ {X : Type 0} (q p r : X → Bool) where
   skipped : (x : X) (b : Bool) (xs : List X) → q x ≡ false → filter q (cond b (x ∷ xs) xs) ≡ filter q xs
@@ -40,7 +40,6 @@ module _ {X : Type 0} (q p r : X → Bool) where
   one_kept x true xs ys same = ap (λ (s : List X). cond (q x) (x ∷ s) s) same
   one_kept x false xs ys same = same
 
-  -- tests that agree where a third one holds leave the same items of those for which it holds
   pub same_kept : (xs : List X) → ((x : X) → Contains xs x → q x ≡ true → p x ≡ r x) → filter q (filter p xs) ≡ filter q (filter r xs)
   same_kept [] same = refl
   same_kept (x ∷ xs) same =

@@ -1,4 +1,4 @@
--- What statistics and carried lists tell is what is known by carried conjuncts.
+-- The bounds that `KeyLists` gives, from statistics and carried lists, are those that `bounds_by_keys` specifies.
 use Rattle.std.proofs.Common.{◌≡◌, ℕ, ◌<◌, ◌≤◌, ◌^◌, Bool, true, false, cond, eqb, List, [], ◌∷◌, length, map, get_or, Option, None, Some, option_map, refl, ap, sym, ◌∙◌, subst, arith, inl, inr}
 use Rattle.std.specs.Prelude.{if◌then◌else◌, nat_lt, unwrap_or}
 use Rattle.std.specs.List.{AllByRecursion, range_with_len}
@@ -37,7 +37,6 @@ use Rattle.key_bounds.specs.InSets.{HaveKeyLists, CarriesLists, CarriesTo, carri
 use Rattle.key_bounds.proofs.InParts.{looks_at_parts}
 use Rattle.key_bounds.proofs.Made.{is_some}
 
--- what holds at each place holds at one that is among them
 each_among : (Q : ℕ → ℕ → Type 0) (places : List Place) → AllByRecursion (λ p. Q p.entry p.column) places → (entry column : ℕ) → is_among places entry column ≡ true → Q entry column
 each_among Q [] all entry column among = absurd (false≢true among)
 each_among Q (p ∷ places) all entry column among = elim (or_cases (is_at entry column p) (is_among places entry column) among) [
@@ -46,7 +45,7 @@ each_among Q (p ∷ places) all entry column among = elim (or_cases (is_at entry
   | inr later ↦ each_among Q places all.1 entry column later
 ]
 
--- ---- one carrier after another
+-- ---- the carried bounds of an entry, in the order of its carriers
 
 module _ {Y : Type 0} (subset entry : ℕ) (f : Carried → Y) (g : Edge → Y) where
   same_made : (carried : List Carried) → AllByRecursion (λ c. c.edge.left.entry ≡ entry → f c ≡ g c.edge) carried
@@ -64,7 +63,7 @@ module _ {Y : Type 0} (subset entry : ℕ) (f : Carried → Y) (g : Edge → Y) 
         | inr outside ↦ rw outside rest
       ]
 
--- ---- what is told
+-- ---- the bounds in a set, from statistics and carried lists
 
 module _ (schema : Schema) (query : Query) (tables : Tables) (accuracy : ℕ) (carried : List Carried) (along : TellAlong query tables accuracy (carriers schema query) carried)
     (own : EntryLists) (held : HoldsKnown query (statistics_of tables accuracy) (length query.from) (joined_columns query) own) (count : ℕ) (all : count ≡ length query.from) where
@@ -128,7 +127,7 @@ module _ (schema : Schema) (query : Query) (tables : Tables) (accuracy : ℕ) (c
   known_is = fun_ext (λ subset. same_bounds (known_by_keys keys subset).rows (bounds_by_keys schema query tables accuracy subset).rows (known_by_keys keys subset).list (bounds_by_keys schema query tables accuracy subset).list
       (fun_ext (rows_same subset)) (fun_ext (λ entry. fun_ext (list_same subset entry))))
 
-  -- ---- what the bounds of all sets need
+  -- ---- what is required of the bounds of all sets
 
   pub are_keyed : (es : List Edge) → es ≡ equalities_of query → EachNamedColumn (λ entry column. entry < length query.from) (equalities_of query) → length query.from ≤ most_entries
       → (subset : ℕ) → subset < 2 ^ length query.from → HaveKeyLists keys es subset

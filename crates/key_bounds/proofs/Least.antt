@@ -1,4 +1,4 @@
--- The least of several lists and of several numbers of rows.
+-- The least of several lists still dominates the keys that each of them dominates. The least of several numbers of rows is still enough for the rows.
 use Rattle.std.proofs.Common.{◌≡◌, ℕ, ◌≤◌, min, List, [], ◌∷◌, length, map, sum, refl, ap, ◌∙◌, arith}
 use Rattle.std.specs.List.{AllByRecursion}
 use Rattle.degree_sequences.specs.Domination.{DominatesKeys}
@@ -12,7 +12,6 @@ use Rattle.key_bounds.specs.Bounds.{least_list, least_rows}
 both_dominate : (s t keys : List ℕ) → DominatesKeys s keys → DominatesKeys t keys → DominatesKeys (lesser s t) keys
 both_dominate s t keys h k picked apart = omega (arith, running_sum-lesser s t (length picked), h picked apart, k picked apart)
 
--- lists that are made of equalities
 module _ (made : Edge → List ℕ) where
   pub least_dominates : (keys list : List ℕ) (es : List Edge) → DominatesKeys list keys → AllByRecursion (λ e. DominatesKeys (made e) keys) es
       → DominatesKeys (least_list list (map made es)) keys
@@ -29,7 +28,6 @@ module _ (made : Edge → List ℕ) where
   least_sum rows list (e ∷ es) each =
       least_sum rows (lesser list (made e)) es each ∙ ap (λ (n : ℕ). least_rows n (map rows es)) (sum-lesser list (made e) ∙ ap (min (sum list)) (each e))
 
-  -- it is at most the first
   pub least_below : (list : List ℕ) (es : List Edge) → IsAbove list (least_list list (map made es))
   least_below list [] r = omega arith
   least_below list (e ∷ es) r = omega (arith, least_below (lesser list (made e)) es r, running_sum-lesser list (made e) r)

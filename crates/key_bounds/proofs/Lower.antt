@@ -1,5 +1,5 @@
--- Bounds of entries that are at most others give a set a bound that is at most theirs. For every K they are near the others, so K^n times
--- the one bound is at most (K + 1)^n times the other; and for large K that says that it is at most the other.
+-- If bounds of entries are lowered, the bound of a set doesn't rise. For every K the lower bounds are near the upper ones, so K^n times the lower
+-- set bound is at most (K + 1)^n times the upper set bound. For large K this says that the lower set bound is at most the upper one.
 use Rattle.std.proofs.Common.{◌≡◌, ℕ, zero, suc, ◌+◌, ◌*◌, ◌^◌, ◌<◌, ◌≤◌, List, [], ◌∷◌, length, refl, ap, arith, inl, inr}
 use Rattle.std.specs.List.{AllByRecursion}
 use Rattle.std.proofs.Math.Nat.{mul-le-mul_left, pow-succ', pow-zero}
@@ -30,7 +30,7 @@ grows j zero = rw (pow-zero (j + 2), pow-zero (j + 1)) (omega arith)
 grows j (suc n) =
     rw (pow-succ' (j + 2) n, pow-succ' (j + 1) n) (one_more j ((j + 2) ^ n) ((j + 1) ^ n) (excess n) (grows j n))
 
--- ---- at every k near is at most
+-- ---- a number that is near another for every k is at most the other
 
 never_above : (k p q e low high : ℕ) → k ≡ e * high + 1 → 0 < q → p * k ≤ q * (k + e) → q * low ≤ p * high → high < low → ⊥
 never_above k p q e low high is some growth near above =
@@ -59,7 +59,7 @@ at_most n low high near = elim (cases_lt high low) [
     near_here : (j : ℕ) → (j + 1) ^ n * low ≤ (j + 2) ^ n * high
     near_here j = let same : j + 1 + 1 ≡ j + 2 = omega arith in rw same at (near (j + 1))
 
--- ---- a set
+-- ---- the bounds of a set
 
 weaker : (P Q : ℕ → Type 0) → ((x : ℕ) → P x → Q x) → (xs : List ℕ) → AllByRecursion P xs → AllByRecursion Q xs
 weaker P Q more [] all = tt
@@ -73,7 +73,6 @@ weaker_places P Q more (p ∷ places) all = (more p.entry p.column all.0, weaker
 scaled : (accuracy m n : ℕ) → m ≤ n → accuracy * m ≤ (accuracy + 1) * n
 scaled accuracy m n most = omega (arith, mul-le-mul_left accuracy most)
 
--- the lists of the one are above those of the other, at the entries of a set and at the columns that its equalities name
 pub record SetIsAbove (upper lower : EntryBounds) (es : List Edge) (subset : ℕ) : Type 0 where
   pub rows : AllByRecursion (λ entry. lower.rows entry ≤ upper.rows entry) (entries_of_set subset)
   pub columns : EachNamedColumn (λ entry column. IsAbove (upper.list entry column) (lower.list entry column)) (equalities_within subset es)

@@ -1,4 +1,4 @@
--- Row bounds and lists in a set, as they are put together.
+-- The code puts the row bounds and lists of entries in a set together one by one. These lemmas are about what is made so far.
 use Rattle.std.proofs.Common.{◌≡◌, ◌≢◌, ◌⊎◌, inl, inr, ℕ, ◌<◌, ◌≤◌, ◌^◌, Bool, true, false, ◌&&◌, cond, eqb, List, [], ◌∷◌, length, map, min, sum, get_or, Option, None, Some, option_map, refl, ap, sym, ◌∙◌, subst, arith}
 use Rattle.std.specs.Prelude.{All, IsSome, if◌then◌else◌, unwrap_or}
 use Rattle.std.specs.List.{AllByRecursion, filter}
@@ -30,10 +30,9 @@ some_there (Some x) h = (x, refl)
 pub is_some : {X : Type 0} (o : Option X) (x : X) → o ≡ Some x → IsSome o
 is_some o x is = subst (λ o. IsSome o) (sym is) refl
 
--- ---- one of those that are carried, after another
+-- ---- the loop over the carried bounds
 
 module _ (subset entry : ℕ) where
-  -- it counts, or is passed over
   next_carried : (c : Carried) (carried : List Carried)
       → carried_to (c ∷ carried) subset entry ≡ cond (is_carried subset entry c) (c ∷ carried_to carried subset entry) (carried_to carried subset entry)
   next_carried c carried = by (joins_within subset c.edge)
@@ -61,7 +60,6 @@ module _ (subset entry : ℕ) where
         by true = refl
         by false = refl
 
-    -- a carried list sums to the carried row bound
     carried_sum : (c : Carried) → IsSome (list_of c.lists entry column) → sum (list_carried entry column c) ≡ rows_carried entry c
     carried_sum c there =
         let found = some_there (list_of c.lists entry column) there in
@@ -85,7 +83,7 @@ module _ (subset entry : ℕ) where
         ap (λ (s : List ℕ). sum s) (next_list c carried list) ∙ within_sum carried (narrowed_by subset entry column c list) carry.1
         ∙ ap (rows_within carried subset entry) (narrowed_sum c list carry.0) ∙ sym (next_rows c carried (sum list))
 
--- ---- rows
+-- ---- row bounds
 
 module _ (bounds : EntryBounds) where
   pub record HasRowsTo (i : ℕ) (made : EntryLists) : Type 0 where
@@ -121,7 +119,6 @@ module _ (bounds : EntryBounds) where
     ];
   }
 
-  -- a list that is there stays there
   pub kept_there : (at in_column : ℕ) (list : List ℕ) (old new : EntryLists) → list_of new at in_column ≡ Some list
       → ((e c : ℕ) → ((e ≢ at) ⊎ (c ≢ in_column)) → list_of new e c ≡ list_of old e c)
       → (e c : ℕ) → IsSome (list_of old e c) → IsSome (list_of new e c)
@@ -133,7 +130,7 @@ module _ (bounds : EntryBounds) where
     ]
   ]
 
-  -- ---- all together
+  -- ---- the bounds of a set when all are put together
 
   module _ (count : ℕ) (made : EntryLists) (part : IsPartOf bounds count made) (none : (entry : ℕ) → count ≤ entry → bounds.rows entry ≡ 0)
       (es : List Edge) (have : All (HaveLists made) es) (subset : ℕ) (fits : subset < 2 ^ count) where
@@ -164,7 +161,7 @@ module _ (bounds : EntryBounds) where
       columns = each_named (λ entry column. IsSome (list_of made entry column)) subset es (λ k d low joins. have k d low);
     }
 
--- ---- what is known in a set
+-- ---- the bounds that are known in a set
 
 module _ (keys : KeyLists) (subset : ℕ) where
   abbrev known : EntryBounds
@@ -180,7 +177,6 @@ module _ (keys : KeyLists) (subset : ℕ) where
     pub list_known : list_within keys.carried subset entry column own ≡ known.list entry column
     list_known = sym (ap (λ (o : Option (List ℕ)). unwrap_or (option_map (list_within keys.carried subset entry column) o) []) there)
 
-    -- the list sums to the row bound
     pub sum_known : (made : EntryLists) (list : List ℕ) → rows_of made entry ≡ Some (known.rows entry) → entry < keys.count
         → All (λ c. c.edge.left.entry ≡ entry → IsSome (list_of c.lists entry column)) keys.carried
         → list ≡ list_within keys.carried subset entry column own → rows_of made entry ≡ Some (sum list)
@@ -192,7 +188,7 @@ module _ (keys : KeyLists) (subset : ℕ) where
         ∙ sym (ap (λ (s : List ℕ). sum s) is)
         )
 
--- ---- what the code reads
+-- ---- lists that the code reads
 
 pub small_there : (lists : EntryLists) (entry column : ℕ) (list : List ℕ) → list_of lists entry column ≡ Some list → sum list < 2 ^ 64
 small_there lists entry column list is = lists.bounds entry (sum list) (lists.sums entry column list is).1
@@ -200,7 +196,6 @@ small_there lists entry column list is = lists.bounds entry (sum list) (lists.su
 pub lesser_small : (own other made : List ℕ) → made ≡ lesser own other → sum own < 2 ^ 64 → sum made < 2 ^ 64
 lesser_small own other made is small = omega (arith, ap (λ (s : List ℕ). sum s) is, sum-lesser own other, small)
 
--- at an equality, what is carried has the lists of both of its columns
 pub carried_at : (es : List Edge) (carried : List Carried) → All (CarriesLists es) carried → (i : ℕ) (d : Edge) → i < length es
     → All (CarriesTo (get_or es i d).left) carried × All (CarriesTo (get_or es i d).right) carried
 carried_at es carried all i d low = (

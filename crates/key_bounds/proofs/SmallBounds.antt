@@ -1,4 +1,4 @@
--- Bounds of small tables where conjuncts are carried, by computation.
+-- These examples compute the bounds of small tables where conjuncts are carried.
 use Rattle.std.proofs.Common.{◌≡◌, ℕ, zero, suc, true, Option, None, Some, List, [], ◌∷◌, length, map, refl, ap, ◌∙◌, arith}
 use Rattle.std.specs.Prelude.{nat_lt, pos, if◌then◌else◌}
 use Rattle.std.proofs.Math.Path.{fun_ext}
@@ -34,9 +34,8 @@ use Rattle.key_bounds.specs.Bounds.{least_list, least_rows, set_bounds_by_keys}
 use Rattle.key_bounds.specs.Examples.{by_both, by_manager, is_number, trade_schema, trade_tables, with_a_stray, worker_schema, worker_tables}
 use Rattle.key_bounds.proofs.SmallShops.{shop_carriers, trade_carriers, undeclared_carriers, worker_carriers}
 
--- ---- own conjuncts, and what they make of answers
+-- ---- an own conjunct `column = 3`, and what it makes of lists and numbers of rows
 
--- a conjunct that a column is 3, where an entry has one of its own
 abbrev own_of : ℕ → Option ℕ → List Cond
 own_of entry None = []
 own_of entry (Some column) = is_number entry column 3 ∷ []
@@ -56,7 +55,6 @@ module _ {A : Type 0} (answers : ComparisonAnswers A) where
       ∙ ap (λ (c : Conjunction A). answers.both (and_answer answers (one_conjunction (c ∷ []))) answers.whole)
       (of_compare answers op.Eq (column_operand entry column) (operand.Int (pos 3)) true)
 
--- of an entry its own conjunct is known, or nothing is
 abbrev AsKnown : Query → ℕ → Option (Option ℕ) → Type 0
 AsKnown query entry None = entry ≡ entry
 AsKnown query entry (Some own) = own_conjuncts entry query.conjuncts ≡ own_of entry own
@@ -79,7 +77,7 @@ list_is : (query : Query) (entry : ℕ) (known : Option (Option ℕ)) → AsKnow
 list_is query entry None stands lists = refl
 list_is query entry (Some own) stands lists = of_own (list_answers lists) query entry own stands
 
--- ---- bounds from equalities, carriers, and what conjuncts make of answers
+-- ---- bounds by equalities, by carriers, and by what own conjuncts make of lists and numbers of rows
 
 abbrev told_by : Tables → ℕ → List Edge → List Edge → (ℕ → RowCounts → ℕ) → (ℕ → ColumnLists → List ℕ) → ℕ → EntryBounds
 told_by tables n es cs counted listed subset = record {
@@ -117,7 +115,7 @@ module _ (query : Query) (es : List Edge) (joins : equalities_of query ≡ es) (
   by_keys schema tables cs are =
       ap (λ (s : List Edge). sets_by tables (length query.from) (equalities_of query) s by_conjuncts list_by_conjuncts) are ∙ parts_are tables cs
 
--- ---- O and C
+-- ---- the example with the entries O and C
 
 abbrev one_edge : List Edge
 one_edge = edge_of 0 1 1 0 ∷ []

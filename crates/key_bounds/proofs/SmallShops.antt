@@ -1,4 +1,4 @@
--- Who carries in small queries, by computation.
+-- These examples compute who carries in small queries.
 use Rattle.std.proofs.Common.{◌≡◌, [], ◌∷◌, refl, arith}
 use Rattle.std.specs.Prelude.{pos}
 use Rattle.berge_tree.specs.Testing.{edge_of}

@@ -1,4 +1,4 @@
--- What is known by carried conjuncts stands, in each set of entries, for the rows that may take part in a choice for it.
+-- Bounds by carried conjuncts hold, in each set of entries, for the rows that may take part in a choice for the set.
 use Rattle.std.proofs.Common.{◌≡◌, ℕ, ◌<◌, ◌≤◌, ◌^◌, Bool, true, eqb, List, [], ◌∷◌, length, map, sum, get_or, ap, sym, ◌∙◌, subst, arith, inl, inr}
 use Rattle.std.specs.Prelude.{if◌then◌else◌}
 use Rattle.std.specs.List.{AllByRecursion, Contains, filter, range_with_len}
@@ -46,7 +46,6 @@ use Rattle.key_bounds.specs.Bounds.{bounds_by_keys, least_rows, list_by_keys, ro
 use Rattle.key_bounds.proofs.Least.{least_dominates, least_falls, least_fits, least_sum}
 use Rattle.key_bounds.proofs.Taking.{none_lost, of_scans, refers_to_all, taken_at, takes, taking, taking_at}
 
--- of rows of which fewer pass, fewer are left
 fewer_left : (p q : ℕ → Bool) → ((row : ℕ) → p row ≡ true → q row ≡ true) → (rows : List ℕ) → length (filter p rows) ≤ length (filter q rows)
 fewer_left p q more [] = omega arith
 fewer_left p q more (row ∷ rows) =
@@ -84,7 +83,7 @@ module _ (query : Query) (tables : Tables) (accuracy entry : ℕ) (es : List Edg
       (λ e. carried_sum query tables e accuracy column)
       ∙ ap (λ (n : ℕ). least_rows n (map (carried_rows query tables) es)) (base_sum column)
 
--- ---- in a set
+-- ---- the bounds in a set
 
 module _ (schema : Schema) (query : Query) (tables : Tables) (accuracy subset : ℕ) where
   abbrev bounds : EntryBounds
@@ -111,7 +110,6 @@ module _ (schema : Schema) (query : Query) (tables : Tables) (accuracy subset : 
         let both = and_parts (has_entry subset e.left.entry) (has_entry subset e.right.entry) joins in
         (entry_below (length query.from) subset e.left.entry fits both.0, entry_below (length query.from) subset e.right.entry fits both.1)
 
-    -- what holds of each joined column of an entry of the set holds of the columns that its equalities name
     pub at_named : (Q : ℕ → ℕ → Type 0) → ((entry column : ℕ) → entry < length query.from → has_entry subset entry ≡ true → is_among (joined_columns query) entry column ≡ true → Q entry column)
         → EachNamedColumn Q (equalities_within subset (equalities_of query))
     at_named Q each =
@@ -210,7 +208,7 @@ module _ (schema : Schema) (query : Query) (tables : Tables) (accuracy subset : 
         dominate = set_dominates;
       }
 
--- ---- in every set
+-- ---- the bounds in all sets
 
 pub stand_by_keys : (schema : Schema) (query : Query) (tables : Tables) (accuracy : ℕ) → DeclaredKeysHold schema query tables
     → (key : Keys) × StandForLists query tables (scans_of query tables) key (bounds_by_keys schema query tables accuracy)

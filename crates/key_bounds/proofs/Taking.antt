@@ -1,5 +1,5 @@
--- The rows of a set's entries that may take part in a choice: those of the scan that refer, along each carrier in the set, to a row of the
--- carrier's scan. No choice of the set's level has another row.
+-- A row of a set's entry may take part in a choice if it is in the scan and refers, along each carrier in the set, to a row of the carrier's scan. No
+-- choice of the set's level has another row.
 use Rattle.std.proofs.Common.{◌≡◌, ◌⊎◌, inl, inr, ℕ, ◌<◌, ◌≤◌, ◌^◌, Bool, true, not, ◌&&◌, ◌||◌, cond, eqb, List, [], ◌∷◌, length, map, get_or, Option, None, Some, refl, ap, sym, ◌∙◌, subst, arith}
 use Rattle.std.specs.List.{position_or_len}
 use Rattle.std.specs.List.{Contains, filter, list_all, range_with_len}
@@ -59,7 +59,6 @@ either_way (f ∷ es) e here = elim (one_in f (exchanged f ∷ both_ways es) e h
   ]
 ]
 
--- what holds at both columns of each equality holds at the right one of each that is turned or not
 named_left : (Q : ℕ → ℕ → Type 0) (es : List Edge) → EachNamedColumn Q es → (e : Edge) → Contains es e → Q e.left.entry e.left.column × Q e.right.entry e.right.column
 named_left Q [] named e here = absurd (in_none e here)
 named_left Q (f ∷ es) named e here = elim (one_in f es e here) [
@@ -89,7 +88,6 @@ module _ (query : Query) (tables : Tables) (e : Edge) where
         | inr past ↦ true≢false (sym same ∙ fails_before_first (equal_at row) others other 0 (omega arith))
       ]
 
-  -- it is there where some row has the value, and it has the value too
   found : (row other : ℕ) (o : Option ℕ) → o ≡ referred_row tables e row → other < row_counts tables e.right.entry → equal_at row other ≡ true
       → (first : ℕ) × (o ≡ Some first) × (first < row_counts tables e.right.entry) × (equal_at row first ≡ true)
   found row other (Some first) is low same =
@@ -101,7 +99,6 @@ module _ (query : Query) (tables : Tables) (e : Edge) where
       let at : get_or others other 0 ≡ other = get_or-range_with_len 0 (row_counts tables e.right.entry) other 0 low ∙ omega arith in
       absurd (never row other is (omega (arith, low, length-range_with_len 0 (row_counts tables e.right.entry))) (ap (equal_at row) at ∙ same))
 
-  -- where no two rows have one value in the right column, it is this row
   it_refers : HaveUniqueValues tables e.right.entry e.right.column → (row other : ℕ) → other < row_counts tables e.right.entry → equal_at row other ≡ true
       → passes_own (conjuncts_of query tables) e.right.entry other ≡ true → refers_to_scanned query tables e row ≡ true
   it_refers apart row other low same passes =
@@ -121,7 +118,6 @@ module _ (schema : Schema) (query : Query) (tables : Tables) (subset : ℕ) (fit
   abbrev rows : ℕ → ℕ
   rows = row_counts tables
 
-  -- along each carrier to the entry it refers to a scanned row
   abbrev pub refers_to_all : ℕ → ℕ → Bool
   refers_to_all entry row = list_all (λ e. refers_to_scanned query tables e row) (carriers_to (carriers schema query) subset entry)
 
@@ -155,7 +151,7 @@ module _ (schema : Schema) (query : Query) (tables : Tables) (subset : ℕ) (fit
     ];
   }
 
-  -- ---- no choice has another row
+  -- ---- every choice has only rows that may take part
 
   module _ (keys : DeclaredKeysHold schema query tables) (order : List ℕ) (o : IsOrderOfSet (entries_of_set subset) order) where
     low_in : (entry : ℕ) → Contains order entry → entry < length query.from
@@ -184,7 +180,6 @@ module _ (schema : Schema) (query : Query) (tables : Tables) (subset : ℕ) (fit
       row_low : (entry : ℕ) → has_entry subset entry ≡ true → row_of entry < rows entry
       row_low entry has = omega (arith, (range_within 0 (rows entry) (row_of entry) (scanned_row entry has).0).1)
 
-      -- an equality within the set holds
       equality_true : (e : Edge) → Contains (equalities_of query) e → has_entry subset e.left.entry ≡ true → has_entry subset e.right.entry ≡ true
           → are_equal_at tables e (row_of e.left.entry) (row_of e.right.entry) ≡ true
       equality_true e there left right =
@@ -207,7 +202,6 @@ module _ (schema : Schema) (query : Query) (tables : Tables) (subset : ℕ) (fit
           subst (λ (g : Edge). has_entry subset g.left.entry ≡ true → has_entry subset g.right.entry ≡ true
           → are_equal_at tables g (row_of g.left.entry) (row_of g.right.entry) ≡ true) (sym back.2) as_turned left right
 
-      -- along a carrier in the set the row refers to the row of the carrier
       carrier_true : (e : Edge) → Contains (carriers schema query) e → joins_within subset e ≡ true → refers_to_scanned query tables e (row_of e.left.entry) ≡ true
       carrier_true e carrier joins =
           let made = from_filter (carries schema query) (both_ways (equalities_of query)) e carrier in

@@ -33,9 +33,9 @@ abbrev pub list_by_keys : Query → Tables → ℕ → ℕ → ℕ → List Edge
 list_by_keys query tables accuracy entry column es =
     least_list (scan_list query (statistics_of tables accuracy) entry column) (map (λ e. carried_list query tables accuracy e column) es)
 
--- ---- in a set
+-- ---- the bounds of entries in a set
 
--- the row bound of each FROM entry, and the list of each joined column. All others have the bound 0 and the empty list
+-- the row bound of each FROM entry, and the list of each joined column. Other entries have the bound 0, and other columns the empty list
 abbrev pub bounds_by_keys : Schema → Query → Tables → ℕ → ℕ → EntryBounds
 bounds_by_keys schema query tables accuracy subset = record {
   rows = λ entry. if nat_lt entry (length query.from)
@@ -44,7 +44,7 @@ bounds_by_keys schema query tables accuracy subset = record {
       then list_by_keys query tables accuracy entry column (carriers_to (carriers schema query) subset entry) else [];
 }
 
--- the bound of each set of entries. Its place is the number whose bits are the set
+-- the bound of each set of entries, at the index whose bits are the set
 abbrev pub set_bounds_by_keys : Schema → Query → Tables → ℕ → List ℕ
 set_bounds_by_keys schema query tables accuracy =
     bounds_in_sets (bounds_by_keys schema query tables accuracy) (equalities_of query) (length query.from)

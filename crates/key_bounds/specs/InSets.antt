@@ -27,14 +27,14 @@ rows_carried entry c = unwrap_or (rows_of c.lists entry) 0
 abbrev pub list_carried : ℕ → ℕ → Carried → List ℕ
 list_carried entry column c = unwrap_or (list_of c.lists entry column) []
 
--- the least of a row bound and of those that are carried to the entry within the set, and then the same of a list
+-- the least of a row bound and of the row bounds that are carried to the entry within the set; below, the same for a list
 abbrev pub rows_within : List Carried → ℕ → ℕ → ℕ → ℕ
 rows_within carried subset entry rows = least_rows rows (map (rows_carried entry) (carried_to carried subset entry))
 
 abbrev pub list_within : List Carried → ℕ → ℕ → ℕ → List ℕ → List ℕ
 list_within carried subset entry column list = least_list list (map (list_carried entry column) (carried_to carried subset entry))
 
--- ---- the same in steps, one for each carried bound
+-- ---- `rows_within` and `list_within` in steps, one for each carried bound
 
 abbrev pub is_carried : ℕ → ℕ → Carried → Bool
 is_carried subset entry c = joins_within subset c.edge && c.edge.left.entry == entry
@@ -45,7 +45,7 @@ fewer_by subset entry c rows = if is_carried subset entry c then min rows (rows_
 abbrev pub narrowed_by : ℕ → ℕ → ℕ → Carried → List ℕ → List ℕ
 narrowed_by subset entry column c list = if is_carried subset entry c then lesser list (list_carried entry column c) else list
 
--- ---- as bounds of entries
+-- ---- the bounds of all entries in a set
 
 abbrev pub known_by_keys : KeyLists → ℕ → EntryBounds
 known_by_keys keys subset = record {
@@ -53,9 +53,9 @@ known_by_keys keys subset = record {
   list = λ entry column. unwrap_or (option_map (list_within keys.carried subset entry column) (list_of keys.own entry column)) [];
 }
 
--- ---- which lists have to be there for a set
+-- ---- which lists must be known for a set
 
--- if `c` is carried to the entry of this place, it has a list of the place's column
+-- if `c` is carried to the entry of this place, `c` has a list of the place's column
 abbrev pub CarriesTo : Place → Carried → Type 0
 CarriesTo place c = c.edge.left.entry ≡ place.entry → IsSome (list_of c.lists place.entry place.column)
 
@@ -63,8 +63,8 @@ CarriesTo place c = c.edge.left.entry ≡ place.entry → IsSome (list_of c.list
 abbrev pub CarriesLists : List Edge → Carried → Type 0
 CarriesLists es c = AllByRecursion (λ place. CarriesTo place c) (places_of es)
 
--- the set has only entries below `keys.count`, which are at most `most_entries`. Each entry below it has a row bound, and each column that
--- these equalities name has a list. What is carried to an entry has a list of each of its columns that they name
+-- the set has only entries below `keys.count`, which is at most `most_entries`. Each entry below `keys.count` has a row bound, and each column that
+-- these equalities name has a list. Whatever is carried to an entry has a list of each of the entry's columns that the equalities name
 pub record HaveKeyLists (keys : KeyLists) (es : List Edge) (subset : ℕ) : Type 0 where
   pub few : keys.count ≤ most_entries
   pub fits : subset < 2 ^ keys.count
@@ -75,7 +75,7 @@ pub record HaveKeyLists (keys : KeyLists) (es : List Edge) (subset : ℕ) : Type
 
 -- ---- bounds while they are put together
 
--- exactly the first `count` entries have row bounds in `lists`. These row bounds, and all lists that are there, are those of `bounds`
+-- exactly the first `count` entries have row bounds in `lists`. These row bounds, and all lists in `lists`, are those of `bounds`
 pub record IsPartOf (bounds : EntryBounds) (count : ℕ) (lists : EntryLists) : Type 0 where
   pub rows : (entry : ℕ) → entry < count → rows_of lists entry ≡ Some (bounds.rows entry)
   pub past : (entry : ℕ) → count ≤ entry → rows_of lists entry ≡ None

@@ -10,7 +10,7 @@ use Rattle.planning.specs.Bounds.{scan_bounds_of}
 use Rattle.planning.specs.Plans.{planned_from}
 use Rattle.key_bounds.specs.Bounds.{bounds_by_keys}
 
--- the bounds of scans are those of the statistics of each table by itself: rows are still scanned that refer to no row which passes
+-- the bounds of scans are without carried conjuncts, because a scan still has the rows that refer to no row of a carrier's scan
 unfoldable pub planned_by_keys : Schema → Query → Tables → ℕ → ℕ → Result Plan PlanError
 planned_by_keys schema query tables accuracy budget =
     planned_from (bounds_by_keys schema query tables accuracy) (scan_bounds_of query tables accuracy) (equalities_of query) (length query.from) budget

@@ -15,7 +15,7 @@ pub record TellByKeys (schema : Schema) (query : Query) (tables : Tables) (accur
   pub own : Tells query stats (statistics_of tables accuracy)
   pub along : TellAlong query tables accuracy (carriers schema query) carried
 
--- there are a schema, tables and an accuracy of which they tell
+-- there are a schema, tables and an accuracy of which `stats` and `carried` tell
 pub record AreTold (query : Query) (stats : QueryStats) (carried : List Carried) : Type 0 where
   pub schema : Schema
   pub tables : Tables

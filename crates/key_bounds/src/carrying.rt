@@ -1,4 +1,5 @@
-//! Makes the bounds that are carried along the references of a schema, from a query's tables.
+//! From a query's tables, makes the bounds that are carried along the references of a schema. They bound the rows of an entry that refer to rows
+//! which another entry's own conjuncts leave.
 ghost use Rattle.std.specs.Prelude.{◌≡◌, All, IfOk, Some, length};
 ghost use Rattle.bound_fold.specs.Lists.{list_of, rows_of};
 ghost use Rattle.join_graph.specs.Conjuncts.{equalities_of, local_of};
@@ -22,7 +23,7 @@ use predicate_bounds::QueryStats;
 use query_types::Query;
 use std::alloc::Global;
 
-// Takes the row bound and the lists of the first entry of these statistics as those of `entry`.
+// The row bound and the lists of the first entry of `stats`, as those of `entry`.
 fn first_lists(alloc: Global, stats: &QueryStats, entry: u8) -> Result<EntryLists, NoMemory>
     requires { AddUp stats.now }
     ensures rows { IfOk result (λ made. rows_of made entry ≡ Some (row_bound_in_stats stats.now 0)) }
@@ -75,8 +76,8 @@ fn carried_over(
     Ok(Carried { edge, lists })
 }
 
-/// What is carried along each of these equalities. They are equalities of the query, some with their sides exchanged. `parts` is what `split`
-/// gives, and `own` is what `gather_query` gives.
+/// The bounds that are carried along each of `edges`. These are equalities of the query, some with their sides exchanged. `parts` is the result of
+/// `split`, and `own` is the result of `gather_query`.
 pub(crate) fn carried_along(
     alloc: Global,
     query: &Query,

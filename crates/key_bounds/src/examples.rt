@@ -9,7 +9,7 @@ ghost use Rattle.key_carriers.specs.Widened.{referred, referring};
 ghost use Rattle.key_bounds.specs.Bounds.{set_bounds_by_keys};
 ghost use Rattle.key_bounds.specs.Examples.{by_both, by_manager, trade_schema, trade_tables, with_a_stray, worker_schema, worker_tables};
 
-/// An entry carries to another if the schema declares the reference and the key. Within a set, both entries have to be in it.
+/// An entry carries its own conjuncts to another if the schema declares the reference and the key. Within a set, both entries have to be in the set.
 pub fn who_carries()
     ensures declared { carriers shop_schema by_region ≡ edge_of 0 1 1 0 ∷ [] }
     ensures undeclared { carriers undeclared_schema by_region ≡ [] }
@@ -20,7 +20,7 @@ pub fn who_carries()
     ensures outside { carriers_to (edge_of 0 1 1 0 ∷ []) 1 0 ≡ [] }
 {}
 
-/// The widened table of O(N, CID) and C(ID, REG), also with a last order that refers to nothing.
+/// The widened table of orders O(N, CID) and customers C(ID, REG). It is the same with one more order, which refers to no customer.
 pub fn widened_tables()
     ensures rows { referring region_tables (edge_of 0 1 1 0) ≡ 0 ∷ 1 ∷ 2 ∷ 3 ∷ 4 ∷ [] }
     ensures others { referred region_tables (edge_of 0 1 1 0) ≡ 0 ∷ 1 ∷ 1 ∷ 1 ∷ 1 ∷ [] }
@@ -28,7 +28,7 @@ pub fn widened_tables()
 {}
 
 /// O and C, where C.REG = 3 for one customer, who has one order. The bound of both entries is 4 without carried conjuncts and 1 with them,
-/// whether or not another order refers to nothing. If the schema doesn't declare the reference, the bound stays 4.
+/// whether or not another order refers to no customer. If the schema doesn't declare the reference, the bound stays 4.
 pub fn orders_of_a_region()
     ensures plain { set_bounds_of by_region region_tables 1 ≡ 1 ∷ 5 ∷ 1 ∷ 4 ∷ [] }
     ensures keyed { set_bounds_by_keys shop_schema by_region region_tables 1 ≡ 1 ∷ 5 ∷ 1 ∷ 1 ∷ [] }

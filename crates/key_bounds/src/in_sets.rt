@@ -1,4 +1,4 @@
-//! The bounds of the entries of a set. They are the least of each entry's own bound and the bounds that are carried to it within the set.
+//! The bounds of the entries of a set. Each is the least of the entry's own bound and the bounds that are carried to the entry within the set.
 ghost use Rattle.std.specs.Prelude.{◌≡◌, ◌<◌, ◌≤◌, ◌^◌, ℕ, All, IfOk, IsSome, MatchBool, None, OnOk, Some};
 ghost use Rattle.std.specs.List.{sum};
 ghost use Rattle.bound_fold.specs.Lists.{list_of, rows_of};
@@ -17,7 +17,7 @@ use piece_math::Pieces;
 use set_bounds::{KnownInSets, folded_bound};
 use std::alloc::Global;
 
-// Whether something is carried to an entry within a set.
+// Whether carried bounds count for an entry in a set: both entries of their equality are in the set, and `entry` is its left entry.
 fn is_carried(carried: &Carried, subset: EntrySet, entry: u8) -> bool
     ensures { result ≡ is_carried subset entry carried.now }
 {
@@ -27,7 +27,7 @@ fn is_carried(carried: &Carried, subset: EntrySet, entry: u8) -> bool
     carried.edge.left.entry == entry
 }
 
-// A row bound, or the carried one, if that is carried to the entry within the set and is less.
+// The least of `rows` and the carried row bound, if that counts for the entry in the set; otherwise `rows`.
 fn fewer(rows: u64, one: &Carried, subset: EntrySet, entry: u8) -> u64
     ensures { result ≡ fewer_by subset entry one.now rows }
 {
@@ -37,7 +37,7 @@ fn fewer(rows: u64, one: &Carried, subset: EntrySet, entry: u8) -> u64
     rows
 }
 
-// The row bound of an entry in a set. `own` is its bound by itself.
+// The row bound of an entry in a set. `own` is the entry's row bound without carried bounds.
 fn least_rows(carried: &[Carried], subset: EntrySet, entry: u8, own: u64) -> u64
     ensures { result ≡ rows_within carried.now subset entry own }
 {
@@ -48,7 +48,7 @@ fn least_rows(carried: &[Carried], subset: EntrySet, entry: u8, own: u64) -> u64
     rows
 }
 
-// The list of a column, which has to be there.
+// The list of a column. `lists` must have it.
 fn list_at(lists: &EntryLists, place: Place) -> &Pieces
     requires { IsSome (list_of lists.now place.entry place.column) }
     ensures list { list_of lists.now place.entry place.column ≡ Some result.now }
@@ -60,7 +60,7 @@ fn list_at(lists: &EntryLists, place: Place) -> &Pieces
     }
 }
 
-// A list, lowered to the carried list of its column if that is carried to the entry within the set.
+// The list `list`, lowered to the carried list of its column if that counts for the entry in the set.
 fn narrowed(list: Pieces, one: &Carried, subset: EntrySet, place: Place) -> Result<Pieces, NoMemory>
     requires small { sum list < 2 ^ 64 }
     requires carries { CarriesTo place one.now }
@@ -73,7 +73,7 @@ fn narrowed(list: Pieces, one: &Carried, subset: EntrySet, place: Place) -> Resu
     Ok(list)
 }
 
-// The list of a column in a set. `own` is its list by itself.
+// The list of a column in a set. `own` is the column's list without carried lists.
 fn least_list(
     own: &Pieces,
     carried: &[Carried],
@@ -108,7 +108,7 @@ fn with_rows(alloc: Global, keys: &KeyLists, subset: EntrySet) -> Result<EntryLi
     Ok(made)
 }
 
-// Adds the list of a column in a set. It isn't there yet.
+// Adds the list of a column in a set to `made`, which doesn't have this list yet.
 fn add_new(
     keys: &KeyLists,
     subset: EntrySet,
@@ -136,7 +136,7 @@ fn is_there(made: &EntryLists, place: Place) -> bool
     made.list(place.entry, place.column).is_some()
 }
 
-// Adds the list of a column in a set, if it isn't there yet.
+// Adds the list of a column in a set to `made`, unless `made` has this list.
 fn add_list(
     keys: &KeyLists,
     subset: EntrySet,

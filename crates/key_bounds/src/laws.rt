@@ -18,15 +18,15 @@ ghost use Rattle.key_carriers.specs.DeclaredKeys.{DeclaredKeysHold};
 ghost use Rattle.key_bounds.specs.Bounds.{bounds_by_keys, set_bounds_by_keys};
 ghost use Rattle.key_bounds.specs.Plans.{planned_by_keys};
 
-/// The bound of each set is at most the one without carried conjuncts, whether the keys hold or not.
+/// The bound of each set is at most its bound without carried conjuncts, whether the keys hold or not.
 pub fn keys_only_lower()
     ensures { (schema : Schema) (query : Query) (tables : Tables) (accuracy subset : ℕ) → subset < 2 ^ length query.from
         → slice_index (set_bounds_by_keys schema query tables accuracy) subset ≤ slice_index (set_bounds_of query tables accuracy) subset }
 {}
 
 /// If the declared keys hold, no bound is too low. The bounds of entries in each set hold for the rows that may be in a choice for the set. No
-/// level over the scans of a set's entries has more rows than the bound of the set. A plan by these bounds is one over the scans, and
-/// `planned_by_keys` is never NoMemory. A row that refers to nothing is no exception, since it is in no choice with the other entry.
+/// level over the scans of a set's entries has more rows than the bound of the set. A plan by these bounds is a plan over the scans, and
+/// `planned_by_keys` is never NoMemory. Rows that refer to no row need no exception, since they are in no choice with the other entry.
 pub fn keys_are_never_under()
     ensures stand { (schema : Schema) (query : Query) (tables : Tables) (accuracy : ℕ) → DeclaredKeysHold schema query tables
         → (key : Keys) × StandForLists query tables (scans_of query tables) key (bounds_by_keys schema query tables accuracy) }

@@ -28,7 +28,7 @@ use schema_types::Schema;
 use std::alloc::Global;
 
 /// Makes the bounds of all sets from statistics of the query's entries, and from what is carried along the references of a schema. A scan's
-/// bound is the row bound of its entry by itself. `parts` is what `split` gives for the query.
+/// bound is its entry's row bound without carried conjuncts. `parts` is the result of `split` for the query.
 pub fn from_carried(
     alloc: Global,
     query: &Query,
@@ -57,12 +57,12 @@ pub fn from_carried(
 }
 
 /// Makes the bounds of all sets from statistics of the query's tables, which are gathered once. Own conjuncts are carried along the references
-/// to keys that the schema declares (SafeBound, SIGMOD 2023). A scan's bound is the row bound of its entry by itself.
+/// to keys that the schema declares (SafeBound, SIGMOD 2023). A scan's bound is its entry's row bound without carried conjuncts.
 ///
 /// For each row of a referring entry, the row that it refers to is looked up once, and no row is copied. Apart from sorting columns and from
 /// bounding all sets, time and memory are linear in the rows times the references and the joined columns.
 ///
-/// `accuracy` is that of the compressed lists.
+/// `accuracy` is the accuracy of the compressed lists.
 pub fn from_keys(
     alloc: Global,
     schema: &Schema,

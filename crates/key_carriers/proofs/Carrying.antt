@@ -1,4 +1,4 @@
--- Carriers, one equality after another.
+-- These lemmas are about the loop that lists the carriers, one equality after another.
 use Rattle.std.proofs.Common.{◌≡◌, ℕ, zero, suc, ◌+◌, ◌<◌, Bool, true, false, cond, ltb, List, [], ◌∷◌, ◌++◌, length, take, get_or, slice_get, Some, refl, ap, sym, ◌∙◌, subst, arith, inl, inr}
 use Rattle.std.specs.List.{filter, list_any}
 use Rattle.std.proofs.lemmas.Bool.{cases_Bool, lt-ltb}
@@ -13,7 +13,6 @@ use Rattle.join_graph.specs.Conjuncts.{local_of, names_just, numbers_where}
 use Rattle.tree_bounds.specs.Columns.{EachNamedColumn}
 use Rattle.key_carriers.specs.Carriers.{both_ways, carries, has_own, exchanged}
 
--- some item passes where its number is listed
 pub some_listed : {A : Type 0} (test : A → Bool) (first : ℕ) (xs : List A) → list_any test xs ≡ ltb 0 (length (numbers_where test first xs))
 some_listed test first [] = refl
 some_listed test first (x ∷ xs) = elim (cases_Bool (test x)) [
@@ -46,7 +45,6 @@ one_more schema query es i d before between after low is first second =
     ∙ sym (filter-append p (both_ways (take i es)) (e ∷ (exchanged e ∷ [])))
     ∙ ap (filter p) (sym (both_more (take i es) e) ∙ ap both_ways (sym (take_more es i d low)))
 
--- both entries of an equality are FROM entries, where each that is named is one
 pub named_low : (n : ℕ) (es all : List Edge) (i : ℕ) (d : Edge) → es ≡ all → EachNamedColumn (λ entry column. entry < n) all → i < length es
     → ((get_or es i d).left.entry < n) × ((get_or es i d).right.entry < n)
 named_low n es all i d is named low = at es i d (subst (EachNamedColumn (λ entry column. entry < n)) (sym is) named) low

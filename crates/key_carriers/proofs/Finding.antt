@@ -49,7 +49,6 @@ module _ (db : Database) (e : Edge) (tables : AreTables db) (different : TextsAr
     abbrev cell : ℕ
     cell = get_or left_cells row 0
 
-    -- values are equal where their cells are
     cells_tell : (other : ℕ) → other < row_counts (tables_of db) e.right.entry → are_equal_at (tables_of db) e row other ≡ eqb cell (get_or right_cells other 0)
     cells_tell other high =
         let below : row < (cells_of db e.left.entry).rows = omega (arith, low, rows_are db e.left.entry) in
@@ -69,7 +68,6 @@ module _ (db : Database) (e : Edge) (tables : AreTables db) (different : TextsAr
     passes_at : (k : ℕ) → k < row_counts (tables_of db) e.right.entry → passes (get_or others k 0) ≡ eqb cell (get_or right_cells k 0)
     passes_at k low = ap passes (get_or-range_with_len 0 (row_counts (tables_of db) e.right.entry) k 0 low ∙ omega arith) ∙ cells_tell k low
 
-    -- the first place with the row's cell is its partner
     pub first_is : (o : Option ℕ) → IsPlaceOf right_cells cell 0 o → o ≡ referred_row (tables_of db) e row
     first_is (Some place) is =
         let below : place < row_counts (tables_of db) e.right.entry = omega (arith, is.below_end, right_count) in
@@ -88,7 +86,7 @@ module _ (db : Database) (e : Edge) (tables : AreTables db) (different : TextsAr
         (λ within. absurd (omega arith)) in
         sym (ap (λ (n : ℕ). cond (ltb n (length others)) (Some n) None) at ∙ ap (λ (b : Bool). cond b (Some (length others)) None) (le-ltb (length others) (length others) (omega arith)))
 
--- ---- one row after another
+-- ---- the widened table, one row after another
 
 module _ (db : Database) (e : Edge) where
   to_more : (row : ℕ) → widened_to (tables_of db) e (row + 1) ≡ widened_to (tables_of db) e row ++ cons_option (widened_row (tables_of db) e row) []

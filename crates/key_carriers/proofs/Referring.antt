@@ -1,4 +1,4 @@
--- The rows of the widened table: they are rows of the two entries, and no more than the left one has.
+-- The row numbers of the widened table are numbers of rows of its two entries. The widened table has at most as many rows as the left entry.
 use Rattle.std.proofs.Common.{◌≡◌, ℕ, ◌+◌, ◌<◌, ◌≤◌, List, [], ◌∷◌, length, map, get_or, Option, None, Some, option_map, ap, subst, sym, arith}
 use Rattle.std.specs.List.{All, Contains, cons_option, filter_map, range_with_len}
 use Rattle.std.proofs.lemmas.List.{length-map}
@@ -28,7 +28,6 @@ module _ (tables : Tables) (e : Edge) where
       let is = pair_of made.0 (referred_row tables e made.0) pair made.2 in
       (made.0, omega (arith, within), is.0, is.1)
 
-  -- a row that refers is one of the left entry's table
   pub referring_low : All (λ row. row < row_counts tables e.left.entry) (referring tables e)
   referring_low k d low =
       let at = from_map (λ (pair : ℕ × ℕ). pair.0) pairs (get_or (referring tables e) k d) (Contains-get_or (referring tables e) k d low) in
@@ -40,14 +39,12 @@ module _ (tables : Tables) (e : Edge) where
       let at = position-Some (are_equal_at tables e row) (range_with_len 0 (row_counts tables e.right.entry)) other 0 is in
       omega (arith, at.0, length-range_with_len 0 (row_counts tables e.right.entry))
 
-  -- and a row to which one refers is one of the right entry's table
   pub referred_low : All (λ row. row < row_counts tables e.right.entry) (referred tables e)
   referred_low k d low =
       let at = from_map (λ (pair : ℕ × ℕ). pair.1) pairs (get_or (referred tables e) k d) (Contains-get_or (referred tables e) k d low) in
       let pair = found at.0 at.1 in
       omega (arith, at.2, partner_low pair.0 at.0.1 pair.3)
 
-  -- as many on either side
   pub as_many : length (referring tables e) ≡ length (referred tables e)
   as_many = omega (arith, length-map pairs (λ (pair : ℕ × ℕ). pair.0), length-map pairs (λ (pair : ℕ × ℕ). pair.1))
 
@@ -59,7 +56,6 @@ module _ (tables : Tables) (e : Edge) where
   few_pairs [] = omega arith
   few_pairs (row ∷ rows) = omega (arith, none_more (widened_row tables e row) (filter_map (widened_row tables e) rows), few_pairs rows)
 
-  -- at most one for each row of the left entry
   pub few_referring : length (referring tables e) ≤ row_counts tables e.left.entry
   few_referring =
       omega (

@@ -36,7 +36,7 @@ leads column table target reference = is_just column reference.columns && (refer
 abbrev pub refers : Schema → ℕ → ℕ → ℕ → ℕ → Bool
 refers schema table column other target = list_any (leads column other target) (table_at schema table).references
 
--- ---- of a query's entries
+-- ---- what the schema declares of a query's entries
 
 abbrev pub no_source : Source
 no_source = record { table = 0; alias = [] }
@@ -63,7 +63,7 @@ carries schema query e = refers_to_key schema query e && has_own query e.right.e
 abbrev pub exchanged : Edge → Edge
 exchanged e = record { left = e.right; right = e.left }
 
--- each equality, and after it the same with its sides exchanged
+-- each equality, followed by the equality with its sides exchanged
 abbrev pub both_ways : List Edge → List Edge
 both_ways [] = []
 both_ways (e ∷ es) = e ∷ (exchanged e ∷ both_ways es)
@@ -72,6 +72,6 @@ both_ways (e ∷ es) = e ∷ (exchanged e ∷ both_ways es)
 abbrev pub carriers : Schema → Query → List Edge
 carriers schema query = filter (carries schema query) (both_ways (equalities_of query))
 
--- of these equalities, those along which conjuncts are carried to the entry within a set: both entries are in the set
+-- the equalities of `es` along which conjuncts are carried to the entry within a set: both entries are in the set, and `entry` is the left one
 abbrev pub carriers_to : List Edge → ℕ → ℕ → List Edge
 carriers_to es subset entry = filter (λ e. e.left.entry == entry) (equalities_within subset es)

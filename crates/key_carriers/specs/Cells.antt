@@ -36,6 +36,6 @@ abbrev pub with_other : List ℕ → Option ℕ → List ℕ
 with_other others None = others
 with_other others (Some other) = others ++ other ∷ []
 
--- of the left entry's first `count` rows, each that refers to a row, with that row
+-- the rows, among the left entry's first `count` rows, that refer to a row, each with the row to which it refers
 abbrev pub widened_to : Tables → Edge → ℕ → List (ℕ × ℕ)
 widened_to tables e count = filter_map (widened_row tables e) (range_with_len 0 count)

@@ -39,7 +39,7 @@ by_number = (0 ∷ []) ∷ []
 abbrev pub shop_schema : Schema
 shop_schema = record { tables = orders_with (to_customers ∷ []) ∷ customers_with by_number ∷ [] }
 
--- the same without REFERENCES, and the same without PRIMARY KEY
+-- the schema without REFERENCES, and the schema without PRIMARY KEY
 abbrev pub undeclared_schema : Schema
 undeclared_schema = record { tables = orders_with [] ∷ customers_with by_number ∷ [] }
 

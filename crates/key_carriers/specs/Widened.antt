@@ -9,7 +9,7 @@ use Rattle.sql_meaning.specs.Levels.{passes_own}
 use Rattle.sql_meaning.specs.Tables.{Tables, row_counts}
 use Rattle.level_bounds.specs.Keys.{are_equal_at, value_at}
 
--- the row of the right entry to which a row of the left entry refers: the first with the same value
+-- the row of the right entry to which a row of the left entry refers: the first row with the same value
 abbrev pub referred_row : Tables → Edge → ℕ → Option ℕ
 referred_row tables e row = position (are_equal_at tables e row) (range_with_len 0 (row_counts tables e.right.entry))
 
@@ -20,7 +20,7 @@ with_row row other = (row, other)
 abbrev pub widened_row : Tables → Edge → ℕ → Option (ℕ × ℕ)
 widened_row tables e row = option_map (with_row row) (referred_row tables e row)
 
--- each row of the left entry with the row to which it refers, in file order. A row that refers to nothing is left out
+-- each row of the left entry with the row to which it refers, in file order. A row that refers to no row is left out
 abbrev pub widened : Tables → Edge → List (ℕ × ℕ)
 widened tables e = filter_map (widened_row tables e) (range_with_len 0 (row_counts tables e.left.entry))
 
@@ -31,7 +31,7 @@ referring tables e = map (λ pair. pair.0) (widened tables e)
 abbrev pub referred : Tables → Edge → List ℕ
 referred tables e = map (λ pair. pair.1) (widened tables e)
 
--- ---- tables at rows
+-- ---- tables that have only some rows
 
 -- tables in which each entry has only the rows with these numbers, in this order
 abbrev pub tables_at : Tables → List ℕ → Tables

@@ -1,4 +1,4 @@
--- Carried lists dominate the keys of the rows that refer to a row of the carrier's scan, and carried numbers of rows are enough for them.
+-- Carried lists dominate the keys of the rows that refer to a row of the carrier's scan, and carried row bounds are at least the number of these rows.
 use Rattle.std.proofs.Common.{◌≡◌, ◌↔◌, ℕ, ◌+◌, ◌<◌, ◌≤◌, Bool, true, cond, List, [], ◌∷◌, length, map, get_or, pos, Option, None, Some, option_map, refl, ap, sym, ◌∙◌, subst, sum, arith, inl, inr}
 use Rattle.std.specs.List.{Contains, cons_option, filter, filter_map, range_with_len}
 use Rattle.std.proofs.Math.ListN.{get_or-map as default_map}
@@ -33,7 +33,7 @@ use Rattle.key_stats.specs.Lists.{carried_counts, carried_list, carried_lists, c
 use Rattle.key_carriers.proofs.Referring.{referring_low}
 use Rattle.key_stats.proofs.RowsThere.{own_there}
 
--- ---- lists
+-- ---- filtered lists
 
 abbrev no_pair : ℕ × ℕ
 no_pair = (0, 0)
@@ -45,14 +45,12 @@ filter-map p f (x ∷ xs) = elim (cases_Bool (p (f x))) [
   | inr fails ↦ rw (fails, filter-map p f xs) refl
 ]
 
--- tests that agree on the members of a list leave the same ones
 filter_alike : (p q : ℕ → Bool) (xs : List ℕ) → ((x : ℕ) → Contains xs x → p x ≡ q x) → filter p xs ≡ filter q xs
 filter_alike p q [] same = refl
 filter_alike p q (x ∷ xs) same =
     ap (λ (b : Bool). cond b (x ∷ filter p xs) (filter p xs)) (same x (in_front x xs x refl))
     ∙ ap (λ (s : List ℕ). cond (q x) (x ∷ s) s) (filter_alike p q xs (λ y has. same y (in_rest x xs y has)))
 
--- what is made of the places of a list that pass is made of its items that do
 of_items : {X : Type 0} (d : X) (f : X → ℕ) (p : X → Bool) (xs : List X)
     → map (λ n. f (get_or xs n d)) (filter (λ n. p (get_or xs n d)) (range_with_len 0 (length xs))) ≡ map f (filter p xs)
 of_items {X = X} d f p xs =
@@ -154,7 +152,6 @@ module _ (query : Query) (tables : Tables) (e : Edge) where
     carried_sum =
         sum-filtered (carried_lists tables accuracy e column) (carried_counts tables e) e.right.entry query.conjuncts (listed_sum there accuracy e.right.entry joined long)
 
-  -- numbers of rows are enough
   pub carried_fits : length (rows_referring query tables e) ≤ carried_rows query tables e
   carried_fits =
       let scanned : List ℕ = scan_of there e.right.entry query.conjuncts in

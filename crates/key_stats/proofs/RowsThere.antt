@@ -1,4 +1,4 @@
--- Conditions on a row of tables at given rows are conditions on the row that stands there.
+-- In tables that have only some rows, a condition holds for row n exactly if it holds for the row that was taken as row n.
 use Rattle.std.proofs.Common.{◌≡◌, ℕ, ◌<◌, Bool, not, ◌&&◌, ◌||◌, List, [], ◌∷◌, length, map, get_or, pos, refl, ap, ◌∙◌}
 use Rattle.std.specs.Prelude.{slice_index_or}
 use Rattle.std.specs.List.{list_all}
@@ -45,7 +45,6 @@ module _ (tables : Tables) (rows : List ℕ) (n : ℕ) (low : n < length rows) w
   cond_there : (cond : Cond) → cond_holds there (λ e. n) cond ≡ cond_holds tables (λ e. row) cond
   cond_there cond = ap (λ (step : Cond-F Bool → Bool). fold-Cond Bool step cond) (fun_ext step_there)
 
-  -- so it passes an entry's own conjuncts where that row does
   pub own_there : (entry : ℕ) (conds : List Cond) → passes_own (map (conjunct_of there) conds) entry n ≡ passes_own (map (conjunct_of tables) conds) entry row
   own_there entry [] = refl
   own_there entry (cond ∷ conds) =

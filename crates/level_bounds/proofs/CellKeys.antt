@@ -1,4 +1,4 @@
--- The cells of a database as keys.
+-- The cells of a database serve as keys: equal values have equal cells.
 use Rattle.std.proofs.Common.{◌≡◌, ℕ, ℤ, ◌<◌, true, List, [], ◌∷◌, length, get_or, pos, refl, ap, sym, ◌∙◌, subst, arith, inl, inr, Some}
 use Rattle.std.specs.Prelude.{All, encode_utf8_all, slice_index, slice_index_or}
 use Rattle.std.specs.List.{AllByRecursion, Contains}
@@ -59,7 +59,6 @@ equal_lists (x ∷ a) (y ∷ b) h =
     let parts : (x ≡ y) × (is_eq (slice_cmp nat_cmp a b) ≡ true) = equal_first x y (nat_cmp x y) (slice_cmp nat_cmp a b) refl h in
     rw (parts.0, equal_lists a b parts.1) refl
 
--- texts of different characters have different places
 one_place : (texts : List (List ℕ)) → HaveDifferentCharacters texts → (a b : ℕ) → a < length texts → b < length texts → chars (get_or texts a []) ≡ chars (get_or texts b []) → a ≡ b
 one_place texts differ a b low high same = elim (cases_lt a b) [
   | inl less ↦ absurd (differ a b [] less high same)
@@ -69,7 +68,6 @@ one_place texts differ a b low high same = elim (cases_lt a b) [
   ]
 ]
 
--- equal values have equal cells
 pub equal_cells : (texts : List (List ℕ)) → HaveDifferentCharacters texts → (k l : Kind) (x y : ℕ) → IsCell texts k x → IsCell texts l y
     → is_eq (value_cmp (value_of_cell texts k x) (value_of_cell texts l y)) ≡ true → x ≡ y
 equal_cells texts differ kind.Int kind.Int x y p q h =
@@ -85,7 +83,6 @@ module _ (db : Database) (are : AreTables db) where
   cells_there : (entry : ℕ) → entry < length db.slots → AreCells db.pool (cells_of db entry)
   cells_there entry low = are.cells (slice_index db.slots entry) no_cells (are.slots entry 0 low)
 
-  -- the kind of a column
   abbrev kind_at : ℕ → ℕ → Kind
   kind_at entry column = get_or (cells_of db entry).kinds column kind.Int
 
@@ -125,7 +122,6 @@ cells_join query db of differ = all_from (JoinsEqualKeys (tables_of db) (cell_at
         let can : Compares (IsColumnOfKind db) (operand.Column j.left) (operand.Column j.right) = subst (IsTypedLayer (IsColumnOfKind db)) j.compares (every_here-Cond (IsTypedLayer (IsColumnOfKind db)) found.0 asked) in
         subst (JoinsEqualKeys (tables_of db) (cell_at db)) (sym j.joins) (columns_join db of.tables differ j.left j.right can.left_kind.exists can.right_kind.exists)
 
--- the keys of a column are its cells
 pub keys_are_cells : (query : Query) (db : Database) (ref : ColumnRef) → IsDatabaseOf query db → IsColumnOf db ref
     → keys_of (tables_of db) (cell_at db) ref.from ref.column ≡ slice_index_or (cells_of db ref.from).columns ref.column []
 keys_are_cells query db ref of exists =

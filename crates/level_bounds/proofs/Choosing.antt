@@ -1,4 +1,4 @@
--- The rows of a choice by their entries, and choices for the same entries in another order.
+-- These lemmas say which row a choice gives to an entry. They also turn a choice into a choice for these entries in another order.
 use Rattle.std.proofs.Common.{◌≡◌, ℕ, ◌<◌, true, false, eqb, nat_eq, List, [], ◌∷◌, length, map, refl, ap, sym, ◌∙◌, subst, arith, inl, inr}
 use Rattle.std.specs.List.{Contains, IsDistinct}
 use Rattle.std.proofs.Math.Path.{fun_ext}
@@ -10,7 +10,6 @@ use Rattle.sql_meaning.specs.Levels.{row_in}
 use Rattle.level_bounds.specs.Orders.{IsOrderOfSet}
 use Rattle.level_bounds.proofs.Lists.{each_of, is_in, in_true, true_in, map_alike}
 
--- an entry that is not there has row 0
 pub row_out : (order choice : List ℕ) (x : ℕ) → is_in order x ≡ false → row_in order choice x ≡ 0
 row_out [] choice x out = refl
 row_out (e ∷ order) [] x out = refl
@@ -19,7 +18,6 @@ row_out (e ∷ order) (row ∷ choice) x out = elim (cases_Bool (eqb x e)) [
   | inr n ↦ (let rest : is_in order x ≡ false = rw n at out in rw n (row_out order choice x rest))
 ]
 
--- an entry that is there has the row that a function gives
 pub row_mapped : (order : List ℕ) (f : ℕ → ℕ) (x : ℕ) → is_in order x ≡ true → row_in order (map f order) x ≡ f x
 row_mapped [] f x here = absurd (false≢true here)
 row_mapped (e ∷ order) f x here = elim (cases_Bool (eqb x e)) [
@@ -27,7 +25,6 @@ row_mapped (e ∷ order) f x here = elim (cases_Bool (eqb x e)) [
   | inr n ↦ (let rest : is_in order x ≡ true = rw n at here in rw n (row_mapped order f x rest))
 ]
 
--- a function that is 0 where no entry is, is the function of its rows
 pub rows_back : (order : List ℕ) (f : ℕ → ℕ) → ((x : ℕ) → is_in order x ≡ false → f x ≡ 0) → row_in order (map f order) ≡ f
 rows_back order f out = fun_ext at
   where
@@ -37,7 +34,6 @@ rows_back order f out = fun_ext at
       | inr gone ↦ row_out order (map f order) x gone ∙ sym (out x gone)
     ]
 
--- among different entries each has the row at its place
 pub choice_back : (order choice : List ℕ) → IsDistinct nat_eq order → length choice ≡ length order → map (row_in order choice) order ≡ choice
 choice_back [] [] d long = refl
 choice_back [] (row ∷ choice) d long = absurd (omega arith)
@@ -57,7 +53,7 @@ choice_back (e ∷ order) (row ∷ choice) d long =
     passed : (x : ℕ) → Contains order x → row_in (e ∷ order) (row ∷ choice) x ≡ row_in order choice x
     passed x k = let n : eqb x e ≡ false = apart x k in rw n refl
 
--- ---- rows in range
+-- ---- each row of a choice exists
 
 pub choice_row : (rows : ℕ → ℕ) (order choice : List ℕ) → IsChoiceOf rows order choice → (x : ℕ) → is_in order x ≡ true → row_in order choice x < rows x
 choice_row rows [] choice h x here = absurd (false≢true here)

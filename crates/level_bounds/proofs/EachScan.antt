@@ -1,4 +1,4 @@
--- From each scan to every set of entries, and to each level of an order.
+-- Bounds that hold for each scan hold for every set of entries, and for each level of an order.
 use Rattle.std.proofs.Common.{ℕ, ◌<◌, ◌≤◌, Bool, List, [], ◌∷◌, length, map, take, arith, inl, inr}
 use Rattle.std.specs.List.{AllByRecursion, Contains, filter}
 use Rattle.std.proofs.lemmas.Bool.{cases_Bool}
@@ -25,7 +25,6 @@ use Rattle.level_bounds.proofs.Lists.{all_filtered, all_from, each_of, in_range,
 use Rattle.level_bounds.proofs.NeverUnder.{within}
 use Rattle.level_bounds.proofs.SetNumbers.{prefix_of_order}
 
--- what holds at every column that equalities name, holds at those that some of them name
 named_filtered : (Q : ℕ → ℕ → Type 0) (p : Edge → Bool) (es : List Edge) → EachNamedColumn Q es → EachNamedColumn Q (filter p es)
 named_filtered Q p [] h = tt
 named_filtered Q p (e ∷ es) h = elim (cases_Bool (p e)) [
@@ -49,7 +48,6 @@ database_within query db b subset order of differ known o =
     within query (tables_of db) (cell_at db) b subset order
     (all_filtered (joins_within subset) (JoinsEqualKeys (tables_of db) (cell_at db)) (equalities_of query) (cells_join query db of differ)) known o
 
--- each level of an order of all entries
 pub levels_within : (query : Query) (db : Database) (b : EntryBounds) (order : List ℕ) (k : ℕ) → IsDatabaseOf query db → HaveDifferentCharacters db.pool
     → BoundsEachScan b query (tables_of db) (cell_at db) → IsOrderOfSet (entries_of query) order
     → length (level (conjuncts_of query (tables_of db)) (row_counts (tables_of db)) order k) ≤ bound_of_set b (equalities_of query) (set_of (take k order))

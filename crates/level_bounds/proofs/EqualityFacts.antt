@@ -1,4 +1,4 @@
--- Equalities that join two entries are conjuncts, which hold where the two values are equal.
+-- Equalities that join two entries are conjuncts, and they hold exactly if the two values are equal.
 use Rattle.std.proofs.Common.{◌≡◌, ℕ, ◌↔◌, Bool, true, false, ◌&&◌, ◌||◌, eqb, List, [], ◌∷◌, refl, ap, sym, ◌∙◌, inl, inr, Some, None}
 use Rattle.std.specs.List.{AllByRecursion, Contains, list_all}
 use Rattle.std.proofs.lemmas.Bool.{cases_Bool, eq-eqb}
@@ -31,7 +31,7 @@ equality_stands query e = (
   λ found. in_filter_map equality_of query.conjuncts found.0 e found.1 found.2,
 )
 
--- ---- what it looks like: a comparison of two columns by =
+-- ---- the conjunct of an equality is a comparison of two columns by =
 
 pub record IsJoin (layer : Cond-F Cond) (e : Edge) : Type 0 where
   pub left : ColumnRef
@@ -89,7 +89,7 @@ equality_holds tables row_of cond e h =
     ∙ fold-roll-Cond Bool (holds_step tables row_of) (Cond-F.Compare op.Eq (operand.Column j.left) (operand.Column j.right))
     ∙ ap (λ (e : Edge). are_equal_at tables e (row_of e.left.entry) (row_of e.right.entry)) (sym j.joins)
 
--- ---- equalities are asked
+-- ---- each equality of a set follows from a conjunct
 
 module _ (query : Query) (tables : Tables) (key : Keys) where
   only_two : (a b : ℕ) → list_all (λ x. eqb x a || (eqb x b || false)) (a ∷ b ∷ []) ≡ true

@@ -1,4 +1,4 @@
--- The last level of an order of all entries, as values of the outputs.
+-- The last level of any order of all entries has the rows of the query's answer, in some order.
 use Rattle.std.proofs.Common.{◌≡◌, ℕ, zero, suc, ◌+◌, ◌≤◌, List, [], ◌∷◌, length, get_or, map, slice_index, refl, ap, sym, ◌∙◌, subst, arith, inl, inr}
 use Rattle.std.specs.Prelude.{IsPermutation}
 use Rattle.std.specs.List.{range_with_len}
@@ -21,13 +21,11 @@ use Rattle.level_bounds.proofs.Choosing.{entry_of, row_out}
 use Rattle.level_bounds.proofs.Reordering.{rearranged}
 use Rattle.level_bounds.proofs.SetNumbers.{range_is_order}
 
--- past its end a list is 0
 past_end : (xs : List ℕ) (i : ℕ) → length xs ≤ i → get_or xs i 0 ≡ 0
 past_end [] i h = refl
 past_end (x ∷ xs) zero h = absurd (omega arith)
 past_end (x ∷ xs) (suc i) h = past_end xs i (omega arith)
 
--- the values of a function below n, as a list, are the function where it is 0 from n on
 listed_back : (n : ℕ) (f : ℕ → ℕ) → ((x : ℕ) → n ≤ x → f x ≡ 0) → slice_index (map f (range_with_len 0 n)) ≡ f
 listed_back n f out = fun_ext at
   where

@@ -1,11 +1,11 @@
--- Members of lists that are mapped or filtered.
+-- These lemmas say which elements a list contains after `map`, `filter` and `filter_map`.
 use Rattle.std.proofs.Common.{◌≡◌, ℕ, zero, suc, ◌+◌, ◌<◌, ◌≤◌, Bool, true, eqb, List, [], ◌∷◌, map, refl, ap, sym, ◌∙◌, subst, arith, ◌⊎◌, inl, inr, Option, Some, None}
 use Rattle.std.specs.List.{AllByRecursion, Contains, cons_option, filter, filter_map, list_all, list_any, range_with_len}
 use Rattle.std.proofs.lemmas.Bool.{cases_Bool, cases_eq, eqb-true, eq-eqb, false≢true, and_parts}
 use Rattle.std.proofs.lemmas.List.{get_or-map, length-map}
 use Rattle.entry_sets.proofs.Listing.{one_in, in_front, in_rest, in_none}
 
--- ---- all members
+-- ---- what is true of all members
 
 module _ {X : Type 0} (P : X → Type 0) where
   pub each_of : (xs : List X) → AllByRecursion P xs → (x : X) → Contains xs x → P x
@@ -40,7 +40,6 @@ pub map_alike : {Y : Type 0} (f g : ℕ → Y) (xs : List ℕ) → ((x : ℕ) �
 map_alike f g [] h = refl
 map_alike f g (x ∷ xs) h = rw (h x (in_front x xs x refl), map_alike f g xs (λ y k. h y (in_rest x xs y k))) refl
 
--- functions with one list of values are one at each member
 pub same_at : (f g : ℕ → ℕ) (xs : List ℕ) → map f xs ≡ map g xs → (x : ℕ) → Contains xs x → f x ≡ g x
 same_at f g [] same x k = absurd (in_none x k)
 same_at f g (y ∷ ys) same x k = elim (one_in y ys x k) [
@@ -74,7 +73,7 @@ module _ {X : Type 0} (p : X → Bool) where
   pub all_filtered : (P : X → Type 0) (xs : List X) → AllByRecursion P xs → AllByRecursion P (filter p xs)
   all_filtered P xs h = all_from P (filter p xs) (λ x k. each_of P xs h x (from_filter xs x k).0)
 
--- ---- a list of what some members give
+-- ---- members of a list that `filter_map` makes
 
 module _ {Y : Type 0} (y : Y) where
   behind : (o : Option Y) (rest : List Y) → Contains rest y → Contains (cons_option o rest) y
@@ -100,7 +99,7 @@ module _ {X Y : Type 0} (h : X → Option Y) where
     | inr later ↦ (let found : (z : X) × Contains xs z × (h z ≡ Some y) = from_filter_map xs y later in (found.0, in_rest x xs found.0 found.1, found.2))
   ]
 
--- ---- tests of all and of any
+-- ---- the tests `list_all` and `list_any`
 
 pub all_true : {X : Type 0} (p : X → Bool) (xs : List X) → list_all p xs ≡ true → (x : X) → Contains xs x → p x ≡ true
 all_true p [] h x k = absurd (in_none x k)
@@ -112,7 +111,6 @@ pub true_for_all : {X : Type 0} (p : X → Bool) (xs : List X) → ((x : X) → 
 true_for_all p [] h = refl
 true_for_all p (x ∷ xs) h = rw (h x (in_front x xs x refl), true_for_all p xs (λ y k. h y (in_rest x xs y k))) refl
 
--- the number stands in the list
 abbrev pub is_in : List ℕ → ℕ → Bool
 is_in xs x = list_any (λ e. eqb x e) xs
 

@@ -1,4 +1,4 @@
--- Bounds from compressed lists of whole tables: they are at least what unfiltered scans have, and near those from the degree lists.
+-- Bounds from compressed lists of whole tables hold for unfiltered scans, and they are near the bounds from the degree lists.
 use Rattle.std.proofs.Common.{◌≡◌, ℕ, ◌+◌, ◌*◌, ◌^◌, ◌≤◌, true, List, [], ◌∷◌, length, map, refl, ap, sym, ◌∙◌, subst, arith}
 use Rattle.std.specs.List.{AllByRecursion, Contains, filter, list_all, range_with_len}
 use Rattle.std.proofs.lemmas.List.FromFn.{length-map-range_with_len, length-range_with_len}
@@ -31,7 +31,7 @@ use Rattle.level_bounds.specs.Whole.{AreCompressed, keys_of, uncompressed}
 use Rattle.level_bounds.proofs.Lists.{all_from, each_of}
 use Rattle.level_bounds.proofs.OwnConjuncts.{scan_by_own}
 
--- ---- scans without conjuncts of their own
+-- ---- scans of entries without own conjuncts
 
 pub all_kept : (rows : List ℕ) → filter (λ row. true) rows ≡ rows
 all_kept [] = refl

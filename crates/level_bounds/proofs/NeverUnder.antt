@@ -1,4 +1,4 @@
--- Never under, for the levels of a query.
+-- No level of a query has more rows than the bound of its set.
 use Rattle.std.proofs.Common.{ℕ, ◌≤◌, List, length, map}
 use Rattle.std.specs.List.{AllByRecursion}
 use Rattle.std.proofs.lemmas.List.{length-map}
@@ -33,7 +33,6 @@ module _ (query : Query) (tables : Tables) where
       → AllByRecursion (IsImplied (conjuncts_of query tables) (row_counts tables) key) (equalities_within subset (equalities_of query))
   asked key subset keys = are_asked query tables key (equalities_within subset (equalities_of query)) (λ e there. (from_filter (joins_within subset) (equalities_of query) e there).0) keys
 
-  -- what bounds know of the scans, as the scans' own tables have it
   dominates : (key : Keys) (b : EntryBounds) (subset : ℕ) → BoundsScans b query tables key subset → SetDominates b (scanned (query_scan query tables) key) (equalities_of query) subset
   dominates key b subset known = record {
     rows = known.rows;

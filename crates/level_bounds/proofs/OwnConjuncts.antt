@@ -1,4 +1,4 @@
--- The conjuncts that name just one entry, and the scan of the entry.
+-- A row is in the scan of an entry exactly if it passes the conjuncts that name just this entry.
 use Rattle.std.proofs.Common.{◌≡◌, ℕ, zero, suc, ◌+◌, ◌<◌, ◌↔◌, Bool, IsTrue, true, not, ◌&&◌, ◌||◌, List, [], ◌∷◌, length, map, refl, ap, sym, subst, arith, inl, inr}
 use Rattle.std.specs.Prelude.{IsSomeAnd, slice_get, slice_index_or}
 use Rattle.std.specs.List.{Contains, filter, list_all, range_with_len}
@@ -16,7 +16,7 @@ use Rattle.sql_meaning.specs.Tables.{Tables, row_counts}
 use Rattle.level_bounds.specs.Scans.{filters_of, query_scan}
 use Rattle.level_bounds.proofs.Lists.{from_filter, in_filter, in_range, range_within}
 
--- one definition says so for both
+-- the planner and the meaning of SQL have one definition of an entry's own conjuncts
 pub names_alike : (tables : Tables) (entry : ℕ) (cond : Cond) → names_just_it (conjunct_of tables cond) entry ≡ names_just entry cond
 names_alike tables entry cond = refl
 
@@ -36,10 +36,9 @@ scan_by_own query tables entry =
     filter_agree (λ row. list_all (λ c. not (names_just_it c entry) || c.holds (λ e. row)) (conjuncts_of query tables))
     (λ row. list_all (cond_holds tables (λ e. row)) (filters_of query entry)) (λ row. own_hold tables entry row query.conjuncts) (range_with_len 0 (row_counts tables entry))
 
--- ---- by the numbers of the conjuncts
+-- ---- own conjuncts by their numbers
 
 module _ (own passes : Cond → Bool) where
-  -- each condition that is own passes
   abbrev EachOwn : List Cond → Type 0
   EachOwn conds = (k : ℕ) → IsSomeAnd (slice_get conds k) (λ cond. IsTrue (own cond)) → IsSomeAnd (slice_get conds k) (λ cond. IsTrue (passes cond))
 
@@ -63,7 +62,6 @@ module _ (own passes : Cond → Bool) where
         | inr n ↦ rw n rest
       ]
 
--- the numbers of an entry's own conjuncts
 local_at : (query : Query) (entry : ℕ) → entry < length query.from → slice_index_or (local_of query) entry [] ≡ numbers_where (names_just entry) 0 query.conjuncts
 local_at query entry low =
     let start : 0 + entry ≡ entry = omega arith in

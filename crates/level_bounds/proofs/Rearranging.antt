@@ -22,7 +22,6 @@ module _ {X : Type 0} (eq : X → X → Bool) (same : (a b : X) → Decides (eq 
     ]
   ]
 
-  -- the first element is none of the others
   pub not_again : (x : X) (xs : List X) → IsDistinct eq (x ∷ xs) → Contains xs x → ⊥
   not_again x xs d k = false≢true (sym (each_of (λ y. eq x y ≡ false) xs (IsDistinct-head eq x xs d) x k) ∙ (same x x).1 refl)
 
@@ -49,7 +48,6 @@ module _ {X : Type 0} (eq : X → X → Bool) (same : (a b : X) → Decides (eq 
 
 -- ---- lists of choices
 
--- what tells two different members of a list apart keeps them different
 pub differ_mapped : {Y : Type 0} (g : List ℕ → Y) (cs : List (List ℕ)) → ((c d : List ℕ) → Contains cs c → Contains cs d → g c ≡ g d → c ≡ d) → AllPairs ◌≢◌ cs → AllPairs ◌≢◌ (map g cs)
 differ_mapped g cs tells differ i j d less within same =
     let j_in : j < length cs = omega (arith, within, length-map cs g) in

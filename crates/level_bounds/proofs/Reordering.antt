@@ -1,4 +1,4 @@
--- A level in another order of its entries.
+-- If a level is made in another order of its entries, its choices are rearranged, and each entry keeps its row.
 use Rattle.std.proofs.Common.{◌≡◌, ◌≢◌, ℕ, Bool, true, not, ◌||◌, List, length, map, ap, sym, ◌∙◌, subst}
 use Rattle.std.specs.Prelude.{AllPairs, IsPermutation}
 use Rattle.std.specs.List.{Contains, list_all}
@@ -37,14 +37,12 @@ module _ (conjuncts : List Conjunct) (rows : ℕ → ℕ) where
 
   -- ---- a choice goes to the other order and back
 
-  -- the same conjuncts are complete
   same_test : (order other : List ℕ) (f : ℕ → ℕ) → ((x : ℕ) → is_in order x ≡ is_in other x) → all_hold conjuncts order f ≡ all_hold conjuncts other f
   same_test order other f same =
       let tests : is_in order ≡ is_in other = fun_ext same in
       ap (λ (test : ℕ → Bool). list_all (λ c. not (list_all test c.entries) || c.holds f) conjuncts) tests
 
   module _ (set order other : List ℕ) (o : IsOrderOfSet set order) (p : IsOrderOfSet set other) where
-    -- each entry keeps its row
     pub same_rows : (choice : List ℕ) → row_in other (reordered order other choice) ≡ row_in order choice
     same_rows choice = rows_back other (row_in order choice) (λ x out. row_out order choice x (same_entries set order other o p x ∙ out))
 
@@ -57,7 +55,6 @@ module _ (conjuncts : List Conjunct) (rows : ℕ → ℕ) where
           holds = ap (all_hold conjuncts other) (same_rows choice) ∙ same_test other order (row_in order choice) (same_entries set other order p o) ∙ s.holds;
         })
 
-    -- there and back is no move
     pub back : (choice : List ℕ) → Contains (level_of conjuncts rows order) choice → map (row_in order choice) order ≡ choice
     back choice k = choice_back order choice o.once (choice_length rows order choice (stands order choice k).chosen)
 

@@ -22,7 +22,6 @@ use Rattle.level_bounds.proofs.Lists.{all_from, all_true, each_of, from_map, in_
 use Rattle.level_bounds.proofs.Choosing.{choice_row, entry_in, entry_of}
 use Rattle.level_bounds.proofs.Reordering.{stands, level_differs, back}
 
--- what names only some entries names only more of them
 names_more : (entries few many : List ℕ) → ((x : ℕ) → Contains few x → Contains many x) → list_all (is_in few) entries ≡ true → list_all (is_in many) entries ≡ true
 names_more entries few many more h = true_for_all (is_in many) entries (λ x k. in_true many x (more x (true_in few x (all_true (is_in few) entries h x k))))
 
@@ -35,7 +34,6 @@ implies true b h = h refl
 implies false b h = refl
 
 module _ (conjuncts : List Conjunct) (rows : ℕ → ℕ) (set order : List ℕ) (o : IsOrderOfSet set order) where
-  -- each conjunct holds that names only entries of the set
   holds_within : (choice : List ℕ) → Contains (level_of conjuncts rows order) choice → (c : Conjunct) → Contains conjuncts c → names_only c order ≡ true → c.holds (row_in order choice) ≡ true
   holds_within choice k c there names =
       implied (names_only c order) (c.holds (row_in order choice))
@@ -45,7 +43,6 @@ module _ (conjuncts : List Conjunct) (rows : ℕ → ℕ) (set order : List ℕ)
   row_low choice k x here = choice_row rows order choice (stands conjuncts rows order choice k).chosen x (in_true order x (entry_in set order o x here))
 
   module _ (asks : AllByRecursion AsksOnly conjuncts) where
-    -- a conjunct that names just an entry asks the row of this entry alone
     asks_row : (c : Conjunct) → Contains conjuncts c → (entry : ℕ) (f : ℕ → ℕ) → names_only c (entry ∷ []) ≡ true → c.holds (λ e. f entry) ≡ c.holds f
     asks_row c there entry f names = each_of AsksOnly conjuncts asks c there (λ e. f entry) f (λ x here. ap f (alone x here))
       where
@@ -73,7 +70,6 @@ module _ (conjuncts : List Conjunct) (rows : ℕ → ℕ) (set order : List ℕ)
             let alone : names_only c (entry ∷ []) ≡ true = (and_parts (names_only c (entry ∷ [])) (not (names_only c [])) just).0 in
             asks_row c there entry (row_in order choice) alone ∙ holds_within choice k c there (names_more c.entries (entry ∷ []) order one_entry alone)
 
-  -- an equality that is asked holds of the chosen rows
   keys_equal : (key : Keys) (e : Edge) → IsImplied conjuncts rows key e → Contains set e.left.entry → Contains set e.right.entry
       → (choice : List ℕ) → Contains (level_of conjuncts rows order) choice
       → key e.left.entry e.left.column (row_in order choice e.left.entry) ≡ key e.right.entry e.right.column (row_in order choice e.right.entry)
@@ -90,7 +86,6 @@ module _ (conjuncts : List Conjunct) (rows : ℕ → ℕ) (set order : List ℕ)
         ]
       ]
 
-  -- different choices differ at an entry of the set
   pub choices_differ : ChoicesAreDifferent set (map (row_in order) (level_of conjuncts rows order))
   choices_differ i j d less within same =
       let cs : List (List ℕ) = level_of conjuncts rows order in
@@ -131,7 +126,6 @@ module _ (conjuncts : List Conjunct) (rows : ℕ → ℕ) (key : Keys) (es : Lis
         equal = all_equal choice k (equalities_within subset es) (equalities_inside subset es) asked;
       }
 
-  -- never under, over any conjuncts
   pub level_within : (b : EntryBounds) → SetHasLists b es subset → SetDominates b (scanned (scan conjuncts rows) key) es subset → length (level_of conjuncts rows order) ≤ bound_of_set b es subset
   level_within b lists dominates =
       omega (

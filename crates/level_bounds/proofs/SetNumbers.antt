@@ -1,4 +1,4 @@
--- Different entries as orders of their set.
+-- A list of different entries is an order of its set.
 use Rattle.std.proofs.Common.{◌≡◌, ◌≢◌, ℕ, zero, suc, ◌+◌, ◌/◌, ◌%◌, ◌^◌, ◌<◌, ◌≤◌, true, false, eqb, nat_eq, List, [], ◌∷◌, length, take, refl, ap, sym, ◌∙◌, subst, arith, inl, inr}
 use Rattle.std.specs.Int.{bit_at}
 use Rattle.std.specs.List.{AllByRecursion, Contains, IsDistinct, range_with_len}
@@ -28,7 +28,6 @@ range_distinct a (suc n) =
     (all_from (λ y. nat_eq a y ≡ false) (range_with_len (a + 1) n) (λ y k. ne_eqb a y (λ e. absurd (omega (arith, (range_within (a + 1) n y k).0, e)))))
     (range_distinct (a + 1) n)
 
--- so are the entries of a set
 pub set_once : (set : ℕ) → IsDistinct nat_eq (entries_of_set set)
 unfolding entries_of_set
 set_once set = IsDistinct-filter (λ entry. eqb (bit_at set entry) 1) (range_with_len 0 16) (range_distinct 0 16)
@@ -40,7 +39,6 @@ range_is_order n = record {
   covers = all_from (Contains (range_with_len 0 n)) (range_with_len 0 n) (λ x k. k);
 }
 
--- n different numbers below n are all of them
 pub order_of_all : (n : ℕ) (order : List ℕ) → AllByRecursion (λ entry. entry < n) order → IsDistinct nat_eq order → length order ≡ n → IsOrderOfSet (range_with_len 0 n) order
 order_of_all n order low once long = record {
   once = once;
@@ -67,7 +65,6 @@ order_of_all n order low once long = record {
 
 -- ---- the number of a set
 
--- where the bit is 0, the power changes no other one
 pub bit_kept : (entry set other : ℕ) → bit_at set entry ≡ 0 → other ≢ entry → bit_at (2 ^ entry + set) other ≡ bit_at set other
 bit_kept zero set zero out apart = absurd (apart refl)
 bit_kept zero set (suc other) out apart =
@@ -84,7 +81,6 @@ bit_kept (suc entry) set (suc other) out apart =
     ∙ bit_kept entry (set / 2) other (sym (bit_at-suc set entry) ∙ out) (λ same. apart (ap suc same))
     ∙ sym (bit_at-suc set other)
 
--- the bits of the number of a set are its entries
 pub bits_are_entries : (entries : List ℕ) → IsDistinct nat_eq entries → (x : ℕ) → (bit_at (set_of entries) x ≡ 1 → Contains entries x) × (Contains entries x → bit_at (set_of entries) x ≡ 1)
 bits_are_entries [] d x = ((λ h. absurd (omega (arith, h, bit_at-zero x))), (λ k. absurd (in_none x k)))
 bits_are_entries (e ∷ entries) d x =

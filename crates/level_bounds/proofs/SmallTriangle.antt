@@ -1,4 +1,4 @@
--- The triangle of three tables, by computation.
+-- This example computes the levels and bounds of the triangle of three tables.
 use Rattle.std.proofs.Common.{◌≡◌, ℕ, Bool, true, not, ◌&&◌, ◌||◌, List, [], ◌∷◌, refl, sym, subst, arith}
 use Rattle.std.specs.List.{IsDistinct, filter, list_all}
 use Rattle.std.proofs.lemmas.List.Elements.{filter_agree}
@@ -37,7 +37,6 @@ triangle_joined =
 
 -- ---- levels
 
--- an equality counts where both its entries are placed
 abbrev side : List ℕ → (ℕ → ℕ) → ℕ → ℕ → ℕ → ℕ → Bool
 side order row_of a i b j = not (list_all (is_in order) (a ∷ b ∷ [])) || comparison_says three_tables row_of op.Eq (column_at a i) (column_at b j)
 
@@ -82,7 +81,6 @@ pub triangle_bounded : BoundsScans triangle_bounds triangle three_tables (cell_a
 unfolding entries_of_set
 triangle_bounded = whole_bounds triangle three_tables (cell_at triangle_tables) 1 triangle_bounds 7 (none_own_0, (none_own_1, (none_own_2, tt))) triangle_compressed
 
--- all three entries join by all equalities
 all_within : equalities_within 7 (equalities_of triangle) ≡ equalities_of triangle
 all_within = rw triangle_joined refl
 

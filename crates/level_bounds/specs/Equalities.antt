@@ -1,11 +1,11 @@
--- Which conjuncts stand behind equalities, over any conjuncts.
+-- When an equality follows from one conjunct of a list. The conjuncts are any conditions on rows, not only those of a query.
 use Rattle.std.specs.Prelude.{◌≡◌, ℕ, ◌<◌, true, List, [], ◌∷◌}
 use Rattle.std.specs.List.{Contains}
 use Rattle.berge_tree.specs.declared.edges.Edge.{Edge}
 use Rattle.sql_meaning.specs.Levels.{Conjunct, names_only}
 use Rattle.level_bounds.specs.Keys.{Keys}
 
--- one of the conjuncts names only the two entries of the equality, and where it holds of rows, these have one key in its columns
+-- one of the conjuncts names only the two entries of the equality. If it holds for a row of each, the two rows have the same key in the equality's columns
 pub record IsImplied (conjuncts : List Conjunct) (rows : ℕ → ℕ) (key : Keys) (e : Edge) : Type 0 where
   pub conjunct : Conjunct
   pub one_of_them : Contains conjuncts conjunct

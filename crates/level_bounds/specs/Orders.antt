@@ -9,6 +9,6 @@ pub record IsOrderOfSet (set order : List ℕ) : Type 0 where
   pub within : AllByRecursion (Contains set) order
   pub covers : AllByRecursion (Contains order) set
 
--- a choice for the entries of one order, as a choice for those of another
+-- a choice for entries in one order, rearranged into another order
 abbrev pub reordered : List ℕ → List ℕ → List ℕ → List ℕ
 reordered order other choice = map (row_in order choice) other

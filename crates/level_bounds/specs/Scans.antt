@@ -48,7 +48,8 @@ pub record BoundsEachScan (b : EntryBounds) (query : Query) (tables : Tables) (k
   pub lists : EachNamedColumn (HasList b) (equalities_of query)
   pub columns : EachNamedColumn (DominatesScan b query tables key) (equalities_of query)
 
--- the same for the entries of a set, and for the columns by which equalities join two of them
+-- the scan of each entry of the set is within its row bound. Each column by which an equality joins two of these entries has a list, which dominates
+-- the column's keys in the scan
 pub record BoundsScans (b : EntryBounds) (query : Query) (tables : Tables) (key : Keys) (subset : ℕ) : Type 0 where
   pub rows : AllByRecursion (ScanFits b query tables) (entries_of_set subset)
   pub lists : SetHasLists b (equalities_of query) subset

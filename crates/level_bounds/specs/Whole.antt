@@ -19,7 +19,7 @@ keys_of tables key entry column = map (key entry column) (range_with_len 0 (row_
 abbrev pub uncompressed : Tables → Keys → EntryBounds
 uncompressed tables key = record { rows = row_counts tables; list = λ entry column. degree_list (keys_of tables key entry column) }
 
--- the same with each list compressed, for the entries of a set and for the columns that the set's equalities name
+-- `b` has the numbers of rows and the compressed degree lists, for the entries of a set and for the columns that the set's equalities name
 pub record AreCompressed (accuracy : ℕ) (b : EntryBounds) (tables : Tables) (key : Keys) (es : List Edge) (subset : ℕ) : Type 0 where
   pub rows : AllByRecursion (λ entry. b.rows entry ≡ row_counts tables entry) (entries_of_set subset)
   pub columns : EachNamedColumn (λ entry column. b.list entry column ≡ compressed accuracy (degree_list (keys_of tables key entry column)))

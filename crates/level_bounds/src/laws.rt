@@ -41,7 +41,7 @@ pub fn scans_ask_local_conjuncts()
         → IsSomeAnd (slice_get query.conjuncts k) (λ cond. IsTrue (cond_holds tables (λ e. row) cond)))) }
 {}
 
-/// Each equality that joins two entries is a conjunct. It names these two, and holds exactly where the two values are equal.
+/// Each equality that joins two entries is a conjunct. The conjunct names only these two, and it holds exactly if the two values are equal.
 pub fn equalities_are_conjuncts()
     ensures stand { (query : Query) (e : Edge)
         → Contains (equalities_of query) e ↔ ((cond : Cond) × Contains query.conjuncts cond × (equality_of cond ≡ Some e)) }
@@ -50,8 +50,8 @@ pub fn equalities_are_conjuncts()
         → cond_holds tables row_of cond ≡ are_equal_at tables e (row_of e.left.entry) (row_of e.right.entry) }
 {}
 
-/// Where no two texts of a database are the same, its cells are keys: rows that an equality joins have equal cells. The
-/// keys of a whole column are its cells.
+/// If no two texts of a database are the same, the database's cells can serve as keys: rows that an equality joins have equal cells. The
+/// keys of a whole column are the column's cells.
 pub fn cells_are_keys()
     ensures cells { (query : Query) (db : Database) → IsDatabaseOf query db → HaveDifferentCharacters db.pool
         → AreKeys (tables_of db) (cell_at db) (equalities_of query) }

@@ -4,10 +4,10 @@
 //! nothing here runs.
 //!
 //! - If no bound of an entry is too low for its scan, no level over the entries of a set has more rows than the set's
-//!   bound. This holds in whatever order they are joined.
+//!   bound. This holds in whatever order the entries are joined.
 //! - The last level of any order of all entries is the answer of the query, as a multiset.
-//! - Without conjuncts on one entry alone, the bound of a set is near that of the whole tables' degree lists (SafeBound,
-//!   SIGMOD 2023).
+//! - If no conjunct of a set's entries names one entry alone, the bound of the set is near its bound from the degree lists
+//!   of whole tables (SafeBound, SIGMOD 2023).
 //!
 //! Callers cite `query_scan`, `query_level` and `BoundsEachScan`. They also cite `IsOrderOfSet` for a set in an order, and
 //! `AreCompressed` and `uncompressed` for the bounds of whole tables.

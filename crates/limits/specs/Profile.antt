@@ -1,7 +1,7 @@
 -- The limits within which texts are read and queries are planned.
 use Rattle.std.specs.Prelude.{ℕ, ◌-◌, ◌^◌}
 
--- ---- what is read
+-- ---- limits of what is read: the most of each
 
 -- bytes of a schema text, and of a query text
 abbrev pub most_text : ℕ
@@ -41,7 +41,7 @@ most_conjuncts = 256
 abbrev pub most_outputs : ℕ
 most_outputs = 1024
 
--- ---- what is planned
+-- ---- limits of what is planned
 
 -- a budget is the most rows that the bound of a level or node of a plan may say. These are the least budget, the greatest, and the default
 -- of the program

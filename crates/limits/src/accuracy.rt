@@ -4,7 +4,7 @@ ghost use Rattle.limits.specs.Profile.{most_accuracy};
 use std::marker::Model;
 
 /// The accuracy of compressed lists, from 1 to 64. A higher accuracy gives lists that are nearer to the uncompressed ones and have more
-/// runs. Contracts see it as its number.
+/// runs. Contracts speak of an accuracy by its number.
 #[derive(Clone, Copy)]
 pub struct Accuracy {
     value: u8,
@@ -35,7 +35,7 @@ impl Accuracy {
         Accuracy { value }
     }
 
-    /// Its number.
+    /// The number of this accuracy.
     pub const fn value(self) -> u8
         ensures value { result ≡ self }
         ensures range { (0 < self) × (self ≤ most_accuracy) }

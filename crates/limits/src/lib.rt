@@ -67,7 +67,7 @@ pub const USUAL_ACCURACY: u8 = 1;
 /// The greatest number of 128 bits. As a bound it means this number or more.
 pub const TOP_BOUND: u128 = u128::MAX;
 
-/// Each constant here equals the number of the same name in specs/Profile. It does nothing.
+/// Each constant here equals the number of the same name in specs/Profile. The function does nothing.
 pub fn limits_are_named()
     ensures texts { MOST_TEXT ≡ profile.most_text }
     ensures files { MOST_FILE ≡ profile.most_file }

@@ -1,4 +1,5 @@
--- Parsers that do the same on some lists of tokens: put together, they do the same there too.
+-- Two parsers are alike on some lists of tokens if they answer the same for each of these lists. If the parts of two parsers are alike there, and the
+-- parsers are put together in the same way, they are alike there too.
 use Rattle.std.proofs.Common.{◌≡◌, ℕ, zero, suc, cond, Option, Some, None, List, [], ◌∷◌, ◌++◌, length, refl, ap, subst, ◌∙◌}
 use Rattle.ll_grammars.specs.declared.lexeme.Lexeme.{Lexeme}
 use Rattle.ll_grammars.specs.declared.terminal.Terminal.{Terminal}
@@ -6,11 +7,9 @@ use Rattle.ll_grammars.specs.Language.{Language}
 use Rattle.ll_grammars.specs.Reading.{Parser, Answer, next, ◌>>=◌, starts, give, read_second, read_then, read_made, read_maybe, read_others, read_up_to, read_many}
 use Rattle.ll_grammars.specs.Reads.{FirstAndFollow, Splits, Reads}
 
--- p and q do the same on the lists that P holds of
 abbrev pub AreAlikeOn : {A : Type 0} → (List Lexeme → Type 0) → Parser A → Parser A → Type 0
 AreAlikeOn P p q = (text : List Lexeme) → P text → p text ≡ q text
 
--- where P holds of a list, it holds of what p leaves of it behind a value
 abbrev pub StaysIn : {A : Type 0} → (List Lexeme → Type 0) → Parser A → Type 0
 StaysIn {A} P p = (text : List Lexeme) (value : A) (rest : List Lexeme) → p text ≡ (Some value, rest) → P text → P rest
 
@@ -18,7 +17,6 @@ module _ (P : List Lexeme → Type 0) where
   pub itself_alike : {A : Type 0} (p : Parser A) → AreAlikeOn P p p
   itself_alike p text holds = refl
 
-  -- it is enough that P holds behind each text of the language of which it holds together with what follows
   pub stays : {A : Type 0} {L : Language A} {s : FirstAndFollow} {p : Parser A} → Reads L s p → ((front rest : List Lexeme) (value : A) → L front value → P (front ++ rest) → P rest) → StaysIn P p
   stays {A = A} {L = L} {p = p} reads h text value rest e holds = at (p text).0 (p text).1 e (reads.splits text) where
     at : (o : Option A) (r : List Lexeme) → ◌≡◌ {A = Answer A} (o, r) (Some value, rest) → Splits L text o r → P rest

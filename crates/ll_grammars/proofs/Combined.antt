@@ -1,4 +1,4 @@
--- The theory's steps with all that can be inferred left out, and forms of rules that grammars share.
+-- These are the lemmas of the theory without the arguments that can be inferred, and lemmas for forms of rules that grammars share.
 use Rattle.std.proofs.Common.{◌≡◌, false, true, inl, inr, Option, Some, None, List, [], ◌∷◌, ◌++◌, refl}
 use Rattle.ll_grammars.specs.declared.lexeme.Lexeme.{Lexeme}
 use Rattle.ll_grammars.specs.declared.terminal.Terminal.{Terminal}
@@ -42,15 +42,13 @@ parentheses_shape s = then_shape (word_shape terminal.Open) (then_shape s (word_
 pub inside : {A : Type 0} {L : Language A} {s : FirstAndFollow} {p : Parser A} → Reads L s p → apart s.more (terminal.Close ∷ []) ≡ true → Reads (in_parentheses L) (parentheses_shape s) (read_in_parentheses p)
 inside reads h = value middle (row (a_word terminal.Open refl) (row reads (a_word terminal.Close refl) h) refl)
 
--- an item behind a separator
 abbrev pub next_shape : Terminal → FirstAndFollow → FirstAndFollow
 next_shape separator s = then_shape (word_shape separator) s
 
--- items between separators
 abbrev pub listed_shape : Terminal → FirstAndFollow → FirstAndFollow
 listed_shape separator s = then_shape s (many_shape (next_shape separator s))
 
--- ---- a language of the same texts and values
+-- ---- a language with the same texts and values as another
 
 pub reads_same : {A : Type 0} {L M : Language A} {s : FirstAndFollow} {p : Parser A} → ((text : List Lexeme) (v : A) → L text v → M text v) → ((text : List Lexeme) (v : A) → M text v → L text v) → Reads L s p → Reads M s p
 reads_same {A = A} {L = L} {M = M} {s = s} {p = p} to from reads = record {
@@ -64,7 +62,7 @@ reads_same {A = A} {L = L} {M = M} {s = s} {p = p} to from reads = record {
   split text None rest d = record { front = d.front; whole = d.whole; spelled = record { more = d.spelled.more; value = d.spelled.value; spelled = to (d.front ++ d.spelled.more) d.spelled.value d.spelled.spelled } }
   split text (Some v) rest d = record { front = d.front; whole = d.whole; spelled = to d.front v d.spelled }
 
--- ---- a choice of which one side has no text
+-- ---- a choice between two languages, if one of them has no text
 
 pub right_only : {A : Type 0} {L M : Language A} {t : FirstAndFollow} {q : Parser A} → (s : FirstAndFollow) → ((text : List Lexeme) (v : A) → L text v → ⊥) → Reads M t q → t.nullable ≡ false → Reads (L ∪ M) (either_shape s t) q
 right_only {A = A} {L = L} {M = M} {t = t} {q = q} s none reads full = record {

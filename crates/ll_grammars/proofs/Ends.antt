@@ -1,4 +1,5 @@
--- What a parser that reads a language answers for a whole list of tokens.
+-- These lemmas say what a parser that reads a language answers for a whole list of tokens: the value that the tokens spell, or the place where they
+-- go wrong.
 use Rattle.std.proofs.Common.{◌≡◌, ℕ, true, false, List, [], ◌∷◌, Option, Some, None, refl, sym, ap, subst, ◌∙◌}
 use Rattle.ll_grammars.specs.declared.lexeme.Lexeme.{Lexeme}
 use Rattle.ll_grammars.specs.Language.{Language, GoesWrong}
@@ -12,26 +13,21 @@ empty_is : (rest : List Lexeme) → is_empty rest ≡ true → rest ≡ []
 empty_is [] h = refl
 empty_is (t ∷ rest) h = absurd cc
 
--- all of the tokens were read: they spell the value
 pub spelled : {A : Type 0} {L : Language A} {s : FirstAndFollow} {p : Parser A} → Reads L s p → (tokens : List Lexeme) (value : A) (rest : List Lexeme) → p tokens ≡ (Some value, rest) → is_empty rest ≡ true → L tokens value
 spelled reads tokens value rest e h = spells _ _ _ reads tokens value (e ∙ ap (λ x. (Some value, x)) (empty_is rest h))
 
--- a value was read and tokens are left: they go wrong there
 pub wrong_after : {A : Type 0} {L : Language A} {s : FirstAndFollow} {p : Parser A} → Reads L s p → (tokens : List Lexeme) (value : A) (rest : List Lexeme) (text_len at : ℕ) → p tokens ≡ (Some value, rest) → is_empty rest ≡ false → at ≡ place rest text_len → IsSyntaxPlace L tokens text_len at
 wrong_after {A = A} {L = L} {s = s} {p = p} reads tokens value rest text_len at e h here =
     let other : (v : A) → p tokens ≡ (Some v, []) → ⊥ = λ v f. (let k : rest ≡ [] = ap (λ x. x.1) (sym e ∙ f) in let k' : is_empty rest ≡ true = rw k refl in cc) in
     record { rest = rest; wrong = subst (λ x. GoesWrong L tokens x) (ap (λ x. x.1) e) (goes_wrong _ _ _ reads tokens other); here = here }
 
--- no value was read: the tokens go wrong where reading stopped
 pub wrong_at : {A : Type 0} {L : Language A} {s : FirstAndFollow} {p : Parser A} → Reads L s p → (tokens : List Lexeme) (rest : List Lexeme) (text_len at : ℕ) → p tokens ≡ (None, rest) → at ≡ place rest text_len → IsSyntaxPlace L tokens text_len at
 wrong_at {A = A} {L = L} {s = s} {p = p} reads tokens rest text_len at e here =
     let other : (v : A) → p tokens ≡ (Some v, []) → ⊥ = λ v f. (let k : ◌≡◌ {A = Option A} None (Some v) = ap (λ x. x.0) (sym e ∙ f) in cc) in
     record { rest = rest; wrong = subst (λ x. GoesWrong L tokens x) (ap (λ x. x.1) e) (goes_wrong _ _ _ reads tokens other); here = here }
 
--- a text of the language is read whole
 pub all_found : {A : Type 0} {L : Language A} {s : FirstAndFollow} {p : Parser A} → Reads L s p → (tokens : List Lexeme) (value : A) → L tokens value → p tokens ≡ (Some value, [])
 all_found reads tokens value l = found _ _ _ reads tokens value l
 
--- a list of tokens spells one value at most
 pub at_most_one : {A : Type 0} {L : Language A} {s : FirstAndFollow} {p : Parser A} → Reads L s p → (tokens : List Lexeme) (a b : A) → L tokens a → L tokens b → a ≡ b
 at_most_one reads tokens a b la lb = one_value _ _ _ reads tokens a b la lb

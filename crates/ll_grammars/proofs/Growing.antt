@@ -1,11 +1,10 @@
--- A language put together grows with what it is put together of.
+-- If the languages from which a language is built are extended, the language is extended too.
 use Rattle.std.proofs.Common.{List, [], ◌∷◌, inl, inr}
 use Rattle.ll_grammars.specs.declared.lexeme.Lexeme.{Lexeme}
 use Rattle.ll_grammars.specs.declared.terminal.Terminal.{Terminal}
 use Rattle.ll_grammars.specs.Language.{Language, ◌▸◌, made, ◌∪◌, many}
 use Rattle.ll_grammars.specs.Rules.{all, second, listed, in_parentheses}
 
--- each text of L is one of M, of the same value
 abbrev pub IsIn : {A : Type 0} → Language A → Language A → Type 0
 IsIn {A} L M = (text : List Lexeme) (value : A) → L text value → M text value
 

@@ -1,4 +1,4 @@
--- What a value has of the tokens that spell it, combinator by combinator.
+-- If all tokens of a text have a property, the text's value has a property that follows. There is a lemma for each way to build a language.
 use Rattle.std.proofs.Common.{inl, inr, All, Contains, IfSome, List, [], ◌∷◌, ◌++◌, Option, Some, None, subst}
 use Rattle.std.proofs.lemmas.List.Elements.{All-nil, All-cons, All-head, All-tail, All-contains_itself}
 use Rattle.ll_grammars.specs.declared.lexeme.Lexeme.{Lexeme}
@@ -44,6 +44,5 @@ keeps_many {P = P} {A = A} {L = L} {Q = Q} inner = record { kept = at } where
       let parts : All P (l.0 ++ l.1) = subst (All P) l.2 h in
       All-cons Q value values (inner.kept l.0 value l.3 (all_front P l.0 l.1 parts)) (at l.1 values l.4 (all_rest P l.0 l.1 parts))
 
--- the tokens of a value are among those that spell it
 pub kept_of_text : {A : Type 0} {L : Language A} (Q : (Lexeme → Type 0) → A → Type 0) → ((P : Lexeme → Type 0) → Keeps P L (Q P)) → (text : List Lexeme) (value : A) → L text value → Q (Contains text) value
 kept_of_text Q keeps text value l = (keeps (Contains text)).kept text value l (All-contains_itself text)

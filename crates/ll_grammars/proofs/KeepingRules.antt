@@ -1,4 +1,4 @@
--- What a value has of the tokens that spell it, in the forms of rules that grammars share.
+-- If all tokens of a text have a property, the text's value has a property that follows. There is a lemma for each form of rules that grammars share.
 use Rattle.std.proofs.Common.{All, [], ◌∷◌}
 use Rattle.std.proofs.lemmas.List.Elements.{All-cons}
 use Rattle.ll_grammars.specs.declared.lexeme.Lexeme.{Lexeme}
@@ -15,7 +15,6 @@ keeps_any = record { kept = λ text value l h. tt }
 pub keeps_word : (P : Lexeme → Type 0) (t : Terminal) → Keeps P (word t) (IsOneOf (t ∷ []) P)
 keeps_word P t = keeps_one P (t ∷ [])
 
--- L behind a word
 pub keeps_behind : {P : Lexeme → Type 0} {A : Type 0} {L : Language A} {Q : A → Type 0} (t : Terminal) → Keeps P L Q → Keeps P (made second (word t ▸ L)) Q
 keeps_behind {P = P} {Q = Q} t item = keeps_made second Q (keeps_then (keeps_word P t) item) (λ parts q. q.1)
 

@@ -1,4 +1,4 @@
--- A loop that reads one item after the other does what `read_many` does.
+-- A loop that reads one item after another gives what `read_many` gives.
 use Rattle.std.proofs.Common.{◌≡◌, ◌<◌, true, false, List, [], ◌∷◌, ◌++◌, length, Option, Some, None, Err, refl, sym, ap, ◌∙◌, append_assoc, arith}
 use Rattle.std.proofs.lemmas.List.{append-nil, length-append}
 use Rattle.ll_grammars.specs.declared.lexeme.Lexeme.{Lexeme}

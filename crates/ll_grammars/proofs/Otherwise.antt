@@ -1,4 +1,4 @@
--- A choice whose other alternative may be of no token: it is taken where the next token begins no text of the first.
+-- The second alternative of a choice may be empty. The parser takes it if no text of the first alternative begins with the next token.
 use Rattle.std.proofs.Common.{◌≡◌, Bool, true, false, cond, List, [], ◌∷◌, ◌++◌, Option, Some, None, sym, inl, inr}
 use Rattle.ll_grammars.specs.declared.lexeme.Lexeme.{Lexeme}
 use Rattle.ll_grammars.specs.Terminals.{apart}

@@ -1,4 +1,4 @@
--- A parser that repeats another reads any number of its texts.
+-- A parser that repeats another parser reads any number of texts of the other's language.
 use Rattle.std.proofs.Common.{◌≡◌, ℕ, zero, suc, ◌+◌, ◌≤◌, ◌<◌, Bool, true, false, cond, List, [], ◌∷◌, ◌++◌, length, Option, Some, None, refl, sym, ap, subst, ◌∙◌, append_assoc, arith}
 use Rattle.std.proofs.lemmas.List.{append-nil, append_cancel_right, length-append}
 use Rattle.ll_grammars.specs.declared.lexeme.Lexeme.{Lexeme}
@@ -159,7 +159,6 @@ module _ {A : Type 0} (L : Language A) (s : FirstAndFollow) (p : Parser A) (read
       let all : suc (length text) ≡ length split.front + length r = ap length split.whole ∙ length-append split.front r in
       rw (up_same (length text) (length r) r (omega arith) (omega arith)) refl
 
-  -- the two steps of a loop
   pub many_step : (text : List Lexeme) → starts s.first text ≡ true → read_many s.first p text ≡ (p text >>= read_others (read_many s.first p))
   unfolding read_many
   many_step [] h = absurd cc

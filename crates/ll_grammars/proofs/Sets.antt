@@ -1,4 +1,4 @@
--- Sets of terminals, and what a text begins with.
+-- These lemmas are about sets of terminals, and about the token that a text begins with.
 use Rattle.std.proofs.Common.{◌≡◌, Bool, true, false, cond, ◌||◌, eqb, List, [], ◌∷◌, ◌++◌, refl, sym, subst, ◌∙◌}
 use Rattle.std.proofs.lemmas.List.{append_cancel_right}
 use Rattle.std.proofs.lemmas.Bool.{eqb-true, or_parts, or_left, or_right}
@@ -52,7 +52,6 @@ pub Stops-starts : (cs : List Terminal) (text : List Lexeme) → Stops cs text �
 Stops-starts cs [] h = refl
 Stops-starts cs (t ∷ ts) h = h
 
--- a parser does not go on where what follows begins in terminals apart from these
 pub Stops-next : (more : List Terminal) (s : FirstAndFollow) (text rest : List Lexeme) → apart more s.first ≡ true → BeginsIn s text → Stops (cond s.nullable more []) rest → Stops more (text ++ rest)
 Stops-next more s [] rest h b stop = let k : Stops (cond true more []) rest = subst (λ (e : Bool). Stops (cond e more []) rest) b stop in k
 Stops-next more s (t ∷ ts) rest h b stop = apart_false more s.first t.terminal h b

@@ -1,4 +1,4 @@
--- Parsers put together read languages put together.
+-- If parsers read languages, parsers that are built from them read the languages that are built in the same way.
 use Rattle.std.proofs.Common.{◌≡◌, Bool, true, false, cond, ◌&&◌, List, [], ◌∷◌, ◌++◌, Option, Some, None, refl, sym, ap, subst, ◌∙◌, append_assoc, inl, inr}
 use Rattle.std.proofs.lemmas.List.{append_cancel_right}
 use Rattle.ll_grammars.specs.declared.lexeme.Lexeme.{Lexeme}
@@ -10,7 +10,7 @@ use Rattle.ll_grammars.specs.Reads.{FirstAndFollow, BeginsIn, Stops, SameHead, S
 use Rattle.ll_grammars.specs.Reads.SameHead.{nothing, token}
 use Rattle.ll_grammars.proofs.Sets.{apart_false, among_left, among_right, Stops-left, Stops-right, Stops-next, Stops-starts, starts_same, SameHead-append, self_append, starts_front}
 
--- ---- what a step leaves
+-- ---- the tokens that a step leaves
 
 pub next_give_rest : {A B : Type 0} → (o : Option A) (end : List Lexeme) (f : A → B) → (next o end (λ a. give (f a))).1 ≡ end
 next_give_rest None end f = refl
@@ -65,7 +65,7 @@ reads_one terminals t e =
       looks = one_looks_all terminals;
     }
 
--- ---- one after the other
+-- ---- `read_then`: one text after another
 
 abbrev pub then_shape : FirstAndFollow → FirstAndFollow → FirstAndFollow
 then_shape s t = record { first = s.first ++ cond s.nullable t.first []; nullable = s.nullable && t.nullable; more = t.more ++ cond t.nullable s.more [] }
@@ -159,7 +159,7 @@ reads_then L M s t p q first second apart_ = record {
   looks = λ front rest other same stop. then_looks L M s t p q first second front rest other same (p (front ++ rest)).0 (p (front ++ rest)).1 refl stop;
 }
 
--- ---- a value made of another
+-- ---- `read_made`: a value made of another value
 
 module _ {A B : Type 0} (L : Language A) (f : A → B) (s : FirstAndFollow) (p : Parser A) (reads : Reads L s p) where
   made_splits : (text : List Lexeme) (o : Option A) (r : List Lexeme) → Splits L text o r → Splits (made f L) text (next o r (λ a. give (f a))).0 (next o r (λ a. give (f a))).1
@@ -180,7 +180,7 @@ reads_made L f s p reads = record {
   looks = λ front rest other same stop. made_looks L f s p reads front rest other same (p (front ++ rest)).0 (p (front ++ rest)).1 refl stop;
 }
 
--- ---- one or the other
+-- ---- `read_either`: a text of one language or of another
 
 starts_not : (cs : List Terminal) (t : FirstAndFollow) (front rest : List Lexeme) → t.nullable ≡ false → apart cs t.first ≡ true → BeginsIn t front → starts cs (front ++ rest) ≡ false
 starts_not cs t [] rest full h b = absurd cc
@@ -232,7 +232,7 @@ reads_either L M s t p q first second full full' apart_ = record {
   looks = λ front rest other same stop. rw (sym (starts_same s.first front rest other same)) (either_looks L M s t p q first second full full' apart_ front rest other same (starts s.first (front ++ rest)) stop);
 }
 
--- ---- something or nothing
+-- ---- `read_maybe`: a text, or no token
 
 abbrev pub maybe_shape : FirstAndFollow → FirstAndFollow
 maybe_shape s = record { first = s.first; nullable = true; more = s.first ++ s.more }

@@ -1,4 +1,4 @@
--- Items behind separators, with one more separator at the end or not.
+-- These lemmas are about a parser of lists: items, each after a separator, and perhaps one more separator at the end.
 use Rattle.std.proofs.Common.{◌≡◌, ℕ, zero, suc, ◌+◌, ◌≤◌, Bool, true, false, cond, List, [], ◌∷◌, ◌++◌, length, Option, Some, None, refl, sym, ap, subst, ◌∙◌, append_assoc, arith, inl, inr, ◌⊎◌}
 use Rattle.std.proofs.lemmas.List.{append-nil, append_cancel_right, length-append}
 use Rattle.ll_grammars.specs.declared.lexeme.Lexeme.{Lexeme}
@@ -11,12 +11,11 @@ use Rattle.ll_grammars.specs.Reads.{FirstAndFollow, BeginsIn, Stops, SameHead, S
 use Rattle.ll_grammars.proofs.Sets.{Stops-left, Stops-right, Stops-next, Stops-starts, starts_same, SameHead-append, self_append, starts_front}
 use Rattle.ll_grammars.proofs.Steps.{next_give_rest}
 
--- the same, item by item
+-- `tails` has the texts of `repeated`, by recursion on the items
 abbrev pub tails : {A : Type 0} → List Terminal → Language A → Language (List A)
 tails separators L text [] = (text ≡ []) ⊎ ((t : Lexeme) × (text ≡ t ∷ []) × (among separators t.terminal ≡ true))
 tails separators L text (value ∷ values) = (t : Lexeme) × (front : List Lexeme) × (rest : List Lexeme) × (text ≡ t ∷ (front ++ rest)) × (among separators t.terminal ≡ true) × L front value × tails separators L rest values
 
--- any number of items behind separators, and one more separator or none
 abbrev pub repeated : {A : Type 0} → List Terminal → Language A → Language (List A × Option Lexeme)
 repeated separators L = many (made second (one separators ▸ L)) ▸ maybe (one separators)
 
@@ -58,7 +57,6 @@ module _ {A : Type 0} (separators : List Terminal) (L : Language A) (s : FirstAn
   abbrev tail : ℕ → Parser (List A)
   tail n = read_tails_up_to n separators s.first p
 
-  -- what follows a separator
   abbrev behind : ℕ → Parser (List A)
   behind n rest = cond (starts s.first rest) (p rest >>= read_others (tail n)) (give [] rest)
 

@@ -1,5 +1,6 @@
--- A parser that reads a language finds its values, and the place where a text goes wrong. That no text goes on from there
--- follows from two facts: the parser finds every text, and looks at no token past the one at which it stops.
+-- A parser that reads a language finds the value of each text. If a list of tokens is no text, the parser stops where the list goes wrong: no text
+-- begins with the tokens before this place and the next token. This follows from two facts: the parser finds every text, and it looks at no token
+-- after the one at which it stops.
 use Rattle.std.proofs.Common.{◌≡◌, List, [], ◌∷◌, ◌++◌, Option, Some, None, sym, ap, subst, ◌∙◌, append_assoc}
 use Rattle.std.proofs.lemmas.List.{append-nil}
 use Rattle.ll_grammars.specs.declared.lexeme.Lexeme.{Lexeme}
@@ -25,7 +26,6 @@ fails_at L s p reads front (t ∷ rest) stop no_value = λ viable.
     let done' : p (front ++ t ∷ viable.more) ≡ (Some viable.value, []) = rw append-nil at done in
     not_empty t viable.more (p (front ++ t ∷ rest)).0 (Some viable.value) (sym whole ∙ done')
 
--- where no value is found, the text goes wrong where the parser stopped
 pub goes_wrong : {A : Type 0} (L : Language A) (s : FirstAndFollow) (p : Parser A) → Reads L s p → (text : List Lexeme)
     → ((value : A) → p text ≡ (Some value, []) → ⊥) → GoesWrong L text (p text).1
 goes_wrong L s p reads text no_value =
@@ -38,7 +38,6 @@ goes_wrong L s p reads text no_value =
       fails = fails_at L s p reads split.front (p text).1 stop (λ value e. no_value value (ap p split.whole ∙ e));
     }
 
--- what is found is spelled
 pub spells : {A : Type 0} (L : Language A) (s : FirstAndFollow) (p : Parser A) → Reads L s p → (text : List Lexeme) (value : A) → p text ≡ (Some value, []) → L text value
 spells L s p reads text value e =
     let split = reads.splits text in
@@ -48,11 +47,9 @@ spells L s p reads text value e =
     let l : Spelled L split.front (Some value) = subst (λ o. Spelled L split.front o) (ap (λ x. x.0) e) split.spelled in
     subst (λ x. L x value) here l
 
--- what is spelled is found
 pub found : {A : Type 0} (L : Language A) (s : FirstAndFollow) (p : Parser A) → Reads L s p → (text : List Lexeme) (value : A) → L text value → p text ≡ (Some value, [])
 found L s p reads text value l = let done : p (text ++ []) ≡ (Some value, []) = reads.complete text [] value l tt in rw append-nil at done
 
--- a text spells one value at most
 pub one_value : {A : Type 0} (L : Language A) (s : FirstAndFollow) (p : Parser A) → Reads L s p → (text : List Lexeme) (a b : A) → L text a → L text b → a ≡ b
 one_value L s p reads text a b la lb =
     let e = sym (found L s p reads text a la) ∙ found L s p reads text b lb in

@@ -5,7 +5,7 @@ use Rattle.ll_grammars.specs.declared.terminal.Terminal.{Terminal}
 use Rattle.ll_grammars.specs.Terminals.{among}
 use Rattle.ll_grammars.specs.Language.{Language}
 
--- where all tokens of a text have P, its value has Q
+-- if all tokens of a text of L have P, then the value of the text has Q
 pub record Keeps {A : Type 0} (P : Lexeme → Type 0) (L : Language A) (Q : A → Type 0) : Type 0 where
   pub kept : (text : List Lexeme) (value : A) → L text value → All P text → Q value
 

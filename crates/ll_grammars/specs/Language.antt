@@ -1,10 +1,10 @@
--- Formal languages whose texts have values: which lists of tokens spell which values, and where a list goes wrong that spells no value.
+-- Formal languages whose texts have values: which lists of tokens spell which values, and where a list goes wrong if it spells no value.
 use Rattle.std.specs.Prelude.{◌≡◌, true, ◌⊎◌, Option, Some, None, List, [], ◌∷◌, ◌++◌}
 use Rattle.ll_grammars.specs.declared.lexeme.Lexeme.{Lexeme}
 use Rattle.ll_grammars.specs.declared.terminal.Terminal.{Terminal}
 use Rattle.ll_grammars.specs.Terminals.{among}
 
--- a language says of a list of tokens and of a value whether the list spells the value. Its texts are the lists that spell some value
+-- a language L relates lists of tokens to values: `L text value` says that the list spells the value. The texts of L are the lists that spell some value
 abbrev pub Language : Type 0 → Type 1
 Language A = List Lexeme → A → Type 0
 
@@ -43,13 +43,13 @@ abbrev pub many : {A : Type 0} → Language A → Language (List A)
 many L text [] = text ≡ []
 many L text (value ∷ values) = (front : List Lexeme) × (rest : List Lexeme) × (text ≡ front ++ rest) × L front value × many L rest values
 
--- `front` is a viable prefix: there are tokens that make it a text of L when they follow it, maybe no token at all
+-- `front` is a viable prefix: it is a text of L after some tokens, perhaps no token, are added at its end
 pub record IsViablePrefix {A : Type 0} (L : Language A) (front : List Lexeme) : Type 0 where
   pub more : List Lexeme
   pub value : A
   pub spelled : L (front ++ more) value
 
--- reading can't go on after `front`: with the next token it is no viable prefix. If no token is left, `front` itself is no text of L
+-- reading can't go on after `front`: `front` and the next token are no viable prefix. If no token is left, `front` itself is no text of L
 abbrev pub Fails : {A : Type 0} → Language A → List Lexeme → List Lexeme → Type 0
 Fails {A} L front [] = (value : A) → L front value → ⊥
 Fails L front (token ∷ rest) = IsViablePrefix L (front ++ token ∷ []) → ⊥

@@ -6,8 +6,8 @@ use Rattle.ll_grammars.specs.declared.syntax_error.SyntaxError.TheVariants as er
 use Rattle.ll_grammars.specs.Language.{Language, GoesWrong}
 use Rattle.ll_grammars.specs.Rules.{place}
 
--- `at` is where the text goes wrong: the start of the first token that makes the tokens up to it no viable prefix.
--- Where more tokens are needed, `at` is the text's length
+-- `at` is where the text goes wrong: the start of the first token with which the tokens so far are no viable prefix. If more tokens are needed, `at`
+-- is the text's length
 pub record IsSyntaxPlace {A : Type 0} (L : Language A) (tokens : List Lexeme) (text_len at : ℕ) : Type 0 where
   pub rest : List Lexeme
   pub wrong : GoesWrong L tokens rest

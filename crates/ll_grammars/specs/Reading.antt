@@ -1,4 +1,4 @@
--- Predictive parsers. Each gives a value or no value, and the tokens from where reading stopped. It decides by the next token alone.
+-- Predictive parsers. A parser gives a value or no value, and the tokens from the place on where it stopped reading. It decides by the next token alone.
 use Rattle.std.specs.Prelude.{ℕ, zero, suc, Bool, false, if◌then◌else◌, Option, Some, None, List, [], ◌∷◌, ◌++◌, length}
 use Rattle.ll_grammars.specs.declared.lexeme.Lexeme.{Lexeme}
 use Rattle.ll_grammars.specs.declared.terminal.Terminal.{Terminal}
@@ -11,7 +11,7 @@ Answer A = Option A × List Lexeme
 abbrev pub Parser : Type 0 → Type 0
 Parser A = List Lexeme → Answer A
 
--- where there is a value, goes on with the parser that `f` gives for it
+-- if there is a value, goes on with the parser that `f` gives for the value
 abbrev pub next : {A B : Type 0} → Option A → List Lexeme → (A → Parser B) → Answer B
 next None rest f = (None, rest)
 next (Some a) rest f = f a rest
@@ -45,7 +45,7 @@ read_then p q text = p text >>= read_second q
 abbrev pub read_made : {A B : Type 0} → (A → B) → Parser A → Parser B
 read_made f p text = p text >>= λ a. give (f a)
 
--- the first token decides: p where it is in the FIRST set of p, else q
+-- the first token decides: p reads if the token is in `first`, the terminals with which texts for p begin; otherwise q reads
 abbrev pub read_either : {A : Type 0} → List Terminal → Parser A → Parser A → Parser A
 read_either first p q text = if starts first text then p text else q text
 
@@ -55,16 +55,16 @@ read_maybe first p text = if starts first text then (p text >>= λ a. give (Some
 abbrev pub read_others : {A : Type 0} → Parser (List A) → A → Parser (List A)
 read_others q a rest = q rest >>= λ others. give (a ∷ others)
 
--- at most this many items, while the first token is in the FIRST set of p
+-- at most this many items, while the first token is in `first`
 abbrev pub read_up_to : {A : Type 0} → ℕ → List Terminal → Parser A → Parser (List A)
 read_up_to zero first p text = give [] text
 read_up_to (suc n) first p text = if starts first text then (p text >>= read_others (read_up_to n first p)) else give [] text
 
--- items while the first token is in the FIRST set. Each item takes a token, so there are at most as many items as tokens
+-- items, while the first token is in `first`. Each item takes a token, so there are at most as many items as tokens
 unfoldable pub read_many : {A : Type 0} → List Terminal → Parser A → Parser (List A)
 read_many first p text = read_up_to (length text) first p text
 
--- the answer, with the items that were read before in front of its own
+-- the answer, with the items of `front` before its own items
 abbrev pub with_front : {A : Type 0} → List A → Answer (List A) → Answer (List A)
 with_front front answer = answer >>= λ others. give (front ++ others)
 

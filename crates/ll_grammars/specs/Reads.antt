@@ -6,8 +6,8 @@ use Rattle.ll_grammars.specs.Terminals.{among}
 use Rattle.ll_grammars.specs.Language.{Language, IsViablePrefix}
 use Rattle.ll_grammars.specs.Reading.{Parser}
 
--- what LL(1) asks of a language and its parser. `first` has the terminals with which its texts begin. `nullable` says
--- whether the empty list is a text. `more` has the terminals with which the parser goes on after a text
+-- what the conditions of an LL(1) grammar speak of, for a language and its parser. `first` has the terminals with which texts of the language begin.
+-- `nullable` says whether the empty list is a text. `more` has the terminals with which the parser goes on after a text
 pub record FirstAndFollow : Type 0 where
   pub first : List Terminal
   pub nullable : Bool
@@ -18,7 +18,7 @@ abbrev pub BeginsIn : FirstAndFollow → List Lexeme → Type 0
 BeginsIn s [] = s.nullable ≡ true
 BeginsIn s (token ∷ rest) = among s.first token.terminal ≡ true
 
--- what follows doesn't begin with any of these terminals
+-- the list doesn't begin with any of these terminals
 abbrev pub Stops : List Terminal → List Lexeme → Type 0
 Stops more [] = ⊤
 Stops more (token ∷ rest) = among more token.terminal ≡ false
@@ -49,6 +49,6 @@ pub record Reads {A : Type 0} (L : Language A) (s : FirstAndFollow) (p : Parser 
   pub splits : (text : List Lexeme) → Splits L text (p text).0 (p text).1
   -- each text is read to its end, if the token after it isn't one with which the parser goes on
   pub complete : (front rest : List Lexeme) (value : A) → L front value → Stops s.more rest → p (front ++ rest) ≡ (Some value, rest)
-  -- it looks at no token past the one at which it stops
+  -- the parser looks at no token after the one at which it stops
   pub looks : (front rest other : List Lexeme) → SameHead rest other → (p (front ++ rest)).1 ≡ rest
       → p (front ++ other) ≡ ((p (front ++ rest)).0, other)

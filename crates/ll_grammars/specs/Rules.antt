@@ -8,9 +8,9 @@ use Rattle.ll_grammars.specs.declared.stop.Stop.TheVariants as stop
 use Rattle.ll_grammars.specs.Language.{Language, one, ◌▸◌, made, many}
 use Rattle.ll_grammars.specs.Reading.{Parser, Answer, read_one, read_then, read_made}
 
--- ---- values
+-- ---- values of rules, from the values of their parts
 
--- a first item and the others
+-- the list of a first item and the other items
 abbrev pub all : {A : Type 0} → A × List A → List A
 all parts = parts.0 ∷ parts.1
 
@@ -34,7 +34,7 @@ listed separator L = made all (L ▸ many (made second (word separator ▸ L)))
 abbrev pub in_parentheses : {A : Type 0} → Language A → Language A
 in_parentheses L = made middle (word terminal.Open ▸ L ▸ word terminal.Close)
 
--- ---- from left to right
+-- ---- parsers of these rules
 
 abbrev pub read_word : Terminal → Parser Lexeme
 read_word t = read_one (t ∷ [])
@@ -42,13 +42,13 @@ read_word t = read_one (t ∷ [])
 abbrev pub read_in_parentheses : {A : Type 0} → Parser A → Parser A
 read_in_parentheses p = read_made middle (read_then (read_word terminal.Open) (read_then p (read_word terminal.Close)))
 
--- what a function gave and the tokens that it left are the parser's answer, unless memory ran out
+-- the result of a function and the tokens that it left are the parser's answer, unless memory ran out
 abbrev pub IsReadAs : {A : Type 0} → Result A Stop → List Lexeme → Answer A → Type 0
 IsReadAs (Ok a) rest answer = answer ≡ (Some a, rest)
 IsReadAs (Err stop.Syntax) rest answer = answer ≡ (None, rest)
 IsReadAs (Err stop.NoMemory) rest answer = ⊤
 
--- the start of the next token, or the text's end where no token is left
+-- the start of the next token, or the text's end if no token is left
 abbrev pub place : List Lexeme → ℕ → ℕ
 place [] end = end
 place (token ∷ rest) end = token.start

@@ -1,16 +1,14 @@
 //! Formal languages over tokens, and predictive parsers of them: the theory on which the grammars of
 //! schema and query texts stand. Tokens come in, as lexemes; a grammar's crate makes trees of them.
 //!
-//! A language relates lists of tokens to the values that they spell. It is built from single terminals
-//! (`one`) by sequence (`▸`), choice (`∪`), option (`maybe`) and repetition (`many`). A list that spells
-//! no value goes wrong at the first token that makes the tokens up to it no viable prefix
-//! (`IsSyntaxPlace`). This place depends on the language alone, not on a parser.
+//! A language relates lists of tokens to the values that they spell. It is built from single terminals (`one`) by sequence (`▸`), choice (`∪`),
+//! option (`maybe`) and repetition (`many`). A viable prefix is a beginning of a list that spells a value. A list that spells no value goes wrong at
+//! the first token with which the tokens so far are no viable prefix (`IsSyntaxPlace`). This place depends on the language alone, not on a parser.
 //!
 //! A grammar's crate writes each rule four times:
 //!
 //! - as a language;
-//! - as a parser, with a combinator for each one of the language (`read_then` for `▸`, `read_either`
-//!   for `∪`, ..);
+//! - as a parser, with a combinator for each combinator of the language (`read_then` for `▸`, `read_either` for `∪`, ..);
 //! - as a proof that the parser reads the language (`Reads`, from `proofs/Combined`), in which the
 //!   conditions of an LL(1) grammar are computed;
 //! - as a function over `Reader`, whose contract, `IsReadAs`, cites the parser.

@@ -8,7 +8,7 @@ use crate::{Lexeme, Stop, Terminal};
 use std::alloc::Global;
 use std::marker::Model;
 
-/// Reads tokens from left to right. Contracts see it as the tokens that are left.
+/// Reads tokens from left to right. Contracts speak of a reader as the list of the remaining tokens.
 #[derive(Drop)]
 pub struct Reader<'a> {
     rest: &'a [Lexeme],
@@ -35,7 +35,7 @@ impl<'a> Reader<'a> {
         }
     }
 
-    /// The allocator for what is read.
+    /// The allocator for the values that are read.
     pub fn allocator(&self) -> Global {
         self.alloc
     }
@@ -50,8 +50,7 @@ impl<'a> Reader<'a> {
         }
     }
 
-    /// Reads the next token, which has to be one of these terminals. Else it gives `Stop::Syntax` and reads
-    /// nothing.
+    /// Reads the next token if it is one of these terminals. Otherwise the result is `Stop::Syntax`, and nothing is read.
     pub fn one(&mut self, terminals: &[Terminal]) -> Result<Lexeme, Stop>
         ensures { IsReadAs result self.new (read_one terminals.now self.old) }
     {
@@ -68,7 +67,7 @@ impl<'a> Reader<'a> {
         }
     }
 
-    /// Reads the next token where it is one of these terminals, and says whether it is.
+    /// Reads the next token if it is one of these terminals, and returns whether it is.
     pub fn takes(&mut self, terminals: &[Terminal]) -> bool
         ensures taken { result ≡ starts terminals.now self.old }
         ensures left { self.new ≡ (read_one terminals.now self.old).1 }

@@ -1,4 +1,4 @@
-//! What a token is to a grammar.
+//! The terminal symbols of the grammars.
 ghost use Rattle.std.specs.Prelude.{◌≡◌};
 ghost use Rattle.ll_grammars.specs.Terminals.{among, code};
 

@@ -1,8 +1,8 @@
 //! Reserves the buffers of two small plans, an order and a join tree, while tools/memory-bytes counts the requests for memory.
 //!
-//! With the word `take-order` the program reserves for the order, and with `take-trees` for the tree. With `tell-plans`, a word of the same
-//! length, it reserves for neither. So what one of the first two runs requests beyond the third is the reservation. Each run prints how
-//! many bytes each plan takes by its formula.
+//! With the word `take-order` the program reserves for the order, and with `take-trees` for the tree. With `tell-plans`, a word of the same length,
+//! it reserves for neither plan. So what one of the first two runs requests beyond the third is the reservation. Each run prints how many bytes each
+//! plan takes by its formula.
 #![tactic(auto)]
 
 ghost use Rattle.std.specs.Prelude.{IfOk, length};

@@ -1,9 +1,9 @@
 //! Runs over devices in memory, while tools/memory refuses their requests for memory one after another.
 //!
-//! An argument names a run; without an argument each is run. A run that ends with the expected bytes prints `done`, and its
-//! status is 0. Where the call answers that memory ran out, in one line and without a row, the status is 11. Where memory
-//! ran out for the files and devices that the run is given, it is 12. In both cases nothing is printed. For any other
-//! answer the run prints `another answer` with the status 0, which tools/memory takes for a failure.
+//! An argument names a run; without an argument all runs are made. A run that ends with the expected bytes prints `done`, and its status is 0. If the
+//! call answers that memory ran out, in one line and without a row, the status is 11. If memory ran out for the files and devices that the run is
+//! given, it is 12. In both cases nothing is printed. For any other answer the run prints `another answer` with the status 0, which tools/memory
+//! takes for a failure.
 #![tactic(auto)]
 
 mod runs;
@@ -55,7 +55,7 @@ fn sink(alloc: Global) -> Result<MemSink, NoMemory> {
     MemSink::new(alloc, 50_000, Seq::new(alloc))
 }
 
-// The call alone, so that all that it promises stands in one short function.
+// Only makes the call, so that its long contract counts in one short function alone.
 fn code_of(
     alloc: Global,
     words: &[&str],

@@ -1,4 +1,4 @@
--- The least cost stands in the first table, and the best order is read off the second.
+-- The first table has the least cost, and the best order is read off the second table.
 use Rattle.std.proofs.Common.{◌≡◌, ℕ, ◌-◌, ◌^◌, ◌<◌, ◌≤◌, List, length, get_or, sym, ◌∙◌, subst, arith, inl, inr}
 use Rattle.std.proofs.lemmas.Nat.{pow_pos}
 use Rattle.std.proofs.lemmas.Bool.{cases_lt}
@@ -10,7 +10,6 @@ use Rattle.order_search.proofs.WholeWays.{order_from_way, way_from_order}
 use Rattle.order_search.proofs.Prefixes.{total-small}
 use Rattle.order_search.proofs.Weights.{weighs_cost, weighs_most, weighs_total}
 
--- the set of all entries has the last number of the table
 last_place : (bounds : List ℕ) (n : ℕ) → length bounds ≡ 2 ^ n → length bounds - 1 ≡ 2 ^ n - 1
 last_place bounds n size = omega arith
 
@@ -35,7 +34,7 @@ least_cost_from bounds table n least size is_table is =
 abbrev sum_weight : ℕ → List ℕ → ℕ → List ℕ → ℕ
 sum_weight least bounds n order = weight_of (weight.SumWithin least) bounds (2 ^ n - 1) (2 ^ n - 1) order
 
--- such an order weighs its sum, which isn't the heaviest
+-- the sum of the order's bounds is below 2 ^ 63, so it isn't the greatest weight
 weighs_sum : (bounds : List ℕ) (n least : ℕ) (order : List ℕ) → n ≤ 12 → least ≤ 2 ^ 59 → IsOrder n order → cost bounds order ≤ least
     → (sum_weight least bounds n order ≡ total bounds order) × (total bounds order < 2 ^ 63)
 weighs_sum bounds n least order few small is_order low =

@@ -1,11 +1,10 @@
--- How many entries a set has.
+-- These lemmas count the entries of a set.
 use Rattle.std.proofs.Common.{◌≡◌, ℕ, zero, suc, ◌+◌, ◌-◌, ◌^◌, ◌<◌, ◌≤◌, refl, ap, sym, ◌∙◌, arith, inl, inr}
 use Rattle.std.specs.Int.{bit_at}
 use Rattle.std.proofs.lemmas.Nat.Bits.{bit_at-zero, bit_at_ones, same_from_bits_below, bit_at-lt}
 use Rattle.std.proofs.lemmas.Bool.{cases_eq}
 use Rattle.entry_sets.proofs.Bits.{bit_without_other, bit_without_same}
 
--- of the entries below n
 abbrev pub size_below : ℕ → ℕ → ℕ
 size_below zero set = 0
 size_below (suc n) set = bit_at set n + size_below n set

@@ -1,4 +1,4 @@
--- The levels of an order, told entry by entry.
+-- These lemmas are about the loop that lists the levels of an order, entry by entry.
 use Rattle.std.proofs.Common.{◌≡◌, ℕ, zero, suc, ◌+◌, ◌-◌, ◌/◌, ◌%◌, ◌^◌, ◌<◌, ◌≤◌, List, [], ◌∷◌, ◌++◌, length, get_or, drop, ap, sym, ◌∙◌, subst, arith}
 use Rattle.std.specs.Int.{bit_at}
 use Rattle.std.proofs.lemmas.Nat.{pow_pos}
@@ -11,7 +11,7 @@ use Rattle.entry_sets.proofs.Bits.{entry_below, power_within, twice}
 use Rattle.order_search.proofs.Prefixes.{levels_after, levels_are}
 use Rattle.order_search.proofs.WholeWays.{way_from_order}
 
--- the first i entries are placed and their levels told; the others are a way through what is left
+-- This is the state of the loop after i entries. The other entries are a way through the set of entries that are left.
 pub record Told (bounds : List ℕ) (n : ℕ) (order : List ℕ) (i placed : ℕ) (told : List ℕ) : Type 0 where
   pub within : placed ≤ 2 ^ n - 1
   pub is_way : IsWay (2 ^ n - 1 - placed) (drop i order)
@@ -41,7 +41,6 @@ next_together : (bounds : List ℕ) (n : ℕ) (order : List ℕ) (i placed : ℕ
 next_together bounds n order i placed told so_far more =
     subst (λ (s : List ℕ). told ++ levels_after bounds placed s ≡ levels bounds order) (drop_more order i 0 more) so_far.together
 
--- what is left has none of the bits of what is placed
 placed_no_bit : (entry n placed : ℕ) → placed < 2 ^ n → bit_at (2 ^ n - 1 - placed) entry ≡ 1 → bit_at placed entry ≡ 0
 placed_no_bit entry zero placed fits left = let none : placed ≡ 0 = omega arith in rw none (bit_at-zero entry)
 placed_no_bit zero (suc n) placed fits left =

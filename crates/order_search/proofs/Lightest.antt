@@ -1,4 +1,5 @@
--- The least weight of a way through a set, from those through smaller sets.
+-- The least weight of a way through a set is computed from the least weights of ways through smaller sets. A way is an order of the entries that are
+-- still to be joined.
 use Rattle.std.proofs.Common.{◌≡◌, ℕ, ◌+◌, ◌-◌, ◌^◌, ◌<◌, ◌≤◌, min, List, [], ◌∷◌, get_or, refl, ap, sym, ◌∙◌, subst, arith, inl, inr}
 use Rattle.std.specs.Prelude.{◌⊎◌}
 use Rattle.std.specs.Int.{bit_at}
@@ -22,7 +23,7 @@ joined-mono (weight.SumWithin most) bound a b h = elim (cases_lt most bound) [
   | inr within ↦ omega (arith, joined-within most bound a within, joined-within most bound b within)
 ]
 
--- the entries below end were tried
+-- this is the state of the loop over the first entries of ways: the entries below `end` were tried
 pub record Tried (w : Weight) (bounds table : List ℕ) (all left end least : ℕ) : Type 0 where
   pub below : (entry : ℕ) → entry < end → bit_at left entry ≡ 1 → (least ≤ weight_through w bounds table all left entry) × (weight_through w bounds table all left entry < 2 ^ 128)
   pub found : (least ≡ 2 ^ 128 - 1) ⊎ ((entry : ℕ) × (bit_at left entry ≡ 1) × (weight_through w bounds table all left entry ≡ least))
@@ -52,7 +53,7 @@ tried_more w bounds table all left end least through tried has is fits = record 
   ];
 }
 
--- the entry, and behind it a lightest way through the others
+-- the way begins with the entry and goes on with a lightest way through the other entries
 pub record Through (w : Weight) (bounds table : List ℕ) (all left entry : ℕ) : Type 0 where
   pub way : List ℕ
   pub is_way : IsWay left way
@@ -66,7 +67,6 @@ way_through w bounds table all left entry has behind = record {
   weighs = ap (combined w (bound_with bounds all left entry)) behind.weighs;
 }
 
--- no way that the entry begins is lighter than through the table
 pub through_is_least : (w : Weight) (bounds table : List ℕ) (all left end entry : ℕ) (entries : List ℕ) → left ≤ end → IsTable w bounds all table end → IsWay left (entry ∷ entries)
     → weight_through w bounds table all left entry ≤ weight_of w bounds all left (entry ∷ entries)
 through_is_least w bounds table all left end entry entries h is_table way =

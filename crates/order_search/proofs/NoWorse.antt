@@ -1,11 +1,11 @@
--- One order is no worse than another: by cost, then by sum, then by place.
+-- One order is no worse than another if it has a lower cost. If the costs are equal, the sums decide, and if the sums are equal, the lexicographic
+-- order decides.
 use Rattle.std.proofs.Common.{◌≡◌, ℕ, ◌<◌, ◌≤◌, List, [], ◌∷◌, refl, sym, ◌∙◌, arith, inl, inr}
 use Rattle.std.specs.Prelude.{◌⊎◌}
 use Rattle.std.proofs.lemmas.Bool.{cases_order}
 use Rattle.order_search.specs.Orders.{IsBest, IsLeastCost, IsNotAfter, cost, total}
 use Rattle.plans.specs.LeftDeep.{IsOrder}
 
--- by a number, and by another relation where the numbers are equal
 abbrev pub First : (List ℕ → ℕ) → (List ℕ → List ℕ → Type 0) → List ℕ → List ℕ → Type 0
 First f Then a b = (f a < f b) ⊎ ((f a ≡ f b) × Then a b)
 
@@ -89,7 +89,6 @@ then_sum bounds a b p equal = elim p [
   | inr same ↦ same.1
 ]
 
--- an order that is no worse than any is the best
 pub best_of : (bounds : List ℕ) (n : ℕ) (best : List ℕ) → IsOrder n best → ((other : List ℕ) → IsOrder n other → NoWorse bounds best other) → IsBest bounds n best
 best_of bounds n best is_order no_worse = record {
   is_order = is_order;
@@ -104,7 +103,6 @@ best_of bounds n best is_order no_worse = record {
   ];
 }
 
--- its cost is the least
 pub least_of_best : (bounds : List ℕ) (n : ℕ) (best : List ℕ) → IsBest bounds n best → IsLeastCost bounds n (cost bounds best)
 least_of_best bounds n best is_best = record {
   order = best;

@@ -1,4 +1,4 @@
--- The bounds of an order's prefixes, one entry at a time.
+-- The bounds of an order's prefixes are computed one entry at a time.
 use Rattle.std.proofs.Common.{◌≡◌, ℕ, ◌+◌, ◌*◌, ◌^◌, ◌<◌, ◌≤◌, suc, List, [], ◌∷◌, length, map, get_or, refl, ap, ◌∙◌, sum, arith}
 use Rattle.std.proofs.lemmas.List.Sums.{sum_by-cons}
 use Rattle.order_search.specs.Orders.{cost, greatest, levels, prefixes, total}
@@ -6,7 +6,6 @@ use Rattle.entry_sets.specs.Sets.{set_of}
 use Rattle.plans.specs.declared.left_deep.Plan.{Plan}
 use Rattle.plans.specs.LeftDeep.{IsOrder, IsPlan}
 
--- the bounds of the sets that are placed, from a set on, as the entries come
 abbrev pub levels_after : List ℕ → ℕ → List ℕ → List ℕ
 levels_after bounds placed [] = []
 levels_after bounds placed (entry ∷ entries) = get_or bounds (placed + 2 ^ entry) 0 ∷ levels_after bounds (placed + 2 ^ entry) entries
@@ -53,13 +52,11 @@ sum-at_most most (x ∷ xs) h = omega (arith, sum-cons x xs, sum-at_most most xs
     product : suc (length xs) * most ≡ most + length xs * most
     product = omega arith
 
--- twelve levels within the greatest budget
 pub total-small : (bounds : List ℕ) (n : ℕ) (order : List ℕ) → n ≤ 12 → IsOrder n order → cost bounds order ≤ 2 ^ 59 → total bounds order < 2 ^ 63
 total-small bounds n order few is_order h =
     let size : length (levels_after bounds 0 order) ≡ n = length-levels_after bounds 0 order ∙ is_order.all in
     omega (arith, size, total_is bounds order, sum-at_most (2 ^ 59) (levels_after bounds 0 order) (omega (arith, cost_is bounds order)))
 
--- an order with its levels and a scan for each entry is a plan
 pub plan_from : (bounds scans : List ℕ) (plan : Plan) → IsOrder (length scans) plan.order → plan.levels ≡ levels bounds plan.order → plan.scans ≡ scans → IsPlan (length scans) plan
 plan_from bounds scans plan is_order has_levels has_scans = record {
   order = is_order;

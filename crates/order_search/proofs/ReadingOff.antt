@@ -1,4 +1,4 @@
--- The first of the lightest ways, entry by entry.
+-- The first of the lightest ways is read off the table entry by entry.
 use Rattle.std.proofs.Common.{◌≡◌, ℕ, ◌+◌, ◌-◌, ◌^◌, ◌<◌, ◌≤◌, List, [], ◌∷◌, ◌++◌, get_or, ap, sym, ◌∙◌, subst, arith, inl, inr}
 use Rattle.std.proofs.lemmas.Bool.{cases_lt, cases_eq, cases_order}
 use Rattle.std.proofs.lemmas.List.{append_assoc, append-nil}
@@ -9,7 +9,6 @@ use Rattle.order_search.specs.Ways.{IsWay, IsLeastWeight, IsTable, IsFirstLighte
 use Rattle.entry_sets.proofs.Bits.{entry_below, less_without}
 use Rattle.order_search.proofs.Lightest.{Through, joined-beyond, joined-within, through_is_least, way_through}
 
--- each lightest way begins with such an entry
 begins : (w : Weight) (bounds table : List ℕ) (all left end entry : ℕ) (entries : List ℕ) → left < end → IsTable w bounds all table end → IsWay left (entry ∷ entries)
     → weight_of w bounds all left (entry ∷ entries) ≡ get_or table left 0 → BeginsLightest w bounds table all left entry
 begins w bounds table all left end entry entries h is_table way is =
@@ -26,14 +25,13 @@ some_begins w bounds table all left end some h is_table = first (is_table left h
     first [] way is = absurd (omega arith)
     first (entry ∷ entries) way is = (entry, begins w bounds table all left end entry entries h is_table way is)
 
--- ---- the loop that looks for the first such entry
+-- ---- the loop that looks for the first entry that begins a lightest way
 
 pub looked_none : (w : Weight) (bounds table : List ℕ) (n all left end : ℕ) → 0 < left → left < end → left < 2 ^ n → IsTable w bounds all table end → 0 < n
 looked_none w bounds table n all left end some h fits is_table =
     let one : (entry : ℕ) × BeginsLightest w bounds table all left entry = some_begins w bounds table all left end some h is_table in
     omega (arith, entry_below n left one.0 fits one.1.is_left)
 
--- none of the entries below the place begins a lightest way, and one is at it or behind it
 pub record Looked (w : Weight) (bounds table : List ℕ) (n all left place : ℕ) : Type 0 where
   pub within : place < n
   pub none : (earlier : ℕ) → earlier < place → BeginsLightest w bounds table all left earlier → ⊥
@@ -59,7 +57,7 @@ looked_more w bounds table n all left end place some h fits is_table looked not 
           | inr behind ↦ omega (arith, entry_below n left one.0 fits one.1.is_left)
         ]
 
--- ---- an entry, and then the first lightest way behind it
+-- ---- an entry, and then the first lightest way through the other entries
 
 first_none : (w : Weight) (bounds : List ℕ) (all left : ℕ) → left ≡ 0 → IsFirstLightest w bounds all left []
 first_none w bounds all left none = record {
@@ -68,7 +66,7 @@ first_none w bounds all left none = record {
   none_earlier = λ other way same. tt;
 }
 
--- a sum that isn't the heaviest tells what is behind its first bound
+-- A sum that is too great becomes the greatest weight. So both sums have to be below it.
 behind_is : (most bound a b : ℕ) → combined (weight.SumWithin most) bound a ≡ combined (weight.SumWithin most) bound b → combined (weight.SumWithin most) bound a < 2 ^ 128 - 1 → a ≡ b
 behind_is most bound a b same light = elim (cases_lt most bound) [
   | inl beyond ↦ absurd (omega (arith, joined-beyond most bound a beyond))
@@ -118,9 +116,8 @@ first_more most bounds table all left end entry entries h is_table light is firs
             behind_is most (bound_with bounds all left entry) (weight_of (weight.SumWithin most) bounds all (left - 2 ^ entry) ys) (weight_of (weight.SumWithin most) bounds all (left - 2 ^ entry) entries)
             there (omega (arith, there, weighs))
 
--- ---- the loop that reads it off
+-- ---- the loop that reads the first lightest way off the table
 
--- whatever is the first lightest way through those left, behind the entries read it is so through all
 pub record ReadOff (most : ℕ) (bounds table : List ℕ) (all left : ℕ) (front : List ℕ) : Type 0 where
   pub within : left ≤ all
   pub light : get_or table left 0 < 2 ^ 128 - 1

@@ -1,4 +1,4 @@
--- Of the orders of any number of entries one is best.
+-- For any number of entries some order is best.
 use Rattle.std.proofs.Common.{◌≡◌, ℕ, zero, suc, ◌+◌, ◌-◌, ◌^◌, ◌<◌, List, [], ◌∷◌, ◌++◌, ap, sym, ◌∙◌, subst, arith, inl, inr}
 use Rattle.std.specs.Prelude.{◌⊎◌}
 use Rattle.std.specs.Int.{bit_at}
@@ -12,14 +12,13 @@ use Rattle.entry_sets.proofs.Bits.{entry_below, less_without}
 use Rattle.order_search.proofs.NoWorse.{NoWorse, best_of, both, either, itself}
 use Rattle.order_search.proofs.WholeWays.{order_from_way, way_from_order}
 
--- ---- the best way to go on behind a front
+-- ---- the best way to go on after a front
 
 record Best (bounds front : List ℕ) (left : ℕ) : Type 0 where
   way : List ℕ
   is_way : IsWay left way
   none_better : (other : List ℕ) → IsWay left other → NoWorse bounds (front ++ way) (front ++ other)
 
--- of the ways that entries below end begin
 record BestBelow (bounds front : List ℕ) (left end : ℕ) : Type 0 where
   way : List ℕ
   is_way : IsWay left way
@@ -28,7 +27,6 @@ record BestBelow (bounds front : List ℕ) (left end : ℕ) : Type 0 where
 abbrev NoneBelow : ℕ → ℕ → Type 0
 NoneBelow left end = (entry : ℕ) → entry < end → bit_at left entry ≡ 1 → ⊥
 
--- an entry, and the best way behind it
 through : (bounds front : List ℕ) (left entry : ℕ) → bit_at left entry ≡ 1 → Best bounds (front ++ entry ∷ []) (left - 2 ^ entry)
     → (way : List ℕ) × IsWay left way × ((entries : List ℕ) → IsWay left (entry ∷ entries) → NoWorse bounds (front ++ way) (front ++ (entry ∷ entries)))
 through bounds front left entry has best = (
@@ -114,7 +112,6 @@ best_below bounds front left (suc end) behind = elim (cases_eq (bit_at left end)
       none_better = λ entry entries h way. more.none_better entry entries (omega arith) way;
     }
 
--- every way has a first entry below n
 from_all : (bounds : List ℕ) (n left : ℕ) (front : List ℕ) → left < 2 ^ n → 0 < size_below n left → NoneBelow left n ⊎ BestBelow bounds front left n → Best bounds front left
 from_all bounds n left front fits some so_far = elim so_far [
   | inl none ↦ (let any : (entry : ℕ) × (bit_at left entry ≡ 1) = some_entry n left some in absurd (none any.0 (entry_below n left any.0 fits any.1) any.1))

@@ -1,4 +1,4 @@
--- A test of every order, which computes: how small examples of a best order are shown.
+-- A test goes through all orders, and the prover can compute it. It proves small examples of a best order.
 use Rattle.std.proofs.Common.{◌≡◌, ℕ, zero, suc, ◌-◌, ◌^◌, ◌<◌, Bool, true, false, eqb, leb, cond, List, [], ◌∷◌, ◌++◌, refl, ap, sym, ◌∙◌, subst, eq-eqb, arith, inl, inr}
 use Rattle.std.specs.Prelude.{◌⊎◌}
 use Rattle.std.specs.Int.{bit_at}
@@ -49,9 +49,8 @@ at_way (suc size) n test left front (entry ∷ entries) fits some h is_way =
     at_way size n test (left - 2 ^ entry) (front ++ entry ∷ []) entries (omega arith) (omega (arith, size-without n entry left below is_way.0)) behind is_way.1 in
     subst (λ (s : List ℕ). test s ≡ true) (append_assoc front (entry ∷ []) entries) whole
 
--- ---- no worse
+-- ---- a test that one order is no worse than another
 
--- by numbers, and by another test where they are equal
 abbrev pub first_test : ℕ → ℕ → Bool → Bool
 first_test m n behind = cond (leb n m) (cond (leb m n) behind false) true
 

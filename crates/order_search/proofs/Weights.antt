@@ -1,4 +1,4 @@
--- The weight of a way is the cost, or the sum, of the order.
+-- The weight of a way through all entries is the cost of the order, or the sum of its bounds.
 use Rattle.std.proofs.Common.{◌≡◌, ℕ, ◌+◌, ◌-◌, ◌^◌, ◌<◌, ◌≤◌, min, List, [], ◌∷◌, get_or, refl, ap, sym, ◌∙◌, sum, arith, inl, inr}
 use Rattle.std.proofs.lemmas.Bool.{cases_lt}
 use Rattle.order_search.specs.declared.weight.Weight.TheVariants as weight

@@ -11,6 +11,6 @@ IsCauseOf IsLeast budget (error.Budget least) = IsLeast least × (budget < least
 IsCauseOf IsLeast budget error.PastBits = (least : ℕ) × IsLeast least × (2 ^ 128 - 2 < least)
 IsCauseOf IsLeast budget error.NoMemory = ⊤
 
--- why no order of n entries over these bounds is given
+-- why the search for an order of n entries over these bounds gives no order
 abbrev pub IsCause : List ℕ → ℕ → ℕ → PlanError → Type 0
 IsCause bounds n budget e = IsCauseOf (IsLeastCost bounds n) budget e

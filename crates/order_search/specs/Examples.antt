@@ -11,10 +11,10 @@ equal_bounds = 3 ∷ 3 ∷ 3 ∷ 3 ∷ 3 ∷ 3 ∷ 3 ∷ 3 ∷ []
 abbrev pub dearer_prefix : List ℕ
 dearer_prefix = 1 ∷ 5 ∷ 9 ∷ 5 ∷ 1 ∷ 9 ∷ 6 ∷ 3 ∷ 9 ∷ 9 ∷ 9 ∷ 9 ∷ 9 ∷ 9 ∷ 9 ∷ 10 ∷ []
 
--- the bound of every set of two or more entries is past the bits
+-- the bound of every set of two or more entries is 2 ^ 128 - 1, past 128 bits
 abbrev pub past_bits : List ℕ
 past_bits = 1 ∷ 2 ∷ 2 ∷ (2 ^ 128 - 1) ∷ 2 ∷ (2 ^ 128 - 1) ∷ (2 ^ 128 - 1) ∷ (2 ^ 128 - 1) ∷ []
 
--- only the bound of the set of 0 and 1 is past the bits
+-- only the bound of the set of 0 and 1 is 2 ^ 128 - 1, past 128 bits
 abbrev pub one_pair_past_bits : List ℕ
 one_pair_past_bits = 1 ∷ 2 ∷ 2 ∷ (2 ^ 128 - 1) ∷ 2 ∷ 5 ∷ 5 ∷ 6 ∷ []

@@ -5,7 +5,7 @@ use Rattle.std.specs.List.{sum}
 use Rattle.entry_sets.specs.Sets.{set_of}
 use Rattle.plans.specs.LeftDeep.{IsOrder}
 
--- the first entry, the first two, and so on up to all
+-- the prefixes of an order: its first entry, its first two entries, and so on up to all
 abbrev pub prefixes : List ℕ → List (List ℕ)
 prefixes [] = []
 prefixes (entry ∷ entries) = (entry ∷ []) ∷ map (λ prefix. entry ∷ prefix) (prefixes entries)
@@ -22,7 +22,7 @@ greatest (x ∷ xs) = max x (greatest xs)
 abbrev pub cost : List ℕ → List ℕ → ℕ
 cost bounds order = greatest (levels bounds order)
 
--- the sum of the bounds of its levels
+-- the total of an order: the sum of the bounds of its levels
 abbrev pub total : List ℕ → List ℕ → ℕ
 total bounds order = sum (levels bounds order)
 

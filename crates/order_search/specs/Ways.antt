@@ -1,4 +1,4 @@
--- The ways in which an order goes on with the entries that are left, and the weight of each way. No public contract speaks of them.
+-- A way is an order of the entries that are still to be joined: the set `left`. This file says which weight a way has. No public contract speaks of ways.
 use Rattle.std.specs.Prelude.{◌≡◌, ℕ, ◌+◌, ◌-◌, ◌^◌, ◌<◌, ◌≤◌, max, min, List, [], ◌∷◌, slice_index, nat_le, if◌then◌else◌}
 use Rattle.std.specs.Int.{bit_at}
 use Rattle.limits.specs.Profile.{top_bound}
@@ -6,21 +6,21 @@ use Rattle.order_search.specs.Orders.{IsNotAfter}
 use Rattle.order_search.specs.declared.weight.Weight.{Weight}
 use Rattle.order_search.specs.declared.weight.Weight.TheVariants as weight
 
--- the way has each entry of the set once, and no others
+-- the way has each entry of the set once, and no other entry
 abbrev pub IsWay : ℕ → List ℕ → Type 0
 IsWay left [] = left ≡ 0
 IsWay left (entry ∷ entries) = (bit_at left entry ≡ 1) × IsWay (left - 2 ^ entry) entries
 
--- the weight of a bound together with the rest of the way. In a sum, a bound above `most` makes it `top_bound`, the greatest weight
+-- a bound combined with the weight of the rest of the way. In a sum, a bound above `most` makes the weight `top_bound`, the greatest weight
 abbrev pub combined : Weight → ℕ → ℕ → ℕ
 combined weight.Greatest bound behind = max bound behind
 combined (weight.SumWithin most) bound behind = if nat_le bound most then (min (bound + behind) top_bound) else top_bound
 
--- the bound of the set that is placed after the entry comes next: all entries but those that are left then
+-- the bound of the set of joined entries after the entry is joined next. These are all entries but those that are then left
 abbrev pub bound_with : List ℕ → ℕ → ℕ → ℕ → ℕ
 bound_with bounds all left entry = slice_index bounds (all - (left - 2 ^ entry))
 
--- the weight of a way: the bounds of the sets on it, combined
+-- the weight of a way: the bounds along the way, combined
 abbrev pub weight_of : Weight → List ℕ → ℕ → ℕ → List ℕ → ℕ
 weight_of w bounds all left [] = 0
 weight_of w bounds all left (entry ∷ entries) = combined w (bound_with bounds all left entry)
@@ -37,7 +37,7 @@ pub record IsLeastWeight (w : Weight) (bounds : List ℕ) (all left least : ℕ)
 abbrev pub IsTable : Weight → List ℕ → ℕ → List ℕ → ℕ → Type 0
 IsTable w bounds all table end = (left : ℕ) → left < end → IsLeastWeight w bounds all left (slice_index table left)
 
--- the weight of the lightest way on which the entry comes next, by the table
+-- the weight of the lightest way that begins with the entry, by the table
 abbrev pub weight_through : Weight → List ℕ → List ℕ → ℕ → ℕ → ℕ → ℕ
 weight_through w bounds table all left entry = combined w (bound_with bounds all left entry) (slice_index table (left - 2 ^ entry))
 

@@ -15,14 +15,13 @@ pub fn sets_have_their_bits()
     ensures { (entries : List ℕ) (entry : ℕ) → IsDistinct ◌==◌ entries → (bit_at (set_of entries) entry ≡ 1) ↔ Contains entries entry }
 {}
 
-/// Of any number of entries, over any bounds, exactly one order is best.
+/// For any number of entries, and any bounds, exactly one order is best.
 pub fn one_best_order()
     ensures some { (bounds : List ℕ) (n : ℕ) → (best : List ℕ) × IsBest bounds n best }
     ensures one { (bounds : List ℕ) (n : ℕ) (a b : List ℕ) → IsBest bounds n a → IsBest bounds n b → a ≡ b }
 {}
 
-/// Where the best order costs no more than the budget, no refusal but `NoMemory` has a cause. In any case at most one refusal other than
-/// `NoMemory` has a cause.
+/// If the best order costs at most the budget, no refusal other than `NoMemory` has a cause. In any case at most one refusal other than `NoMemory` has a cause.
 pub fn one_answer()
     ensures accepted { (bounds : List ℕ) (n budget : ℕ) (best : List ℕ) (e : PlanError) → budget ≤ greatest_budget
         → IsBest bounds n best → cost bounds best ≤ budget → IsCause bounds n budget e → e ≡ error.NoMemory }

@@ -10,7 +10,7 @@ use std::alloc::AllocError;
 pub enum PlanError {
     /// The least cost of a plan, in rows, is above the budget and at most 2^128 - 2.
     Budget { least: u128 },
-    /// The least cost is above 2^128 - 2. A bound of 2^128 - 1 means that many rows or more.
+    /// The least cost is above 2^128 - 2. A bound of 2^128 - 1 means 2^128 - 1 rows or more.
     PastBits,
     /// Memory ran out.
     NoMemory,

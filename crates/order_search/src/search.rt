@@ -19,12 +19,12 @@ use std::alloc::Global;
 /// first k entries, k from 1 to n. The best order has the least cost. Among the orders of this cost it has the least sum of these bounds,
 /// and among those of this sum it comes first in lexicographic order.
 ///
-/// All bounds and the budget are in rows. A bound of 2^128 - 1 means that many rows or more. The search fills two tables of 2^n numbers,
-/// one after the other, in n 2^n steps each. For each set of entries that are left, the first table has the least cost of going on with
-/// them. The second has the least sum of going on without a bound above the least cost of an order. Tables over sets for left-deep orders
-/// are from *Access Path Selection in a Relational Database Management System* (Selinger and others, SIGMOD 1979).
+/// All bounds and the budget are in rows. A bound of 2^128 - 1 means 2^128 - 1 rows or more. The search fills two tables of 2^n numbers, one after
+/// the other, in n 2^n steps each. For each set of entries that are still to be joined, the first table has the least cost of going on with them. The
+/// second has the least sum of going on without a bound above the least cost of an order. Tables over sets for left-deep orders are from *Access Path
+/// Selection in a Relational Database Management System* (Selinger and others, SIGMOD 1979).
 ///
-/// It answers `Budget` and `PastBits` exactly where `IsCause` says, and `NoMemory` if there is too little memory.
+/// It answers `Budget` and `PastBits` exactly if `IsCause` says so, and `NoMemory` if there is too little memory.
 pub fn choose(
     alloc: Global,
     bounds: &Seq<u128>,
@@ -71,7 +71,7 @@ fn least_cost(alloc: Global, count: u8, bounds: &[u128]) -> Result<u128, NoMemor
     Ok(costs[bounds.len() - 1])
 }
 
-// The first order of least sum among those of the least cost.
+// The best order: among the orders of least cost, the first of least sum. `least` is the least cost.
 fn best_order(alloc: Global, count: u8, bounds: &[u128], least: u128) -> Result<Vec<u8>, NoMemory>
     requires count { count ≤ most_entries }
     requires bounds { length bounds.now ≡ 2 ^ count }
@@ -84,7 +84,7 @@ fn best_order(alloc: Global, count: u8, bounds: &[u128], least: u128) -> Result<
     first_lightest(alloc, least, count, bounds, sums.as_slice())
 }
 
-// The bounds of the order's first entry, its first two, and so on.
+// The bounds of the order's levels: of its first entry, of its first two entries, and so on.
 #[tactic(auto, using(crate::proofs::LevelsTold::next_within, crate::proofs::LevelsTold::next_bound, crate::proofs::LevelsTold::next_entry))]
 fn levels_along(
     alloc: Global,

@@ -1,4 +1,5 @@
-//! The least weight for each set of entries that are still to be joined. Subsets have smaller numbers, so they are filled in first.
+//! A table of the least weight for each set of entries that are still to be joined (weight.rt says what a weight is). A subset has a smaller number
+//! than the set, so it is filled in earlier.
 ghost use Rattle.std.specs.Prelude.{◌≡◌, ◌-◌, ◌^◌, ◌<◌, ◌≤◌, length, IfOk};
 ghost use Rattle.std.specs.Int.{bit_at};
 ghost use Rattle.limits.specs.Profile.{most_entries};
@@ -9,7 +10,7 @@ use base_io::NoMemory;
 use entry_sets::EntrySet;
 use std::alloc::Global;
 
-// The weight of the lightest way on which this entry comes next.
+// The weight of the lightest way through the set `left` that begins with this entry.
 #[tactic(auto, using(entry_sets::proofs::Bits::less_without))]
 pub(crate) fn weight_through(
     weight: Weight,
@@ -28,7 +29,7 @@ pub(crate) fn weight_through(
     weight.joined(bounds[bounds.len() - 1 - behind], table[behind])
 }
 
-// The least weight of a way through the set, by the table of the sets with smaller numbers.
+// The least weight of a way through the set `left`, by the table of the sets with smaller numbers.
 fn least_weight(weight: Weight, count: u8, bounds: &[u128], table: &[u128], left: EntrySet) -> u128
     requires count { count ≤ most_entries }
     requires bounds { length bounds.now ≡ 2 ^ count }
@@ -49,7 +50,7 @@ fn least_weight(weight: Weight, count: u8, bounds: &[u128], table: &[u128], left
     least
 }
 
-// The table over all sets.
+// The table of the least weights for all sets.
 pub(crate) fn least_weights(
     alloc: Global,
     weight: Weight,

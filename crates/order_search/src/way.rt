@@ -1,4 +1,4 @@
-//! Reads the first of the lightest ways off the table, from its first entry on.
+//! Reads the first of the lightest ways off the table, entry by entry. A way is an order of the entries that are still to be joined.
 ghost use Rattle.std.specs.Prelude.{◌≡◌, ◌-◌, ◌^◌, ◌<◌, ◌≤◌, ◌↔◌, ℕ, length, slice_index, IfOk, IsTrue};
 ghost use Rattle.limits.specs.Profile.{most_entries, top_bound};
 ghost use Rattle.order_search.specs.Ways.{BeginsLightest, IsFirstLightest, IsTable};
@@ -25,7 +25,7 @@ fn begins_lightest(
         && weight_through(weight, bounds, table, left, entry) == table[left.bits() as usize]
 }
 
-// The first entry that begins a lightest way through the set.
+// The first entry that begins a lightest way through the set `left`.
 fn next_entry(weight: Weight, count: u8, bounds: &[u128], table: &[u128], left: EntrySet) -> u8
     requires count { count ≤ most_entries }
     requires bounds { length bounds.now ≡ 2 ^ count }
@@ -44,7 +44,7 @@ fn next_entry(weight: Weight, count: u8, bounds: &[u128], table: &[u128], left: 
     entry
 }
 
-// The first of the lightest ways through all entries, if they are lighter than the greatest weight.
+// The first of the lightest ways through all entries. The weight of the lightest ways has to be below TOP_BOUND.
 pub(crate) fn first_lightest(
     alloc: Global,
     most: u128,

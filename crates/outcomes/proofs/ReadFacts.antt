@@ -1,4 +1,4 @@
--- Steps that read, one after the other.
+-- If two steps read files one after the other, both together are one step that reads files.
 use Rattle.std.proofs.Common.{◌≡◌, ℕ, inl, inr, Option, None, Some, Result, Ok, Err, refl, ap, sym, ◌∙◌, subst, arith}
 use Rattle.base_io.specs.Causes.{Rose}
 use Rattle.base_io.specs.Files.{Files}
@@ -17,7 +17,6 @@ OfFiles A = Files → Result A Refusal
 abbrev Places : Type 1
 Places = Files → FileId → Type 0
 
--- two steps as one
 abbrev pub joined : Reading → Reading → Reading
 joined first second = record {
   files = first.files;
@@ -28,20 +27,17 @@ joined first second = record {
   misses_after = second.misses_after;
 }
 
--- the second step begins where the first ended
 pub record Meets (first second : Reading) : Type 0 where
   pub files : first.files_after ≡ second.files
   pub faults : first.faults_after ≡ second.faults_before
   pub misses : first.misses_after ≡ second.misses_before
 
--- a value of the first stage leaves what the second gives
 at_ok : {A B : Type 0} (r : Result A Refusal) (f : A → Result B Refusal) (x : A) → r ≡ Ok x → (r >>= f) ≡ f x
 at_ok r f x e = rw e refl
 
 at_err : {A B : Type 0} (r : Result A Refusal) (f : A → Result B Refusal) (s : Refusal) → r ≡ Err s → (r >>= f) ≡ Err s
 at_err r f s e = rw e refl
 
--- what the first stage misses, both miss
 misses_first : {A B : Type 0} (r : Result A Refusal) (f : A → Result B Refusal) → MissesNothing (r >>= f) → MissesNothing r
 misses_first r f h file e = h file (at_err r f (refusal.Missing file) e)
 
@@ -49,11 +45,9 @@ same_misses : {A : Type 0} (r q : Result A Refusal) → r ≡ q → MissesNothin
 same_misses r q e h = subst MissesNothing e h
 
 module _ {A B : Type 0} (one : OfFiles A) (two : A → OfFiles B) where
-  -- the first stage, and then the second over its value
   abbrev pub both : OfFiles B
   both files = one files >>= (λ x. two x files)
 
-  -- the first step ended, so both did
   pub then_stops : (store : Reading) (C D : Places) (e : Ending) → ((files : Files) (file : FileId) → C files file → D files file)
       → Reads store one C (Err e) → Reads store both D (Err e)
   then_stops store C D e more h = record {
@@ -68,7 +62,6 @@ module _ {A B : Type 0} (one : OfFiles A) (two : A → OfFiles B) where
       ends (ending.Fault file) k = (k.0, λ files told. more files file (k.1 files told))
       ends ending.NoMemory k = tt
 
-  -- both steps
   pub then_reads : (first second : Reading) (C D E : Places) (x : A) (answer : Result B Ending) → Meets first second
       → ((files : Files) (file : FileId) → one files ≡ Ok x → D files file → E files file)
       → Reads first one C (Ok x) → Reads second (two x) D answer → Reads (joined first second) both E answer
@@ -101,7 +94,7 @@ module _ {A B : Type 0} (one : OfFiles A) (two : A → OfFiles B) where
       given (Ok y) w = λ files told. at_ok (one files) (λ z. two z files) x (h.gives files told) ∙ w files (told_again files told)
       given (Err e) w = ends e w
 
--- a step that reads, and then one that reads no file
+-- here the second step reads no file
 module _ {A B : Type 0} (store : Reading) (one : OfFiles A) (next : A → Result B Refusal) (C D : Places) (x : A) where
   abbrev after : OfFiles B
   after files = one files >>= next
@@ -127,7 +120,6 @@ module _ {A B : Type 0} (store : Reading) (one : OfFiles A) (next : A → Result
       ends (ending.Fault file) w = absurd w
       ends ending.NoMemory w = tt
 
--- a step that reads, with another name for its stage
 pub reads_as : {A : Type 0} (store : Reading) (one two : OfFiles A) (C D : Places) (answer : Result A Ending) → ((files : Files) → two files ≡ one files)
     → ((files : Files) (file : FileId) → C files file → D files file) → Reads store one C answer → Reads store two D answer
 reads_as {A} store one two C D answer same more h = record {

@@ -1,4 +1,4 @@
--- Which ending a status tells.
+-- These lemmas say which ending a status comes from.
 use Rattle.std.proofs.Common.{◌≡◌, ◌≢◌}
 use Rattle.outcomes.specs.Statuses.{ended}
 use Rattle.outcomes.specs.declared.ending.Ending.{Ending}
@@ -9,7 +9,6 @@ use Rattle.outcomes.specs.declared.refusal.Refusal.{Refusal}
 use Rattle.outcomes.specs.declared.status.Status.{Status}
 use Rattle.outcomes.specs.declared.status.Status.TheVariants as status
 
--- a refusal is told by its own status alone, and a failed read by its own
 pub ended_refused : (e : Ending) (r : Refusal) → ended e ≡ status.Refused r → e ≡ ending.Refused r
 ended_refused (ending.Refused s) r h = cc
 ended_refused (ending.Fault file) r h = cc
@@ -20,7 +19,6 @@ ended_fault (ending.Refused r) file h = cc
 ended_fault (ending.Fault f) file h = cc
 ended_fault ending.NoMemory file h = cc
 
--- no ending is told as a run that is done, or as a failed write
 pub ended_not_done : (e : Ending) → ended e ≢ status.Done
 ended_not_done (ending.Refused r) h = cc
 ended_not_done (ending.Fault f) h = cc

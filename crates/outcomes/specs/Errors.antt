@@ -48,7 +48,7 @@ table_refusal number (table.Key row earlier) = refusal.Table number (table_cause
 table_refusal number (table.Limit found) = refusal.Limit limit.Rows (file.Table number) found
 table_refusal number table.NoMemory = refusal.Usage
 
--- the refusal of a statistics file, at a line of it
+-- the refusal of a statistics file, at one of its lines
 abbrev pub stats_refusal : StatsError → Refusal
 stats_refusal (stats.Syntax line) = refusal.Stats stats_cause.Syntax line
 stats_refusal (stats.Rule line) = refusal.Stats stats_cause.Rule line

@@ -43,8 +43,8 @@ StopsBy stage ending.NoMemory = ⊤
 abbrev pub AtFile : FileId → Files → FileId → Type 0
 AtFile file files other = other ≡ file
 
--- Why a reading ended. Refused: the stage refuses, but not about the words, nor about an absent file where the store tells no files.
--- Fault: a read of a file that the stage reads has failed, and was counted. NoMemory: memory ran out.
+-- Why a reading ended. Refused: the stage refuses, but not about the words, and not about an absent file if the store tells no files. Fault: a read
+-- of a file that the stage reads has failed, and was counted. NoMemory: memory ran out.
 abbrev pub Ends : {A : Type 0} → Reading → (Files → Result A Refusal) → (Files → FileId → Type 0) → Ending → Type 0
 Ends store stage ComesTo (ending.Refused r) =
     ((files : Files) → store.files ≡ Some files → stage files ≡ Err r) × (store.files ≡ None → IsOfWhatIsThere r) × (r ≢ refusal.Usage)
@@ -52,12 +52,12 @@ Ends store stage ComesTo (ending.Fault file) =
     Rose store.faults_before store.faults_after × ((files : Files) → store.files ≡ Some files → ComesTo files file)
 Ends store stage ComesTo ending.NoMemory = ⊤
 
--- if the store tells its files, a value is the one that the stage gives over them. Where there is no value, `Ends` says why
+-- if the store tells its files, a value is the one that the stage gives over these files. If there is no value, `Ends` says why
 abbrev pub Gives : {A : Type 0} → Reading → (Files → Result A Refusal) → (Files → FileId → Type 0) → Result A Ending → Type 0
 Gives store stage ComesTo (Ok x) = (files : Files) → store.files ≡ Some files → stage files ≡ Ok x
 Gives store stage ComesTo (Err e) = Ends store stage ComesTo e
 
--- All that a reading step promises: a true answer, no fewer faults, the same files, and no new miss where the stage misses no file.
+-- All that a reading step promises: a true answer, no fewer faults, the same files, and no further absent file counted if the stage misses no file.
 pub record Reads {A : Type 0} (store : Reading) (stage : Files → Result A Refusal) (ComesTo : Files → FileId → Type 0)
     (answer : Result A Ending) : Type 0 where
   pub gives : Gives store stage ComesTo answer

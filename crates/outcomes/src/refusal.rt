@@ -1,4 +1,4 @@
-//! Why the words and the files give no run.
+//! Why the words and the files are refused.
 ghost use Rattle.std.specs.Prelude.{◌≡◌};
 ghost use Rattle.outcomes.specs.Statuses.{code_of_refusal};
 
@@ -65,7 +65,7 @@ pub enum Refusal {
         table: u32,
         cause: TableCause,
     },
-    /// The file of statistics is refused. `at` is the line, counted from 1. If something is missing, it is the FROM entry, counted from 0.
+    /// The file of statistics is refused. `at` is the line, counted from 1. If something is missing, `at` is the FROM entry, counted from 0.
     Stats {
         cause: StatsCause,
         at: u32,
@@ -89,7 +89,7 @@ pub enum Refusal {
 }
 
 impl Refusal {
-    /// The exit status of a process. It is the same for an absent file and for a failed read.
+    /// The exit status of a process that ends with this refusal. An absent file has the exit status of a failed read.
     pub(crate) fn code(&self) -> u8
         ensures { result ≡ code_of_refusal self.now }
     {

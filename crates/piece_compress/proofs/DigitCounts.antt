@@ -1,4 +1,4 @@
--- The number of binary digits is the least power of 2 that is above, and what counting leading zeros gives.
+-- The number of binary digits of n is the least exponent for which the power of 2 is above n. Counting leading zeros gives the same number.
 use Rattle.std.proofs.Common.{◌≡◌, ℕ, zero, suc, ◌+◌, ◌*◌, ◌/◌, ◌^◌, ◌<◌, ◌≤◌, refl, ap, ◌∙◌, arith, inl, inr, w64}
 use Rattle.std.proofs.Math.Nat.{pow-suc, pow-zero}
 use Rattle.std.proofs.Math.Pow.{pow_mono}
@@ -14,7 +14,6 @@ below_power (suc room) (suc n) h =
     let q : ℕ = suc n / 2 in
     omega (arith, below_power room q (omega arith), pow-suc 2 (digits_within room q))
 
--- n is below 2 to the number of its digits
 pub digits_hold : (n : ℕ) → n < 2 ^ binary_digits n
 digits_hold n = below_power n n (omega arith)
 
@@ -34,7 +33,6 @@ half_above (suc room) (suc n) h pos =
     none_of zero = refl
     none_of (suc room) = refl
 
--- fewer digits do not hold n
 digits_needed : (n : ℕ) → 2 ^ binary_digits n ≤ 2 * n + 1
 digits_needed zero = omega (arith, pow-zero 2)
 digits_needed (suc n) = omega (arith, half_above (suc n) (suc n) (omega arith) (omega arith))
@@ -45,7 +43,6 @@ fewer n a b above within = elim (cases_lt a b) [
   | inr h ↦ h
 ]
 
--- they are what the leading zeros of 64 bits leave
 pub digits_counted : (n leading : ℕ) → n < 2 ^ 64 → leading ≡ leading_zeros w64 n → binary_digits n + leading ≡ 64
 digits_counted n leading fits same =
     let counted = leading_length 64 n fits in

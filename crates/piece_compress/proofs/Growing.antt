@@ -1,4 +1,5 @@
--- What the walk along a degree list keeps: the answer so far, and what is still to come of it.
+-- The walk along a degree list keeps a state (`Growing`): the result so far, and what is still to be added to it. These lemmas are about its start,
+-- its steps and its end.
 use Rattle.std.proofs.Common.{◌≡◌, ℕ, zero, suc, ◌+◌, ◌-◌, ◌*◌, ◌<◌, ◌≤◌, min, ltb, List, [], ◌∷◌, ◌++◌, length, get_or, drop, replicate, refl, ap, sym, ◌∙◌, sum, arith, inl, inr, length-append, drop-cons}
 use Rattle.std.specs.List.{All}
 use Rattle.std.proofs.lemmas.Bool.{cases_lt, cond_both, lt-ltb}
@@ -12,13 +13,11 @@ use Rattle.degree_sequences.proofs.FewRuns.{stops}
 use Rattle.degree_sequences.proofs.Ranks.{rank_reaches, rank_least}
 use Rattle.degree_sequences.proofs.RunningSums.{running_sum-mono, running_sum-suc, running_sum-past, running_sum-le-sum}
 
--- ---- places and heads
+-- ---- elements at places, and their heads
 
--- a place whose rows are not all rows is an element
 pub is_element : (f : List ℕ) (i m : ℕ) → running_sum f i ≤ m → m < sum f → i < length f
 is_element f i m h j = elim (cases_lt i (length f)) [ inl l ↦ l | inr l ↦ absurd (omega (arith, running_sum-past f i l)) ]
 
--- row m + 1 lies in element i
 pub slope_at : (k : ℕ) (f : List ℕ) (i m : ℕ) → running_sum f i ≤ m → m < running_sum f (suc i) → slope k f m ≡ get_or (heads k f) i 0
 slope_at k f i m before after =
     let r : ℕ = rank f (suc m) in
@@ -28,7 +27,6 @@ slope_at k f i m before after =
     let e : r - 1 ≡ i = omega arith in
     ap (λ n. get_or (heads k f) n 0) e
 
--- a next head lies between the element and the head
 pub next_head-between : (k h x : ℕ) → x ≤ h → (x ≤ next_head k h x) × (next_head k h x ≤ h)
 next_head-between k h x below = cond_both (ltb ((k + 1) * x) (k * h)) x h (λ y. (x ≤ y) × (y ≤ h))
     (λ e. (omega arith, below))
@@ -45,7 +43,6 @@ drop-next [] (suc i) x t h = absurd (cc)
 drop-next (y ∷ s) zero x t h = cc
 drop-next (y ∷ s) (suc i) x t h = drop-next s i x t h
 
--- the heads from a place on go on from the head in force there
 pub heads-step : (k : ℕ) (f : List ℕ) (i head : ℕ) → i < length f → heads_from k head (drop i f) ≡ drop i (heads k f)
     → (next_head k head (get_or f i 0) ≡ get_or (heads k f) i 0) × (heads_from k (next_head k head (get_or f i 0)) (drop (suc i) f) ≡ drop (suc i) (heads k f))
 heads-step k f i head within same =
@@ -56,9 +53,9 @@ heads-step k f i head within same =
       sym (drop-next (heads k f) i (next_head k head x) (heads_from k (next_head k head x) (drop (suc i) f)) (sym now)),
     )
 
--- ---- the answer so far
+-- ---- the result so far
 
--- after i elements: the pieces, the run that goes on, the head in force, the rows passed, and the rows that the answer covers
+-- the state after i elements has the pieces, the run that still grows, the head, the rows that were passed, and the rows that the result covers
 pub record Growing (k : ℕ) (f : List ℕ) (i : ℕ) (pieces : List ℕ) (value count head rows covered : ℕ) : Type 0 where
   pub within : i ≤ length f
   pub rows_are : rows ≡ running_sum f i
@@ -93,7 +90,7 @@ growing_none k f = record {
   short = omega arith;
 }
 
--- an element whose rows are covered
+-- the rows of the next element are covered already, so the result stays
 pub growing_passed : (k : ℕ) (f : List ℕ) (i : ℕ) (pieces : List ℕ) (value count head rows covered head' rows' : ℕ) → IsFalling f → Growing k f i pieces value count head rows covered
     → i < length f → head' ≡ next_head k head (get_or f i 0) → rows' ≡ rows + get_or f i 0 → rows' ≤ covered
     → Growing k f (suc i) pieces value count head' rows' covered
@@ -123,11 +120,11 @@ replicate-suc : (n x : ℕ) → replicate (suc n) x ≡ replicate n x ++ x ∷ [
 replicate-suc zero x = refl
 replicate-suc (suc n) x = ap (λ (s : List ℕ). x ∷ s) (replicate-suc n x)
 
--- a run that is not empty has a last element
 replicate-last : (n x : ℕ) → 0 < n → replicate n x ≡ replicate (n - 1) x ++ x ∷ []
 replicate-last n x some = let e : n ≡ suc (n - 1) = omega arith in ap (λ m. replicate m x) e ∙ replicate-suc (n - 1) x
 
--- an element with a row that is not covered: the run has one element more, and has gone to the pieces before where its value is another
+-- A row of the next element isn't covered, so the run gets one element more. If the value of the run isn't the new head, the run was moved to the
+-- pieces first, and a new run begins.
 pub growing_more : (k : ℕ) (f : List ℕ) (i : ℕ) (pieces : List ℕ) (value count head rows covered : ℕ) (pieces' : List ℕ) (count' head' rows' : ℕ) → IsFalling f
     → Growing k f i pieces value count head rows covered → i < length f → head' ≡ next_head k head (get_or f i 0) → rows' ≡ rows + get_or f i 0 → covered < rows'
     → 0 < count' → pieces' ++ replicate (count' - 1) head' ≡ pieces ++ replicate count value → All (λ x. head' ≤ x) pieces'
@@ -181,7 +178,7 @@ growing_more k f i pieces value count head rows covered pieces' count' head' row
       short = omega arith;
     }
 
--- where the run is empty at the end, there was nothing to compress
+-- if the run is empty at the end, there was nothing to compress
 pub growing_empty : (k : ℕ) (f : List ℕ) (i : ℕ) (pieces : List ℕ) (value count head rows covered : ℕ) → Growing k f i pieces value count head rows covered
     → length f ≤ i → count ≤ 0 → pieces ≡ compressed k f
 growing_empty k f i pieces value count head rows covered g end none =
@@ -189,7 +186,8 @@ growing_empty k f i pieces value count head rows covered g end none =
     let sum_is : sum f ≤ 0 = omega (arith, g.ahead, running_sum-past f i end, nothing.1) in
     nothing.0 ∙ sym (stops k f (length f) 0 sum_is)
 
--- else the last element of the run has the rows past the sum too many
+-- Otherwise the last element of the run is too great by `covered - rows`, which is how far the result's sum exceeds the list's sum. The element is
+-- greater than this excess.
 pub growing_ended : (k : ℕ) (f : List ℕ) (i : ℕ) (pieces : List ℕ) (value count head rows covered : ℕ) → Growing k f i pieces value count head rows covered
     → length f ≤ i → 0 < count → (rows ≡ sum f) × (sum f ≤ covered) × (covered - rows < value)
 growing_ended k f i pieces value count head rows covered g end some =

@@ -1,4 +1,4 @@
--- What the walk along the runs of a degree list keeps. A run of equal degrees is as many elements, which have one head.
+-- The walk goes along the runs of a degree list. A run of n equal degrees is n elements, which have the same head.
 use Rattle.std.proofs.Common.{◌≡◌, ℕ, zero, suc, ◌+◌, ◌-◌, ◌*◌, ◌<◌, ◌≤◌, ltb, List, [], ◌∷◌, ◌++◌, length, get_or, drop, replicate, refl, ap, sym, ◌∙◌, sum, arith, inl, inr}
 use Rattle.std.specs.Int.{div_ceil}
 use Rattle.std.specs.List.{All, AllByRecursion}
@@ -19,20 +19,18 @@ use Rattle.piece_math.proofs.Expansion.{IsFalling-expanded, positive-expanded}
 use Rattle.piece_math.proofs.RunningMinima.{running_sum-has_run}
 use Rattle.piece_compress.proofs.Growing.{Growing, growing_more, growing_none, growing_passed, next_head-between}
 
--- the head that follows an element stays at another such element
 head_stays : (k head x : ℕ) → next_head k (next_head k head x) x ≡ next_head k head x
 head_stays k head x = cond_both (ltb ((k + 1) * x) (k * head)) x head (λ y. next_head k y x ≡ y)
     (λ e. cond_both (ltb ((k + 1) * x) (k * x)) x x (λ y. y ≡ x) (λ p. refl) (λ p. refl))
     (λ e. rw e refl)
 
--- ---- elements more
+-- ---- n more elements of one value
 
--- the run has n elements of this value more, and has gone to the pieces before where its value is another
+-- if the run had a value other than h, the run was moved to the pieces first
 abbrev HaveMore : (n h : ℕ) (pieces : List ℕ) (value count : ℕ) (pieces' : List ℕ) (value' count' : ℕ) → Type 0
 HaveMore n h pieces value count pieces' value' count' =
     (value' ≡ h) × (n ≤ count') × (pieces' ++ replicate (count' - n) h ≡ pieces ++ replicate count value) × All (λ x. h ≤ x) pieces'
 
--- the answer has n elements of this value more
 abbrev AreMore : (n h : ℕ) (pieces : List ℕ) (value count : ℕ) (pieces' : List ℕ) (value' count' : ℕ) → Type 0
 AreMore zero h pieces value count pieces' value' count' = (pieces' ≡ pieces) × (value' ≡ value) × (count' ≡ count)
 AreMore (suc n) h pieces value count pieces' value' count' = HaveMore (suc n) h pieces value count pieces' value' count'
@@ -47,7 +45,6 @@ are_more : (n h : ℕ) (pieces : List ℕ) (value count : ℕ) (pieces' : List �
 are_more zero h pieces value count pieces' value' count' some more = absurd (omega arith)
 are_more (suc n) h pieces value count pieces' value' count' some more = more
 
--- all but the first of them
 but_first : (n h count' : ℕ) (pieces' : List ℕ) (value' : ℕ) → value' ≡ h → n ≤ count' → All (λ x. h ≤ x) pieces'
     → AreMore n h pieces' h (count' - n) pieces' value' count'
 but_first zero h count' pieces' value' is fits falls = (refl, is, omega arith)
@@ -56,7 +53,6 @@ but_first (suc n) h count' pieces' value' is fits falls = (is, fits, refl, falls
 -- ---- the elements of a run
 
 module _ (k : ℕ) (f : List ℕ) (fall : IsFalling f) (v h i' rows' covered' : ℕ) (pieces' : List ℕ) (value' count' : ℕ) (enough : rows' ≤ covered') where
-  -- with no element left
   ended : (i head rows covered n : ℕ) (pieces : List ℕ) (value count : ℕ) → Growing k f i pieces value count head rows covered
       → head ≡ h → i' ≡ i → rows' ≡ rows → covered' ≡ covered + n * h → (0 < n → covered' < rows' + h)
       → AreMore n h pieces value count pieces' value' count' → Growing k f i' pieces' value' count' h rows' covered'
@@ -66,7 +62,6 @@ module _ (k : ℕ) (f : List ℕ) (fall : IsFalling f) (v h i' rows' covered' : 
   ended i head rows covered (suc n) pieces value count g head_is i_is rows_is covered_is close more =
       absurd (omega (arith, rows_is, covered_is, suc-mul n h, close (omega arith), g.ahead, g.rows_are))
 
-  -- element by element
   pub grown : (c i head rows covered n : ℕ) (pieces : List ℕ) (value count : ℕ) → Growing k f i pieces value count head rows covered
       → next_head k head v ≡ h → (c ≡ 0 → head ≡ h) → i + c ≤ length f → ((m : ℕ) → i ≤ m → m < i + c → get_or f m 0 ≡ v)
       → i' ≡ i + c → rows' ≡ rows + c * v → covered' ≡ covered + n * h → (0 < n → covered' < rows' + h)
@@ -102,9 +97,8 @@ module _ (k : ℕ) (f : List ℕ) (fall : IsFalling f) (v h i' rows' covered' : 
       is_some zero covered_is short other_rows = absurd (omega (arith, covered_is, zero-mul h, other_rows, enough))
       is_some (suc n) covered_is short other_rows = omega arith
 
--- ---- how many elements more a run asks for
+-- ---- how many more elements a run needs
 
--- so often that its rows are covered, and once less would not do
 times_close : (rows covered h n : ℕ) → covered < rows → 0 < h → n ≡ div_ceil (rows - covered) h
     → (0 < n) × (rows ≤ covered + n * h) × (covered + n * h < rows + h)
 times_close rows covered h n short pos is =
@@ -115,13 +109,11 @@ times_close rows covered h n short pos is =
     is_some zero low = absurd (omega (arith, zero-mul h))
     is_some (suc n) low = omega arith
 
--- a number that isn't 0 is an element
 is_inside : (s : List ℕ) (i : ℕ) → 0 < get_or s i 0 → i < length s
 is_inside [] i pos = absurd (omega arith)
 is_inside (x ∷ s) zero pos = omega arith
 is_inside (x ∷ s) (suc i) pos = omega (arith, is_inside s i pos)
 
--- positive elements are no more than their sum
 no_more : (s : List ℕ) → AllByRecursion (λ x. 0 < x) s → length s ≤ sum s
 no_more [] pos = omega arith
 no_more (x ∷ s) pos = omega (arith, sum_by-cons (λ (y : ℕ). y) x s, pos.0, no_more s pos.1)
@@ -129,16 +121,14 @@ no_more (x ∷ s) pos = omega (arith, sum_by-cons (λ (y : ℕ). y) x s, pos.0, 
 keys_within : (ps : List Piece) → ArePieces ps → length (expanded ps) ≤ sum (expanded ps)
 keys_within ps are = no_more (expanded ps) (positive-expanded ps are.falls)
 
--- what stands for no run
+-- `no_piece` is the default for reading past the last run
 abbrev pub no_piece : Piece
 no_piece = record { value = 0; count = 0 }
 
--- the value of the first run is the first element
 pub first_is : (ps : List Piece) → ArePieces ps → 0 < length ps → (get_or ps 0 no_piece).value ≡ get_or (expanded ps) 0 0
 first_is [] are some = absurd (omega arith)
 first_is (p ∷ ps) are some = sym (get_or-front p.count p.value (expanded ps) 0 are.falls.1)
 
--- counts are positive
 some_each : (ps : List Piece) (j : ℕ) (d : Piece) → AreRuns ps → j < length ps → 0 < (get_or ps j d).count
 some_each [] j d fall low = absurd (omega arith)
 some_each (p ∷ ps) zero d fall low = fall.1
@@ -146,7 +136,7 @@ some_each (p ∷ ps) (suc j) d fall low = some_each ps j d fall.2 (omega arith)
 
 -- ---- run by run
 
--- after j runs
+-- the state after j runs is the state after the elements of these runs
 pub record GrowingRuns (k : ℕ) (ps : List Piece) (j : ℕ) (pieces : List ℕ) (value count head rows covered : ℕ) : Type 0 where
   pub rank : ℕ
   pub before : IsBefore ps j rank
@@ -155,7 +145,6 @@ pub record GrowingRuns (k : ℕ) (ps : List Piece) (j : ℕ) (pieces : List ℕ)
 pub runs_none : (k : ℕ) (ps : List Piece) (head : ℕ) → head ≡ get_or (expanded ps) 0 0 → GrowingRuns k ps 0 [] head 0 head 0 0
 runs_none k ps head is = record { rank = 0; before = record { rest = refl }; growing = rw is (growing_none k (expanded ps)) }
 
--- at the end no element is left
 pub rank_at_end : (ps : List Piece) (j rank : ℕ) → IsBefore ps j rank → length ps ≤ j → length (expanded ps) ≤ rank
 rank_at_end ps j rank before end =
     let none : expanded (drop j ps) ≡ [] = ap expanded (drop_all j ps end) in
@@ -163,7 +152,6 @@ rank_at_end ps j rank before end =
 
 module _ (k : ℕ) (ps : List Piece) (j : ℕ) (pieces : List ℕ) (value count head rows covered : ℕ) (are : ArePieces ps) (low : j < length ps)
     (g : GrowingRuns k ps j pieces value count head rows covered) where
-  -- the run that comes next
   abbrev p : Piece
   p = get_or ps j no_piece
 
@@ -176,18 +164,15 @@ module _ (k : ℕ) (ps : List Piece) (j : ℕ) (pieces : List ℕ) (value count 
   pub positive : 0 < p.value
   positive = value_positive ps j no_piece are low
 
-  -- its degree is at most the head
   pub degree_below : p.value ≤ head
   degree_below =
       let e : g.rank + 0 ≡ g.rank = omega arith in
       let element : get_or (expanded ps) g.rank 0 ≡ p.value = ap (λ m. get_or (expanded ps) m 0) (sym e) ∙ its_run.same 0 some_keys in
       omega (arith, g.growing.head_above, element)
 
-  -- the head is one of all rows
   pub head_within : head ≤ sum (expanded ps)
   head_within = g.growing.head_most
 
-  -- its rows are among all rows
   pub rows_within : rows + p.value * p.count ≤ sum (expanded ps)
   rows_within =
       omega (
@@ -218,7 +203,7 @@ module _ (k : ℕ) (ps : List Piece) (j : ℕ) (pieces : List ℕ) (value count 
           (omega (arith, rows_is)) covered_is close more;
     }
 
-    -- where its rows are covered already
+    -- the rows of the run are covered already, so the result stays
     pub run_skipped : rows' ≤ covered → GrowingRuns k ps (j + 1) pieces value count h rows' covered
     run_skipped enough = run_passed 0 covered pieces value count (omega (arith, zero-mul h)) enough (λ some. absurd (omega arith)) (refl, refl, refl)
 
@@ -229,7 +214,6 @@ module _ (k : ℕ) (ps : List Piece) (j : ℕ) (pieces : List ℕ) (value count 
       its_times : (0 < n) × (rows' ≤ covered + n * h) × (covered + n * h < rows' + h)
       its_times = times_close rows' covered h n short (omega (arith, head_between.0, positive)) n_is
 
-      -- no number is large
       pub covered_small : covered + h * n < sum (expanded ps) + sum (expanded ps)
       covered_small = omega (arith, its_times.2, head_between.1, head_within, rows_within, rows_is)
 
@@ -245,7 +229,7 @@ module _ (k : ℕ) (ps : List Piece) (j : ℕ) (pieces : List ℕ) (value count 
           head_positive : 1 ≤ h
           head_positive = omega (arith, head_between.0, positive)
 
-      -- where they are not, so many elements of the head more cover them
+      -- the rows of the run aren't covered, so n more elements of the head's value cover them
       pub run_covered : (pieces' : List ℕ) (value' count' : ℕ) → value' ≡ h → n ≤ count'
           → pieces' ++ replicate (count' - n) h ≡ pieces ++ replicate count value → All (λ x. h ≤ x) pieces'
           → GrowingRuns k ps (j + 1) pieces' value' count' h rows' (covered + h * n)

@@ -1,8 +1,8 @@
 //! Compression: from a degree list to a list of few pieces, which dominates the same keys.
 //!
-//! In: the degree list of a column, or of some of its rows. It can be as long as the column has different keys.
-//! Out: a list of few pieces. Statistics keep it, and bounds are made from it. At accuracy K each element of it exceeds the
-//! degree at the same rank by at most one K-th, and its sum is the same. Compression by heads is this project's own.
+//! In: the degree list of a column, or of some of its rows. It can be as long as the column has different keys. Out: a list of few pieces. Statistics
+//! keep this list, and bounds are made from it. At accuracy K each of its elements exceeds the degree at the same rank by at most one K-th, and its
+//! sum is the sum of the degrees. Each of its runs has the value of one degree, the run's head. This compression by heads is this project's own.
 //! Domination is that of SafeBound (SIGMOD 2023).
 //!
 //! Callers cite `compressed` of crate `degree_sequences` and `most_pieces`:
@@ -32,7 +32,7 @@ pub fn pieces_at_most(first: u64, accuracy: Accuracy) -> u32
     u32::from(accuracy.value()) * (u64::BITS - first.leading_zeros()) + 1
 }
 
-// Equal elements at the end of the answer, not yet among its pieces.
+// Equal elements at the end of the result that aren't among its pieces yet.
 #[derive(Clone, Copy)]
 struct Run {
     value: u64,
@@ -106,7 +106,7 @@ fn first_degree(falling: &Pieces) -> u64
 }
 
 // A degree that lies far enough below the head is the next head.
-// At accuracy K it is far enough if K + 1 times the degree is below K times the head.
+// Otherwise the head stays. At accuracy K a degree is far enough below it if K + 1 times the degree is below K times the head.
 fn head_after(head: u64, degree: u64, accuracy: Accuracy) -> u64
     requires head { head ≤ greatest_rows }
     requires degree { degree ≤ head }
@@ -120,7 +120,7 @@ fn head_after(head: u64, degree: u64, accuracy: Accuracy) -> u64
     }
 }
 
-// The run with `times` more elements of a value. If the run has another value, it goes to the pieces, and a new run begins.
+// The run with `times` more elements of a value. If the run has another value, it is added to the pieces, and a new run begins.
 fn extended(pieces: &mut Pieces, run: Run, value: u64, times: u64) -> Result<Run, NoMemory>
     requires positive { 0 < value }
     requires lower { value ≤ run.value }
@@ -147,7 +147,7 @@ fn extended(pieces: &mut Pieces, run: Run, value: u64, times: u64) -> Result<Run
     })
 }
 
-// Ends the answer with the run, and lowers its last element by `excess`.
+// Adds the run to the end of the result, with its last element lowered by `excess`.
 fn finish(pieces: &mut Pieces, run: Run, excess: u64) -> Result<(), NoMemory>
     requires some { 0 < run.count }
     requires excess { excess < run.value }

@@ -1,4 +1,4 @@
--- Weights summed by blocks.
+-- The weights of a block are summed run by run. These lemmas are about the loop that sums them.
 use Rattle.std.proofs.Common.{◌≡◌, ℕ, zero, suc, ◌+◌, ◌-◌, ◌*◌, ◌<◌, ◌≤◌, min, List, [], length, get_or, drop, refl, ap, sym, ◌∙◌, arith, length-drop, inl, inr, ◌⊎◌}
 use Rattle.std.proofs.Math.Seq.{drop-nil}
 use Rattle.std.proofs.lemmas.Bool.{cases_lt}
@@ -11,12 +11,11 @@ use Rattle.piece_math.specs.declared.walk.Place.{Place}
 use Rattle.piece_math.specs.Places.{rest_from, ahead_of, IsPlace}
 use Rattle.piece_math.proofs.Places.{drop-drop, equal_ahead}
 
--- equal elements sum to a product
 running_sum-equal : (s : List ℕ) (c x : ℕ) → ((k : ℕ) → k < c → get_or s k 0 ≡ x) → running_sum s c ≡ c * x
 running_sum-equal s zero x same = omega arith
 running_sum-equal s (suc c) x same = omega (arith, running_sum-suc s c, same c (omega arith), running_sum-equal s c x (λ k h. same k (omega arith)))
 
--- a block of which `left` rows are not summed yet
+-- This is the state of the loop that sums a block of `rows` rows from `start` on. `left` rows aren't summed yet.
 pub record BlockSoFar (ps : List Piece) (start : Place) (rows : ℕ) (next : Place) (left total : ℕ) : Type 0 where
   pub taken : ℕ
   pub all : taken + left ≡ rows
@@ -27,7 +26,6 @@ pub record BlockSoFar (ps : List Piece) (start : Place) (rows : ℕ) (next : Pla
   pub fresh : taken ≡ 0 → next ≡ start
   pub onward : 0 < taken → (ahead_of ps start).count < rows → start.at < next.at
 
--- before the first row
 pub block_start : (ps : List Piece) (start : Place) (rows : ℕ) → IsPlace ps start → BlockSoFar ps start rows start rows 0
 block_start ps start rows place = record {
   taken = 0;
@@ -41,7 +39,7 @@ block_start ps start rows place = record {
 }
 
 module _ {ps : List Piece} {start next : Place} {rows left total : ℕ} (so_far : BlockSoFar ps start rows next left total) where
-  -- one more run of rows, or what is left of the block within it
+  -- the step sums the next run of rows, or as much of it as the block still needs
   pub block_step : (inside : next.at < length ps) (after : Place) (count value total' : ℕ) → count ≡ min left (ahead_of ps next).count → value ≡ (ahead_of ps next).value
       → total' ≡ saturated (total + saturated (value * count)) → rest_from ps after ≡ drop count (rest_from ps next) → IsPlace ps after → next.at ≤ after.at
       → (next.at < length ps → count ≡ (ahead_of ps next).count → after.at ≡ next.at + 1) → 0 < left
@@ -66,15 +64,12 @@ module _ {ps : List Piece} {start next : Place} {rows left total : ℕ} (so_far 
     ];
   }
 
-  -- the rows are summed, or there are no more
   rest_ended : length ps ≤ next.at → drop so_far.taken (rest_from ps start) ≡ []
   rest_ended over = sym so_far.rest ∙ rw (drop_all next.at ps over) (drop-nil next.used)
 
-  -- nothing of the start is left
   block_past : length ps ≤ next.at → length (rest_from ps start) ≤ so_far.taken
   block_past over = omega (arith, length-drop so_far.taken (rest_from ps start), ap length (rest_ended over))
 
-  -- at the end the sum is that of the whole block
   pub block_sum : (left ≡ 0) ⊎ (length ps ≤ next.at) → total ≡ saturated (running_sum (rest_from ps start) rows)
   block_sum over = elim over [
     | inl none ↦ so_far.sum ∙ ap (λ n. saturated (running_sum (rest_from ps start) n)) (omega (arith, so_far.all))
@@ -83,14 +78,12 @@ module _ {ps : List Piece} {start next : Place} {rows left total : ℕ} (so_far 
         ∙ sym (running_sum-past (rest_from ps start) rows (omega (arith, block_past past, so_far.all))))
   ]
 
-  -- and the place is the one after it
   pub block_rest : (left ≡ 0) ⊎ (length ps ≤ next.at) → rest_from ps next ≡ drop rows (rest_from ps start)
   block_rest over = elim over [
     | inl none ↦ so_far.rest ∙ ap (λ n. drop n (rest_from ps start)) (omega (arith, so_far.all))
     | inr past ↦ so_far.rest ∙ rest_ended past ∙ sym (drop_all rows (rest_from ps start) (omega (arith, block_past past, so_far.all)))
   ]
 
-  -- which is in a later piece where the first one is too short
   pub block_onward : (left ≡ 0) ⊎ (length ps ≤ next.at) → start.at < length ps → (ahead_of ps start).count < rows → start.at < next.at
   block_onward over inside short = elim over [
     | inl none ↦ so_far.onward (omega (arith, so_far.all)) short

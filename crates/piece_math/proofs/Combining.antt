@@ -1,4 +1,4 @@
--- Lists that are combined rank by rank.
+-- Two lists are combined rank by rank. These lemmas are about the walk that combines them.
 use Rattle.std.proofs.Common.{◌≡◌, ℕ, ◌+◌, ◌^◌, ◌<◌, ◌≤◌, max, List, [], ◌∷◌, length, get_or, map, take, refl, ap, sym, ◌∙◌, arith}
 use Rattle.std.specs.List.{AllByRecursion, All}
 use Rattle.std.proofs.Math.Nat.{mul-pos}
@@ -20,25 +20,21 @@ use Rattle.piece_math.proofs.Expansion.{IsFalling-expanded, positive-expanded}
 use Rattle.piece_math.proofs.Building.{HasRun, run_falls, run_fits, run_built, get_or-saturated, IsFalling-saturated, positive-saturated}
 use Rattle.piece_math.proofs.Walking.{Walked, at_left, at_right, walk_on, walk_start, rest_none}
 
--- the combined list has the combined elements
 pub get_or-combined : (how : Combination) (s t : List ℕ) (r : ℕ) → get_or (combined_by_rank how s t) r 0 ≡ combined how (get_or s r 0) (get_or t r 0)
 get_or-combined Product s t r = get_or-rank_product s t r
 get_or-combined Sum s t r = get_or-rank_sum s t r
 get_or-combined Maximum s t r = get_or-rank_maximum s t r
 
--- combined falling lists fall
 IsFalling-combined : (how : Combination) (s t : List ℕ) → IsFalling s → IsFalling t → IsFalling (combined_by_rank how s t)
 IsFalling-combined Product s t fs ft = IsFalling-rank_product s t fs ft
 IsFalling-combined Sum s t fs ft = IsFalling-rank_sum s t fs ft
 IsFalling-combined Maximum s t fs ft = IsFalling-rank_maximum s t fs ft
 
--- products of positive numbers are positive
 pub positive-rank_product : (s t : List ℕ) → AllByRecursion (λ x. 0 < x) s → AllByRecursion (λ x. 0 < x) t → AllByRecursion (λ x. 0 < x) (rank_product s t)
 positive-rank_product [] t ps pt = tt
 positive-rank_product (x ∷ s) [] ps pt = tt
 positive-rank_product (x ∷ s) (y ∷ t) ps pt = (mul-pos ps.0 pt.0, positive-rank_product s t ps.1 pt.1)
 
--- and combined positive lists are positive
 positive-combined : (how : Combination) (s t : List ℕ) → AllByRecursion (λ x. 0 < x) s → AllByRecursion (λ x. 0 < x) t → AllByRecursion (λ x. 0 < x) (combined_by_rank how s t)
 positive-combined Product s t ps pt = positive-rank_product s t ps pt
 positive-combined Sum [] t ps pt = pt
@@ -48,7 +44,6 @@ positive-combined Maximum [] t ps pt = pt
 positive-combined Maximum (x ∷ s) [] ps pt = ps
 positive-combined Maximum (x ∷ s) (y ∷ t) ps pt = (omega (arith, ps.0), positive-combined Maximum s t ps.1 pt.1)
 
--- they are no longer than the longer one
 length-combined-le : (how : Combination) (s t : List ℕ) → length (combined_by_rank how s t) ≤ max (length s) (length t)
 length-combined-le Product [] t = omega arith
 length-combined-le Product (x ∷ s) [] = omega arith
@@ -60,35 +55,31 @@ length-combined-le Maximum [] t = omega arith
 length-combined-le Maximum (x ∷ s) [] = omega arith
 length-combined-le Maximum (x ∷ s) (y ∷ t) = omega (arith, length-combined-le Maximum s t)
 
--- ---- the list of the walk
+-- ---- the list that the walk builds
 
--- the list that the walk builds
+-- the walk builds the combined list, in which a number above 2 ^ 128 - 1 becomes 2 ^ 128 - 1
 abbrev pub goal_of : Combination → List Piece → List Piece → List ℕ
 goal_of how a b = map saturated (combined_by_rank how (expanded a) (expanded b))
 
--- the list is built as far as the places
+-- this is the state of the walk: the list is built up to the rank of the places
 pub record Combined (how : Combination) (a b : List Piece) (places : Places) (list : List ℕ) : Type 0 where
   pub walked : Walked a b places
   pub built : list ≡ take walked.rank (goal_of how a b)
   pub few : runs list ≤ places.left.at + places.right.at
 
--- that list falls
 pub goal_falls : (how : Combination) (a b : List Piece) → ArePieces a → ArePieces b → IsFalling (goal_of how a b)
 goal_falls how a b are_a are_b =
     IsFalling-saturated (combined_by_rank how (expanded a) (expanded b))
     (IsFalling-combined how (expanded a) (expanded b) (IsFalling-expanded a are_a.falls) (IsFalling-expanded b are_b.falls))
 
--- is positive
 pub goal_positive : (how : Combination) (a b : List Piece) → ArePieces a → ArePieces b → AllByRecursion (λ x. 0 < x) (goal_of how a b)
 goal_positive how a b are_a are_b =
     positive-saturated (combined_by_rank how (expanded a) (expanded b))
     (positive-combined how (expanded a) (expanded b) (positive-expanded a are_a.falls) (positive-expanded b are_b.falls))
 
--- and is no longer than the longer one
 pub goal_short : (how : Combination) (a b : List Piece) → length (goal_of how a b) ≤ max (length (expanded a)) (length (expanded b))
 goal_short how a b = omega (arith, length-map (combined_by_rank how (expanded a) (expanded b)) saturated, length-combined-le how (expanded a) (expanded b))
 
--- the elements of a turn
 pub goal_run : (how : Combination) (a b : List Piece) (places : Places) (turn : Turn) (v : ℕ) → (t : IsTurn a b places turn) (w : Walked a b places)
     → v ≡ saturated (combined how turn.left turn.right) → HasRun (goal_of how a b) w.rank turn.count v
 goal_run how a b places turn v t w is = record {
@@ -97,22 +88,18 @@ goal_run how a b places turn v t w is = record {
       ∙ sym is;
 }
 
--- before the first turn
 pub combine_start : (how : Combination) (a b : List Piece) → ArePieces a → ArePieces b
     → Combined how a b (record { left = record { at = 0; used = 0 }; right = record { at = 0; used = 0 } }) []
 combine_start how a b are_a are_b = record { walked = walk_start a b are_a are_b; built = refl; few = omega arith }
 
 module _ {how : Combination} {a b : List Piece} {places : Places} {turn : Turn} {list : List ℕ} {v : ℕ} (are_a : ArePieces a) (are_b : ArePieces b)
     (so_far : Combined how a b places list) (t : IsTurn a b places turn) (value : v ≡ saturated (combined how turn.left turn.right)) where
-  -- the elements of a turn may be appended
   pub combine_falls : 0 < turn.count → All (λ x. v ≤ x) list
   combine_falls some = run_falls so_far.built (goal_run how a b places turn v t so_far.walked value) (goal_falls how a b are_a are_b) some
 
-  -- they fit
   pub combine_fits : 0 < v → length list + turn.count < 2 ^ 64
   combine_fits pos = omega (arith, run_fits so_far.built (goal_run how a b places turn v t so_far.walked value) pos, goal_short how a b, are_a.fits, are_b.fits)
 
-  -- after a turn
   pub combine_step : {new : List ℕ} → IsAppended list new v turn.count → Combined how a b turn.next new
   combine_step put = record {
     walked = walk_on t so_far.walked;
@@ -120,7 +107,6 @@ module _ {how : Combination} {a b : List Piece} {places : Places} {turn : Turn} 
     few = omega (arith, put.few, so_far.few, t.onward);
   }
 
--- at the end of both lists
 pub combine_end : (how : Combination) (a b : List Piece) (places : Places) (list : List ℕ) → Combined how a b places list → length a ≤ places.left.at → length b ≤ places.right.at
     → list ≡ goal_of how a b
 combine_end how a b places list so_far over_a over_b =

@@ -1,4 +1,5 @@
--- Compositions, from saturated weights without their zeros.
+-- A composition may be computed from weights that are saturated (numbers above 2 ^ 128 - 1 become 2 ^ 128 - 1) and trimmed (zeros at the end are left
+-- out).
 use Rattle.std.proofs.Common.{Result, ◌≡◌, ℕ, suc, ◌+◌, ◌*◌, ◌<◌, ◌≤◌, List, [], ◌∷◌, length, map, drop, replicate, refl, ap, sym, ◌∙◌, sum, arith}
 use Rattle.std.specs.List.{AllByRecursion, All}
 use Rattle.std.proofs.lemmas.Result.{IfOk-weaker}
@@ -17,13 +18,11 @@ use Rattle.piece_math.specs.Children.{lists_of, class_runs}
 use Rattle.piece_math.proofs.Grouping.{IsFalling-block_sums}
 use Rattle.piece_math.proofs.Weighing.{row_weights-none, runs-saturated}
 
--- sums of blocks depend on running sums alone
 block_sums-same : (g u v : List ℕ) → ((r : ℕ) → running_sum u r ≡ running_sum v r) → block_sums g u ≡ block_sums g v
 block_sums-same [] u v same = refl
 block_sums-same (x ∷ g) u v same =
     rw (same x, block_sums-same g (drop x u) (drop x v) (λ r. omega (arith, same x, same (x + r), running_sum-add u x r, running_sum-add v x r))) refl
 
--- neither saturation nor zeros at the end of the weights show
 pub saturated-composed : (g u : List ℕ) → map saturated (trimmed (block_sums g (map saturated (trimmed u)))) ≡ map saturated (trimmed (block_sums g u))
 saturated-composed g u =
     saturated-trimmed (block_sums g (map saturated (trimmed u)))
@@ -31,12 +30,10 @@ saturated-composed g u =
     ∙ sym (saturated-trimmed (block_sums g (trimmed u)))
     ∙ ap (λ s. map saturated (trimmed s)) (block_sums-same g (trimmed u) u (λ r. running_sum-trimmed u r))
 
--- the two forms of a fact on each element
 pub All-recursion : (s : List ℕ) → All (λ x. 0 < x) s → AllByRecursion (λ x. 0 < x) s
 All-recursion [] all = tt
 All-recursion (x ∷ s) all = (all 0 0 (omega arith), All-recursion s (λ i d h. all (suc i) d (omega arith)))
 
--- without children the composition is the parent list
 pub composed-none : (g : List ℕ) → IsFalling g → AllByRecursion (λ x. 0 < x) g → composed g [] ≡ g
 composed-none g fall pos =
     ap (λ u. trimmed (block_sums g u)) (row_weights-none (sum g))
@@ -50,14 +47,12 @@ composed-none g fall pos =
       running_sum-le-sum g r,
     ))
 
--- what the sums of blocks of the row weights are
 pub composed_value : {E : Type 0} (r : Result (List ℕ) E) (g weights : List ℕ) (cs : List ChildLists) → weights ≡ map saturated (trimmed (row_weights cs (sum g)))
     → IfOk r (λ list. list ≡ map saturated (trimmed (block_sums g weights))) → IfOk r (λ list. list ≡ map saturated (composed g cs))
 composed_value r g weights cs is grouped =
     IfOk-weaker r (λ list. list ≡ map saturated (trimmed (block_sums g weights))) (λ list. list ≡ map saturated (composed g cs))
     (λ list e. e ∙ ap (λ u. map saturated (trimmed (block_sums g u))) is ∙ saturated-composed g (row_weights cs (sum g))) grouped
 
--- the pieces of a composition
 pub composed_few : {E : Type 0} (r : Result (List ℕ) E) (g weights : List ℕ) (cs : List Child) → IsFalling g → All (λ x. 0 < x) g
     → (0 < length cs → runs weights ≤ class_runs cs) → IfOk r (λ list. list ≡ map saturated (composed g (map lists_of cs)))
     → IfOk r (λ list. runs list ≤ runs g + 2 * runs weights) → IfOk r (λ list. runs list ≤ runs g + 2 * class_runs cs)

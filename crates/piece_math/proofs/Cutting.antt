@@ -1,4 +1,5 @@
--- A list cut at a number, piece by piece.
+-- A list is cut at a number n piece by piece. Elements stay while their sum is at most n, the next element is cut down to the remainder, and no
+-- element follows.
 use Rattle.std.proofs.Common.{◌≡◌, ℕ, zero, suc, ◌+◌, ◌-◌, ◌*◌, ◌/◌, ◌%◌, ◌^◌, ◌<◌, ◌≤◌, min, List, [], ◌∷◌, ◌++◌, length, get_or, take, drop, replicate, ap, sym, ◌∙◌, arith}
 use Rattle.std.specs.List.{AllByRecursion}
 use Rattle.std.proofs.Math.Nat.{mul-le-mul_right, div-mul-le_self}
@@ -17,17 +18,14 @@ use Rattle.piece_math.proofs.Expansion.{IsFalling-expanded}
 use Rattle.piece_math.proofs.Places.{drop-drop}
 use Rattle.piece_math.proofs.RunningMinima.{element_from_sums, running_sum-has_run, positive-falling_trimmed}
 
--- ---- before piece i
+-- ---- the rank at which piece i begins
 
--- the elements of a rank on are those of piece i and the later ones
 pub record IsBefore (ps : List Piece) (i rank : ℕ) : Type 0 where
   pub rest : drop rank (expanded ps) ≡ expanded (drop i ps)
 
--- the list from piece i on begins with its elements
 expanded-drop : (ps : List Piece) (i : ℕ) (d : Piece) → i < length ps → expanded (drop i ps) ≡ replicate (get_or ps i d).count (get_or ps i d).value ++ expanded (drop (i + 1) ps)
 expanded-drop ps i d h = ap expanded (drop_more ps i d h)
 
--- its elements
 pub piece_run : (ps : List Piece) (i rank : ℕ) (d : Piece) → i < length ps → IsBefore ps i rank → HasRun (expanded ps) rank (get_or ps i d).count (get_or ps i d).value
 piece_run ps i rank d h before = record {
   same = λ k j. sym (get_or-drop rank (expanded ps) k 0)
@@ -35,7 +33,6 @@ piece_run ps i rank d h before = record {
       ∙ get_or-front (get_or ps i d).count (get_or ps i d).value (expanded (drop (i + 1) ps)) k j;
 }
 
--- the place before the next piece
 pub piece_passed : (ps : List Piece) (i rank : ℕ) (d : Piece) → i < length ps → IsBefore ps i rank → IsBefore ps (i + 1) (rank + (get_or ps i d).count)
 piece_passed ps i rank d h before = record {
   rest = sym (drop-drop rank (get_or ps i d).count (expanded ps))
@@ -45,18 +42,16 @@ piece_passed ps i rank d h before = record {
 
 -- ---- the cut list
 
--- a cut list is positive
 pub positive-cut_at : (s : List ℕ) (n : ℕ) → IsFalling s → AllByRecursion (λ y. 0 < y) (cut_at s n)
 positive-cut_at s n fall = positive-falling_trimmed (with_running_sums (λ r. min (running_sum s r) n) (length s)) (IsFalling-cut_at s n fall)
 
--- it is no longer than the list
 pub cut_no_longer : (s : List ℕ) (n r : ℕ) → IsFalling s → length s ≤ r → length (cut_at s n) ≤ r
 cut_no_longer s n r fall over =
     ends_at_zero (cut_at s n) (positive-cut_at s n fall) r
     (element_from_sums (cut_at s n) r 0
     (omega (arith, running_sum-cut_at s n r, running_sum-cut_at s n (r + 1), running_sum-past s r over, running_sum-past s (r + 1) (omega arith))))
 
--- the cut list is built up to piece i, and so much of n is left
+-- this is the state of the loop: the cut list is built up to piece i, and `left` of n is left
 pub record CutSoFar (ps : List Piece) (n i left : ℕ) (list : List ℕ) : Type 0 where
   pub rank : ℕ
   pub before : IsBefore ps i rank
@@ -71,11 +66,9 @@ module _ {ps : List Piece} (are : ArePieces ps) {n i left : ℕ} {list : List �
   pub cut_positive : AllByRecursion (λ y. 0 < y) (cut_at (expanded ps) n)
   cut_positive = positive-cut_at (expanded ps) n (IsFalling-expanded ps are.falls)
 
-  -- it is short enough
   pub cut_fits : length (cut_at (expanded ps) n) < 2 ^ 64
   cut_fits = omega (arith, are.fits, cut_no_longer (expanded ps) n (length (expanded ps)) (IsFalling-expanded ps are.falls) (omega arith))
 
-  -- at the end of the list
   pub cut_end : length ps ≤ i → list ≡ cut_at (expanded ps) n
   cut_end over =
       let nothing : drop so_far.rank (expanded ps) ≡ [] = so_far.before.rest ∙ ap expanded (drop_all i ps over) in
@@ -84,7 +77,6 @@ module _ {ps : List Piece} (are : ArePieces ps) {n i left : ℕ} {list : List �
       (cut_no_longer (expanded ps) n so_far.rank (IsFalling-expanded ps are.falls) (omega (arith, ap length nothing, length-drop so_far.rank (expanded ps))))
 
   module _ (d : Piece) (within : i < length ps) where
-    -- running sums within a piece
     cut_sums : (k : ℕ) → k ≤ (get_or ps i d).count → running_sum (cut_at (expanded ps) n) (so_far.rank + k) ≡ min (running_sum (expanded ps) so_far.rank + k * (get_or ps i d).value) n
     cut_sums k h =
         omega (
@@ -93,7 +85,6 @@ module _ {ps : List Piece} (are : ArePieces ps) {n i left : ℕ} {list : List �
           running_sum-has_run (expanded ps) so_far.rank (get_or ps i d).count (get_or ps i d).value (piece_run ps i so_far.rank d within so_far.before) k h,
         )
 
-    -- the elements that stay as they are
     pub kept_run : (c : ℕ) → c ≤ (get_or ps i d).count → c * (get_or ps i d).value ≤ left → HasRun (cut_at (expanded ps) n) so_far.rank c (get_or ps i d).value
     kept_run c within_piece below = record {
       same = λ k h. element_from_sums (cut_at (expanded ps) n) (so_far.rank + k) (get_or ps i d).value
@@ -102,7 +93,6 @@ module _ {ps : List Piece} (are : ArePieces ps) {n i left : ℕ} {list : List �
           omega (arith, ap (running_sum (cut_at (expanded ps) n)) e, cut_sums k (omega arith), cut_sums (k + 1) (omega arith), so_far.left_over, le, below));
     }
 
-    -- the element that is cut
     pub cut_run : (q rest : ℕ) → q < (get_or ps i d).count → left ≡ q * (get_or ps i d).value + rest → rest < (get_or ps i d).value
         → HasRun (cut_at (expanded ps) n) (so_far.rank + q) 1 rest
     cut_run q rest within_piece split less = record {
@@ -121,7 +111,6 @@ module _ {ps : List Piece} (are : ArePieces ps) {n i left : ℕ} {list : List �
           ));
     }
 
-    -- nothing is left after it
     cut_over : (q rest : ℕ) → q < (get_or ps i d).count → left ≡ q * (get_or ps i d).value + rest → rest < (get_or ps i d).value → length (cut_at (expanded ps) n) ≤ so_far.rank + q + 1
     cut_over q rest within_piece split less =
         let here : so_far.rank + q + 1 ≡ so_far.rank + (q + 1) = omega arith in
@@ -139,12 +128,10 @@ module _ {ps : List Piece} (are : ArePieces ps) {n i left : ℕ} {list : List �
           less,
         )))
 
-    -- after elements that stay as they are
     pub built_kept : {one : List ℕ} (c : ℕ) → c ≤ (get_or ps i d).count → c * (get_or ps i d).value ≤ left → IsAppended list one (get_or ps i d).value c
         → one ≡ take (so_far.rank + c) (cut_at (expanded ps) n)
     built_kept c within_piece below put = run_built so_far.built (kept_run c within_piece below) cut_positive put
 
-    -- after a piece that stays as it is
     pub cut_step : {new : List ℕ} → (get_or ps i d).count * (get_or ps i d).value ≤ left → IsAppended list new (get_or ps i d).value (get_or ps i d).count
         → CutSoFar ps n (i + 1) (left - (get_or ps i d).value * (get_or ps i d).count) new
     cut_step below put = record {
@@ -160,16 +147,14 @@ module _ {ps : List Piece} (are : ArePieces ps) {n i left : ℕ} {list : List �
       few = omega (arith, put.few, so_far.few);
     }
 
-    -- after the element that is cut
     pub cut_done : {one two : List ℕ} (q rest : ℕ) → q < (get_or ps i d).count → left ≡ q * (get_or ps i d).value + rest → rest < (get_or ps i d).value
         → IsAppended list one (get_or ps i d).value q → IsAppended one two rest 1 → two ≡ cut_at (expanded ps) n
     cut_done q rest within_piece split less put1 put2 =
         run_built (built_kept q (omega arith) (omega arith) put1) (cut_run q rest within_piece split less) cut_positive put2
         ∙ take_all (so_far.rank + q + 1) (cut_at (expanded ps) n) (cut_over q rest within_piece split less)
 
--- ---- how often a value goes into what is left
+-- ---- what is left of n, divided by a value
 
--- values are positive
 pub value_positive : (ps : List Piece) (i : ℕ) (d : Piece) → ArePieces ps → i < length ps → 0 < (get_or ps i d).value
 value_positive ps i d are h = go ps i are.falls h
   where
@@ -178,10 +163,8 @@ value_positive ps i d are h = go ps i are.falls h
     go (p ∷ ps) zero fall h = omega (arith, fall.0)
     go (p ∷ ps) (suc i) fall h = go ps i fall.2 (omega arith)
 
--- so often the value goes into what is left
 pub whole_below : (left v c : ℕ) → c ≤ left / v → c * v ≤ left
 whole_below left v c h = omega (arith, mul-le-mul_right v h, div-mul-le_self left v)
 
--- and this remains
 pub whole_split : (left v : ℕ) → 0 < v → left ≡ left / v * v + left % v
 whole_split left v pos = omega arith

@@ -1,4 +1,4 @@
--- Pieces and the list that they stand for.
+-- Pieces stand for a list. These lemmas say how the list and its runs change when a piece is appended or the last piece grows.
 use Rattle.std.proofs.Common.{eqb, ◌≡◌, ℕ, zero, suc, ◌+◌, ◌-◌, ◌*◌, ◌^◌, ◌<◌, ◌≤◌, List, [], ◌∷◌, ◌++◌, length, get_or, take, replicate, refl, ap, sym, ◌∙◌, subst, sum, arith, length-append, zero-add}
 use Rattle.std.specs.List.{AllByRecursion, All}
 use Rattle.std.proofs.Math.Seq.{get_or-append_seam}
@@ -12,18 +12,15 @@ use Rattle.degree_sequences.specs.Runs.{runs, runs_after}
 use Rattle.piece_math.specs.declared.pieces.Piece.{Piece}
 use Rattle.piece_math.specs.Expanded.{expanded, first_value, AreRuns, ArePieces}
 
--- ---- one more piece
+-- ---- a piece is appended
 
--- the list of one more piece
 pub expanded-push : (ps : List Piece) (p : Piece) → expanded (ps ++ p ∷ []) ≡ expanded ps ++ replicate p.count p.value
 expanded-push [] p = append-nil (replicate p.count p.value)
 expanded-push (q ∷ ps) p = ap (λ (s : List ℕ). replicate q.count q.value ++ s) (expanded-push ps p) ∙ sym (append_assoc (replicate q.count q.value) (expanded ps) (replicate p.count p.value))
 
--- a run in two parts
 pub replicate-add : (m n x : ℕ) → replicate (m + n) x ≡ replicate m x ++ replicate n x
 replicate-add m n x = sym (replicate-append-replicate m n x)
 
--- the last piece grows
 pub expanded-grown : (ps : List Piece) (p q : Piece) (n : ℕ) → q.value ≡ p.value → q.count ≡ p.count + n
     → expanded (ps ++ q ∷ []) ≡ expanded (ps ++ p ∷ []) ++ replicate n q.value
 expanded-grown ps p q n same more =
@@ -32,23 +29,19 @@ expanded-grown ps p q n same more =
     ∙ sym (append_assoc (expanded ps) (replicate p.count p.value) (replicate n q.value))
     ∙ ap (λ (s : List ℕ). s ++ replicate n q.value) (sym (expanded-push ps p))
 
--- the first value stays where the last value does
 first-push : (ps : List Piece) (p q : Piece) → q.value ≡ p.value → first_value (ps ++ q ∷ []) ≡ first_value (ps ++ p ∷ [])
 first-push [] p q same = same
 first-push (r ∷ ps) p q same = refl
 
--- pieces still fall where the last one has a larger count
 pub AreRuns-grown : (ps : List Piece) (p q : Piece) (n : ℕ) → q.value ≡ p.value → q.count ≡ p.count + n → AreRuns (ps ++ p ∷ []) → AreRuns (ps ++ q ∷ [])
 AreRuns-grown [] p q n same more h = (omega (arith, h.0), omega (arith, h.1), tt)
 AreRuns-grown (r ∷ ps) p q n same more h = (omega (arith, h.0, first-push ps p q same), h.1, AreRuns-grown ps p q n same more h.2)
 
--- a smaller piece is appended
 pub AreRuns-push : (ps : List Piece) (p : Piece) → AreRuns ps → 0 < p.value → 0 < p.count → AllByRecursion (λ q. p.value < q.value) ps → AreRuns (ps ++ p ∷ [])
 AreRuns-push [] p fall pos some above = (pos, some, tt)
 AreRuns-push (q ∷ []) p fall pos some above = (above.0, fall.1, (pos, some, tt))
 AreRuns-push (q ∷ (r ∷ ps)) p fall pos some above = (fall.0, fall.1, AreRuns-push (r ∷ ps) p fall.2 pos some above.1)
 
--- values that fall to one above v are above v
 above_last : (v : ℕ) (ps : List Piece) (p : Piece) → AreRuns (ps ++ p ∷ []) → v < p.value → AllByRecursion (λ q. v < q.value) (ps ++ p ∷ [])
 above_last v [] p fall h = (h, tt)
 above_last v (q ∷ []) p fall h = (omega (arith, fall.0), (h, tt))
@@ -56,7 +49,6 @@ above_last v (q ∷ (r ∷ ps)) p fall h =
     let rest : AllByRecursion (λ q. v < q.value) (r ∷ (ps ++ p ∷ [])) = above_last v (r ∷ ps) p fall.2 h in
     (omega (arith, fall.0, rest.0), rest)
 
--- an element that ends a list of elements of at least v
 last_at_least : (v : ℕ) (ps : List Piece) (p : Piece) → 0 < p.count → All (λ x. v ≤ x) (expanded (ps ++ p ∷ [])) → v ≤ p.value
 last_at_least v ps p some least = at p.count some (subst (All (λ x. v ≤ x)) (expanded-push ps p) least)
   where
@@ -67,12 +59,10 @@ last_at_least v ps p some least = at p.count some (subst (All (λ x. v ≤ x)) (
         omega (arith, length-append (expanded ps) (p.value ∷ replicate c p.value)) in
         rw (get_or-append_seam (expanded ps) p.value (replicate c p.value) 0) at (all (length (expanded ps)) 0 within)
 
--- the last of falling pieces has a positive count
 last_count : (ps : List Piece) (p : Piece) → AreRuns (ps ++ p ∷ []) → 0 < p.count
 last_count [] p fall = fall.1
 last_count (q ∷ ps) p fall = last_count ps p fall.2
 
--- and where a smaller piece follows
 pub AreRuns-added : (ps : List Piece) (p q : Piece) → AreRuns (ps ++ p ∷ []) → (p.value ≡ q.value → ⊥) → All (λ x. q.value ≤ x) (expanded (ps ++ p ∷ []))
     → 0 < q.value → 0 < q.count → AreRuns (ps ++ p ∷ [] ++ q ∷ [])
 AreRuns-added ps p q fall other least pos some =
@@ -81,20 +71,17 @@ AreRuns-added ps p q fall other least pos some =
 
 -- ---- the last piece
 
--- a list that isn't empty ends with its last element
 split_last : (old : List Piece) (d : Piece) → 0 < length old → old ≡ take (length old - 1) old ++ get_or old (length old - 1) d ∷ []
 split_last old d some =
     let whole : length old - 1 + 1 ≡ length old = omega arith in
     sym (take_all (length old) old (omega arith)) ∙ ap (λ k. take k old) (sym whole) ∙ take_more old (length old - 1) d (omega arith)
 
 module _ (old : List Piece) (d : Piece) (v n : ℕ) (some : 0 < length old) (same : (get_or old (length old - 1) d).value ≡ v) where
-  -- the last piece grew by n elements
   pub expanded-with_last : expanded (take (length old - 1) old ++ record { value = v; count = (get_or old (length old - 1) d).count + n } ∷ []) ≡ expanded old ++ replicate n v
   expanded-with_last =
       expanded-grown (take (length old - 1) old) (get_or old (length old - 1) d) (record { value = v; count = (get_or old (length old - 1) d).count + n }) n (sym same) refl
       ∙ ap (λ ps. expanded ps ++ replicate n v) (sym (split_last old d some))
 
-  -- the pieces are still well formed
   pub ArePieces-with_last : ArePieces old → length (expanded old) + n < 2 ^ 64
       → ArePieces (take (length old - 1) old ++ record { value = v; count = (get_or old (length old - 1) d).count + n } ∷ [])
   ArePieces-with_last are room = record {
@@ -103,14 +90,12 @@ module _ (old : List Piece) (d : Piece) (v n : ℕ) (some : 0 < length old) (sam
     fits = omega (arith, ap length expanded-with_last, length-append (expanded old) (replicate n v), length-replicate n v);
   }
 
--- no piece is longer than the list
 pub last_fits : (old : List Piece) (d : Piece) → 0 < length old → (get_or old (length old - 1) d).count ≤ length (expanded old)
 last_fits old d some =
     let ps : List Piece = take (length old - 1) old in
     let p : Piece = get_or old (length old - 1) d in
     omega (arith, ap (λ ps. length (expanded ps)) (split_last old d some), ap length (expanded-push ps p), length-append (expanded ps) (replicate p.count p.value), length-replicate p.count p.value)
 
--- a piece whose value isn't the last one
 pub ArePieces-added : (old : List Piece) (d : Piece) (v n : ℕ) → (0 < length old → (get_or old (length old - 1) d).value ≡ v → ⊥) → All (λ x. v ≤ x) (expanded old)
     → 0 < v → 0 < n → ArePieces old → length (expanded old) + n < 2 ^ 64 → ArePieces (old ++ record { value = v; count = n } ∷ [])
 ArePieces-added old d v n other least pos some are room = record {
@@ -129,28 +114,23 @@ ArePieces-added old d v n other least pos some are room = record {
 
 -- ---- runs
 
--- a run goes on
 runs_after-same : (n x : ℕ) (s : List ℕ) → runs_after x (replicate n x ++ s) ≡ runs_after x s
 runs_after-same zero x s = refl
 runs_after-same (suc n) x s = rw (eq-eqb x x refl, zero-add) (runs_after-same n x s)
 
--- a run begins
 runs_after-front : (v n x : ℕ) (s : List ℕ) → 0 < n → (x ≡ v → ⊥) → runs_after v (replicate n x ++ s) ≡ suc (runs_after x s)
 runs_after-front v zero x s h other = absurd (omega arith)
 runs_after-front v (suc n) x s h other = rw (ne_eqb x v other) (omega (arith, runs_after-same n x s))
 
--- each later piece begins a run
 runs_after-pieces : (p : Piece) (ps : List Piece) → AreRuns (p ∷ ps) → runs_after p.value (expanded ps) ≡ length ps
 runs_after-pieces p [] fall = refl
 runs_after-pieces p (q ∷ ps) fall =
     runs_after-front p.value q.count q.value (expanded ps) fall.2.1 (λ e. omega (arith, fall.0)) ∙ ap suc (runs_after-pieces q ps fall.2)
 
--- falling pieces are the runs of their list
 pub runs-expanded : (ps : List Piece) → AreRuns ps → length ps ≡ runs (expanded ps)
 runs-expanded [] fall = refl
 runs-expanded (p ∷ ps) fall = sym (runs_after-front 0 p.count p.value (expanded ps) fall.1 (λ e. omega (arith, fall.0)) ∙ ap suc (runs_after-pieces p ps fall))
 
--- one more run
 runs_after-push : (v : ℕ) (s : List ℕ) (n x : ℕ) → runs_after v (s ++ replicate n x) ≤ suc (runs_after v s)
 runs_after-push v [] zero x = omega arith
 runs_after-push v [] (suc n) x = cond_both (eqb x v) 0 1 (λ k. k + runs_after x (replicate n x) ≤ 1)
@@ -158,46 +138,38 @@ runs_after-push v [] (suc n) x = cond_both (eqb x v) 0 1 (λ k. k + runs_after x
     (λ e. omega (arith, runs_after-same n x [], ap (runs_after x) (append-nil (replicate n x))))
 runs_after-push v (y ∷ s) n x = omega (arith, runs_after-push y s n x)
 
--- at most one run more
 pub runs-push : (s : List ℕ) (n x : ℕ) → runs (s ++ replicate n x) ≤ runs s + 1
 runs-push s n x = omega (arith, runs_after-push 0 s n x)
 
 -- ---- the list falls and is positive
 
--- the first element of a run
 first-run : (n x : ℕ) (s : List ℕ) → get_or s 0 0 ≤ x → get_or (replicate n x ++ s) 0 0 ≤ x
 first-run zero x s h = h
 first-run (suc n) x s h = omega arith
 
--- the first element of a list
 first-expanded : (ps : List Piece) → AreRuns ps → get_or (expanded ps) 0 0 ≤ first_value ps
 first-expanded [] fall = omega arith
 first-expanded (p ∷ ps) fall = first-run p.count p.value (expanded ps) (omega (arith, first-expanded ps fall.2, fall.0))
 
--- the list of falling pieces falls
 pub IsFalling-expanded : (ps : List Piece) → AreRuns ps → IsFalling (expanded ps)
 IsFalling-expanded [] fall = λ r. omega arith
 IsFalling-expanded (p ∷ ps) fall = IsFalling-front p.count p.value (expanded ps) (omega (arith, first-expanded ps fall.2, fall.0)) (IsFalling-expanded ps fall.2)
 
--- a run of positive numbers
 positive-front : (n x : ℕ) (s : List ℕ) → 0 < x → AllByRecursion (λ x. 0 < x) s → AllByRecursion (λ x. 0 < x) (replicate n x ++ s)
 positive-front zero x s h all = all
 positive-front (suc n) x s h all = (h, positive-front n x s h all)
 
--- the list of falling pieces is positive
 pub positive-expanded : (ps : List Piece) → AreRuns ps → AllByRecursion (λ x. 0 < x) (expanded ps)
 positive-expanded [] fall = tt
 positive-expanded (p ∷ ps) fall = positive-front p.count p.value (expanded ps) (omega (arith, fall.0)) (positive-expanded ps fall.2)
 
 -- ---- totals
 
--- the sum with one more piece
 pub sum-expanded-push : (ps : List Piece) (p : Piece) → sum (expanded (ps ++ p ∷ [])) ≡ sum (expanded ps) + p.count * p.value
 sum-expanded-push ps p =
     ap sum (expanded-push ps p) ∙ sum_by-append (λ (x : ℕ). x) (expanded ps) (replicate p.count p.value)
     ∙ ap (λ n. sum (expanded ps) + n) (sum_by-replicate (λ (x : ℕ). x) p.count p.value)
 
--- the sum so far, at the piece that is read next
 pub sum_at_piece : (ps : List Piece) (i : ℕ) (d : Piece) → i < length ps
     → (get_or ps i d ≡ get_or ps i d) × (sum (expanded (take (i + 1) ps)) ≡ sum (expanded (take i ps)) + (get_or ps i d).value * (get_or ps i d).count)
 sum_at_piece ps i d h = (refl, omega (arith, ap (λ ps. sum (expanded ps)) (take_more ps i d h), sum-expanded-push (take i ps) (get_or ps i d)))

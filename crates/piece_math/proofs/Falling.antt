@@ -1,4 +1,4 @@
--- Falling lists of positive numbers.
+-- In a falling list each element before index i is at least the element at index i.
 use Rattle.std.proofs.Common.{ℕ, ◌<◌, ◌≤◌, List, length, get_or, take, arith}
 use Rattle.std.specs.List.{All}
 use Rattle.std.proofs.lemmas.Grind.{get_or_default_zero}
@@ -6,7 +6,6 @@ use Rattle.std.proofs.lemmas.List.{get_or-take, length-take}
 use Rattle.degree_sequences.proofs.FallingLists.{falls_to}
 use Rattle.degree_sequences.specs.Falling.{IsFalling}
 
--- each element before a place is at least the element there
 pub at_least_next : (s : List ℕ) → IsFalling s → (i : ℕ) → All (λ x. get_or s i 0 ≤ x) (take i s)
 at_least_next s fall i k d h =
     let short : length (take i s) ≤ i = omega (arith, length-take i s) in

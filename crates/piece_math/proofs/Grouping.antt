@@ -1,4 +1,4 @@
--- A parent's blocks and the weights of their rows, walked side by side.
+-- A walk goes along the blocks of a parent list and along the weights of their rows. An element x of the parent list makes a block of x rows.
 use Rattle.std.proofs.Common.{◌≡◌, ℕ, zero, suc, ◌+◌, ◌-◌, ◌*◌, ◌/◌, ◌^◌, ◌<◌, ◌≤◌, min, List, [], ◌∷◌, ◌++◌, length, get_or, map, take, drop, replicate, refl, ap, sym, ◌∙◌, arith, length-drop, length-append, inl, inr, ◌⊎◌}
 use Rattle.std.specs.List.{AllByRecursion}
 use Rattle.std.proofs.Math.Nat.{mul-le-mul_left}
@@ -24,12 +24,10 @@ use Rattle.piece_math.proofs.Walking.{element_ahead, rest_after, rest_none}
 
 -- ---- sums of blocks
 
--- one sum for each block
 length-block_sums : (g u : List ℕ) → length (block_sums g u) ≡ length g
 length-block_sums [] u = refl
 length-block_sums (x ∷ g) u = ap suc (length-block_sums g (drop x u))
 
--- blocks of falling sizes of falling rows have falling sums
 pub IsFalling-block_sums : (g u : List ℕ) → IsFalling g → IsFalling u → IsFalling (block_sums g u)
 IsFalling-block_sums g u fg fu = IsFalling-from_sums (block_sums g u) (λ r.
     let one : running_sum g r + get_or g r 0 ≡ running_sum g (suc r) = sym (running_sum-suc g r) in
@@ -44,15 +42,13 @@ IsFalling-block_sums g u fg fu = IsFalling-from_sums (block_sums g u) (λ r.
       window u fu (running_sum g r) (running_sum g (suc r)) (get_or g r 0) (get_or g (suc r) 0) (running_sum-mono g r (suc r) (omega arith)) (fg r),
     ))
 
--- the sum of a block
 block_element : (g u : List ℕ) (r v : ℕ) → running_sum u (running_sum g (r + 1)) ≡ running_sum u (running_sum g r) + v → get_or (block_sums g u) r 0 ≡ v
 block_element g u r v h = element_from_sums (block_sums g u) r v (running_sum-block_sums g u (r + 1) ∙ h ∙ ap (λ n. n + v) (sym (running_sum-block_sums g u r)))
 
--- the list that the walk builds
+-- the walk builds the sums of blocks, trimmed (without zeros at the end) and saturated (at most 2 ^ 128 - 1 each)
 abbrev pub grouped_list : List Piece → List Piece → List ℕ
 grouped_list g u = map saturated (trimmed (block_sums (expanded g) (expanded u)))
 
--- its elements, from running sums of the weights
 get_or-grouped : (g u : List Piece) (r v : ℕ) → running_sum (expanded u) (running_sum (expanded g) (r + 1)) ≡ running_sum (expanded u) (running_sum (expanded g) r) + v
     → get_or (grouped_list g u) r 0 ≡ saturated v
 get_or-grouped g u r v h =
@@ -61,14 +57,12 @@ get_or-grouped g u r v h =
 
 -- ---- places within a piece
 
--- further on in a piece its value stays and its count falls
 first_left-more : (ps : List Piece) (i used n : ℕ) → i < length ps
     → ((first_left (drop i ps) (used + n)).value ≡ (first_left (drop i ps) used).value) × ((first_left (drop i ps) (used + n)).count ≡ (first_left (drop i ps) used).count - n)
 first_left-more [] i used n h = absurd (omega arith)
 first_left-more (p ∷ ps) zero used n h = (refl, omega arith)
 first_left-more (p ∷ ps) (suc i) used n h = first_left-more ps i used n (omega arith)
 
--- no run is longer than the rest
 rest_longer : (ps : List Piece) (i used : ℕ) → i < length ps → (first_left (drop i ps) used).count ≤ length (drop used (expanded (drop i ps)))
 rest_longer [] i used h = absurd (omega arith)
 rest_longer (p ∷ ps) zero used h =
@@ -77,11 +71,11 @@ rest_longer (p ∷ ps) (suc i) used h = rest_longer ps i used (omega arith)
 
 -- ---- the walk
 
--- the next block ends beyond the piece of its first row
+-- the next block has more rows than are left in the piece of its first row
 abbrev pub IsMixed : List Piece → List Piece → Place → Place → Type 0
 IsMixed g u at row = (ahead_of u row).count < (ahead_of g at).value
 
--- the list is built as far as the places, with few runs
+-- this is the state of the walk: the list is built up to the places, and it has few runs
 pub record GroupedSoFar (g u : List Piece) (at row : Place) (list : List ℕ) : Type 0 where
   pub rank : ℕ
   pub blocks : rest_from g at ≡ drop rank (expanded g)
@@ -91,7 +85,6 @@ pub record GroupedSoFar (g u : List Piece) (at row : Place) (list : List ℕ) : 
   pub built : list ≡ take rank (grouped_list g u)
   pub few : (runs list ≤ at.at + 2 * row.at) ⊎ ((runs list ≤ at.at + 2 * row.at + 1) × IsMixed g u at row)
 
--- before the first block
 pub grouped_start : (g u : List Piece) → ArePieces g → ArePieces u → GroupedSoFar g u (record { at = 0; used = 0 }) (record { at = 0; used = 0 }) []
 grouped_start g u are_g are_u = record {
   rank = 0;
@@ -104,19 +97,15 @@ grouped_start g u are_g are_u = record {
 }
 
 module _ {g u : List Piece} (are_g : ArePieces g) (are_u : ArePieces u) where
-  -- sums of blocks fall
   falls_blocks : IsFalling (block_sums (expanded g) (expanded u))
   falls_blocks = IsFalling-block_sums (expanded g) (expanded u) (IsFalling-expanded g are_g.falls) (IsFalling-expanded u are_u.falls)
 
-  -- the list falls
   pub grouped_falls : IsFalling (grouped_list g u)
   grouped_falls = IsFalling-saturated (trimmed (block_sums (expanded g) (expanded u))) (IsFalling-trimmed (block_sums (expanded g) (expanded u)) falls_blocks)
 
-  -- is positive
   pub grouped_positive : AllByRecursion (λ x. 0 < x) (grouped_list g u)
   grouped_positive = positive-saturated (trimmed (block_sums (expanded g) (expanded u))) (trimmed_positive (block_sums (expanded g) (expanded u)) falls_blocks)
 
-  -- has no more elements than there are blocks
   grouped_short : length (grouped_list g u) ≤ length (expanded g)
   grouped_short =
       omega (
@@ -126,12 +115,10 @@ module _ {g u : List Piece} (are_g : ArePieces g) (are_u : ArePieces u) where
         length-block_sums (expanded g) (expanded u),
       )
 
-  -- and is short enough
   pub grouped_fits : length (grouped_list g u) < 2 ^ 64
   grouped_fits = omega (arith, grouped_short, are_g.fits)
 
   module _ {at row : Place} {list : List ℕ} (so_far : GroupedSoFar g u at row list) where
-    -- at the end of the blocks or of the rows
     pub grouped_end : (length g ≤ at.at) ⊎ (length u ≤ row.at) → list ≡ grouped_list g u
     grouped_end over = so_far.built ∙ take_all so_far.rank (grouped_list g u) (elim over [
       | inl no_block ↦ omega (arith, grouped_short, rest_none g at so_far.rank so_far.blocks no_block)
@@ -146,19 +133,15 @@ module _ {g u : List Piece} (are_g : ArePieces g) (are_u : ArePieces u) where
           ))))
     ])
 
-    -- equal blocks at a place
     blocks_run : HasRun (expanded g) so_far.rank (ahead_of g at).count (ahead_of g at).value
     blocks_run = record { same = λ k h. element_ahead g at so_far.rank k (ahead_of g at).value so_far.blocks (equal_ahead g at k h) }
 
-    -- equal rows at a place
     rows_run : HasRun (expanded u) (running_sum (expanded g) so_far.rank) (ahead_of u row).count (ahead_of u row).value
     rows_run = record { same = λ k h. element_ahead u row (running_sum (expanded g) so_far.rank) k (ahead_of u row).value so_far.rows (equal_ahead u row k h) }
 
-    -- how many rows these blocks have
     block_rows : (k : ℕ) → k ≤ (ahead_of g at).count → running_sum (expanded g) (so_far.rank + k) ≡ running_sum (expanded g) so_far.rank + k * (ahead_of g at).value
     block_rows k h = running_sum-has_run (expanded g) so_far.rank (ahead_of g at).count (ahead_of g at).value blocks_run k h
 
-    -- fewer blocks are left
     pub grouped_smaller : (inside : at.at < length g) (next : Place) (n : ℕ) → rest_from g next ≡ drop n (rest_from g at) → 0 < n → length (rest_from g next) < length (rest_from g at)
     grouped_smaller inside next n rest some =
         omega (arith, ap length rest, length-drop n (rest_from g at), rest_longer g at.at at.used inside, so_far.block_place.inside)
@@ -166,7 +149,6 @@ module _ {g u : List Piece} (are_g : ArePieces g) (are_u : ArePieces u) where
     -- ---- whole blocks within one run of rows
 
     module _ {count : ℕ} (some_blocks : count ≤ (ahead_of g at).count) (some_rows : (ahead_of g at).value * count ≤ (ahead_of u row).count) where
-      -- whole blocks of equal rows have equal sums
       pub whole_run : HasRun (grouped_list g u) so_far.rank count (saturated ((ahead_of g at).value * (ahead_of u row).value))
       whole_run = record {
         same = λ k h.
@@ -184,7 +166,6 @@ module _ {g u : List Piece} (are_g : ArePieces g) (are_u : ArePieces u) where
             (ap (running_sum U) rows_next ∙ there ∙ omega arith ∙ ap (λ n. n + x * w) (sym here ∙ ap (running_sum U) (sym (block_rows k (omega arith)))));
       }
 
-      -- after them
       pub whole_step : {new : List ℕ} {at' row' : Place} → IsAppended list new (saturated ((ahead_of g at).value * (ahead_of u row).value)) count
           → rest_from g at' ≡ drop count (rest_from g at) → rest_from u row' ≡ drop ((ahead_of g at).value * count) (rest_from u row) → IsPlace g at' → IsPlace u row'
           → (runs new ≤ at'.at + 2 * row'.at) ⊎ ((runs new ≤ at'.at + 2 * row'.at + 1) × IsMixed g u at' row') → GroupedSoFar g u at' row' new
@@ -199,7 +180,6 @@ module _ {g u : List Piece} (are_g : ArePieces g) (are_u : ArePieces u) where
         few = few;
       }
 
-    -- the pieces that whole blocks make
     pub whole_few : (new : List ℕ) (at' row' : Place) (count : ℕ) → at.at < length g → row.at < length u → 0 < (ahead_of g at).value → (ahead_of g at).value ≤ (ahead_of u row).count
         → count ≡ min ((ahead_of u row).count / (ahead_of g at).value) (ahead_of g at).count → runs new ≤ runs list + 1 → at.at ≤ at'.at → row.at ≤ row'.at
         → (at.at < length g → count ≡ (ahead_of g at).count → at'.at ≡ at.at + 1)
@@ -234,7 +214,6 @@ module _ {g u : List Piece} (are_g : ArePieces g) (are_u : ArePieces u) where
 
     -- ---- a block over several runs of rows
 
-    -- the sum of the next block
     pub mixed_run : at.at < length g → HasRun (grouped_list g u) so_far.rank 1 (saturated (running_sum (rest_from u row) (ahead_of g at).value))
     mixed_run in_g = record {
       same = λ k h.
@@ -248,7 +227,6 @@ module _ {g u : List Piece} (are_g : ArePieces g) (are_u : ArePieces u) where
           ∙ ap (λ s. running_sum (expanded u) M + running_sum s x) (sym so_far.rows));
     }
 
-    -- after it
     pub mixed_step : {new : List ℕ} {at' row' : Place} → at.at < length g → IsAppended list new (saturated (running_sum (rest_from u row) (ahead_of g at).value)) 1
         → rest_from g at' ≡ drop 1 (rest_from g at) → rest_from u row' ≡ drop (ahead_of g at).value (rest_from u row) → IsPlace g at' → IsPlace u row'
         → at.at ≤ at'.at → row.at < row'.at → GroupedSoFar g u at' row' new
@@ -263,22 +241,18 @@ module _ {g u : List Piece} (are_g : ArePieces g) (are_u : ArePieces u) where
       few = inl (elim so_far.few [ inl few ↦ omega (arith, put.few) | inr mixed ↦ omega (arith, put.few, mixed.0) ]);
     }
 
--- sizes of blocks are positive
 pub block_positive : (ps : List Piece) (i used : ℕ) → AreRuns ps → i < length ps → 0 < (first_left (drop i ps) used).value
 block_positive [] i used fall h = absurd (omega arith)
 block_positive (p ∷ ps) zero used fall h = omega (arith, fall.0)
 block_positive (p ∷ ps) (suc i) used fall h = block_positive ps i used fall.2 (omega arith)
 
--- how many whole blocks fit into a run
+-- ---- how many whole blocks fit into a run
 
--- a block that is longer than the run
 pub no_whole : (rows x : ℕ) → 0 < x → rows / x ≡ 0 → rows < x
 no_whole rows x pos none = omega (arith, ap (λ n. x * n) none)
 
--- or isn't
 pub some_whole : (rows x : ℕ) → 0 < x → (rows / x ≡ 0 → ⊥) → x ≤ rows
 some_whole rows x pos some = let one : x * 1 ≤ x * (rows / x) = mul-le-mul_left x (omega (arith, some)) in omega (arith, one)
 
--- so many blocks are within the run
 pub whole_rows : (rows x count : ℕ) → 0 < x → count ≤ rows / x → x * count ≤ rows
 whole_rows rows x count pos h = let le : x * count ≤ x * (rows / x) = mul-le-mul_left x h in omega (arith, le)

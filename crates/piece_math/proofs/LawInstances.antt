@@ -1,4 +1,4 @@
--- Each law at small numbers: its premises, all met, and its conclusion.
+-- Each law is applied to small numbers: its premises are all met, and its conclusion follows.
 use Rattle.std.proofs.Common.{ℕ, zero, suc, ◌+◌, ◌*◌, ◌≤◌, List, [], ◌∷◌, refl, arith}
 use Rattle.std.specs.List.{sum_by, range_with_len}
 use Rattle.degree_sequences.specs.ByRank.{rank_product, rank_product_of}
@@ -17,7 +17,6 @@ use Rattle.degree_sequences.proofs.ProductDominates.{rank_product_dominates}
 use Rattle.degree_sequences.proofs.RowWeights.{composed-above}
 use Rattle.degree_sequences.proofs.Scaling.{composed-near}
 
--- a list dominates the degrees that it is the degree list of
 pub dominated : (keys : List ℕ) → DominatesWeights (degree_list keys) (degree keys)
 dominated keys = degrees_dominated (degree_list keys) keys (degree_list_dominates keys)
 
@@ -26,7 +25,6 @@ product =
     rank_product_dominates (2 ∷ 1 ∷ []) (3 ∷ 1 ∷ 1 ∷ []) (degree (7 ∷ 7 ∷ 8 ∷ [])) (degree (7 ∷ 7 ∷ 7 ∷ 8 ∷ 9 ∷ []))
     (IsFalling-degree_list (7 ∷ 7 ∷ 7 ∷ 8 ∷ 9 ∷ [])) (dominated (7 ∷ 7 ∷ 8 ∷ [])) (dominated (7 ∷ 7 ∷ 7 ∷ 8 ∷ 9 ∷ []))
 
--- the child of the composition's instance: its lists, and its keys
 abbrev child_lists : ChildLists
 child_lists = record { column = 2 ∷ 2 ∷ 2 ∷ []; class = 4 ∷ 1 ∷ [] }
 
@@ -49,7 +47,6 @@ keys =
 pub rows : sum_by (weight_of_row (child_keys ∷ [])) (range_with_len 0 6) ≤ root_total (child_lists ∷ []) 6
 rows = root_at_least 6 6 (omega arith) (child_lists ∷ []) (child_keys ∷ []) (child_dominates, tt)
 
--- lists of two or three elements that fall
 pub falls_two : (x y : ℕ) → y ≤ x → IsFalling (x ∷ y ∷ [])
 falls_two x y h = IsFalling-cons x (y ∷ []) h (IsFalling-cons y [] (omega arith) (λ r. omega arith))
 

@@ -1,4 +1,4 @@
--- Where a walk along pieces stands.
+-- These lemmas are about places of a walk along pieces: which elements are ahead of a place, and which place comes next.
 use Rattle.std.proofs.Common.{◌≡◌, ℕ, zero, suc, ◌+◌, ◌-◌, ◌^◌, ◌<◌, ◌≤◌, min, List, [], ◌∷◌, ◌++◌, length, get_or, drop, replicate, refl, ap, sym, ◌∙◌, arith, length-append, zero-add, ◌⊎◌, inl, inr}
 use Rattle.std.proofs.Math.Nat.{suc-add}
 use Rattle.std.proofs.Math.Seq.{drop-nil}
@@ -10,17 +10,15 @@ use Rattle.piece_math.specs.declared.walk.Place.{Place}
 use Rattle.piece_math.specs.Expanded.{expanded, AreRuns, ArePieces}
 use Rattle.piece_math.specs.Places.{rest_from, first_left, ahead_of, IsPlace}
 
--- what is left in two steps
 pub drop-drop : (m n : ℕ) (s : List ℕ) → drop n (drop m s) ≡ drop (m + n) s
 drop-drop zero n s = ap (λ k. drop k s) (sym (zero-add n))
 drop-drop (suc m) n [] = drop-nil n ∙ sym (drop-nil (suc m + n))
 drop-drop (suc m) n (x ∷ s) = drop-drop m n s ∙ ap (λ k. drop k (x ∷ s)) (sym (suc-add m n))
 
--- past the end
+-- Past the last piece a place has 2 ^ 64 - 1 zeros ahead. So a walk along two lists can go on to the end of the longer one.
 pub first_left-end : (ps : List Piece) (i used : ℕ) → length ps ≤ i → first_left (drop i ps) used ≡ record { value = 0; count = 2 ^ 64 - 1 }
 first_left-end ps i used h = rw (drop_all i ps h) refl
 
--- the elements ahead are equal
 equal_first : (ps : List Piece) (used k : ℕ) → k < (first_left ps used).count → get_or (drop used (expanded ps)) k 0 ≡ (first_left ps used).value
 equal_first [] used k h = rw (drop-nil used) refl
 equal_first (p ∷ ps) used k h =
@@ -28,33 +26,28 @@ equal_first (p ∷ ps) used k h =
     ∙ get_or-append (replicate p.count p.value) (expanded ps) 0 (used + k) (omega (arith, length-replicate p.count p.value))
     ∙ get_or-replicate p.count (used + k) p.value 0 (omega arith)
 
--- in a list at a place
 pub equal_ahead : (ps : List Piece) (place : Place) (k : ℕ) → k < (ahead_of ps place).count → get_or (rest_from ps place) k 0 ≡ (ahead_of ps place).value
 equal_ahead ps place k h = equal_first (drop place.at ps) place.used k h
 
 -- ---- the place after
 
--- there are elements at the start of each piece
 some_first : (ps : List Piece) → AreRuns ps → (i : ℕ) → 0 < (first_left (drop i ps) 0).count
 some_first [] fall i = rw (drop-nil i) (omega arith)
 some_first (p ∷ ps) fall zero = omega (arith, fall.1)
 some_first (p ∷ ps) fall (suc i) = some_first ps fall.2 i
 
--- the next piece is a place
 pub IsPlace-next : (ps : List Piece) (i : ℕ) → ArePieces ps → i < length ps → IsPlace ps (record { at = i + 1; used = 0 })
 IsPlace-next ps i are h = record { within = omega arith; inside = some_first ps are.falls (i + 1) }
 
--- and so is the start
 pub IsPlace-start : (ps : List Piece) → ArePieces ps → IsPlace ps (record { at = 0; used = 0 })
 IsPlace-start ps are = record { within = omega arith; inside = some_first ps are.falls 0 }
 
--- no piece is longer than the list
 pub place_fits : (ps : List Piece) (i used n : ℕ) → i < length ps → 0 < (first_left (drop i ps) used).count → n ≤ (first_left (drop i ps) used).count → used + n ≤ length (expanded ps)
 place_fits [] i used n h some le = absurd (omega arith)
 place_fits (p ∷ ps) zero used n h some le = omega (arith, length-append (replicate p.count p.value) (expanded ps), length-replicate p.count p.value)
 place_fits (p ∷ ps) (suc i) used n h some le = omega (arith, place_fits ps i used n (omega arith) some le, length-append (replicate p.count p.value) (expanded ps))
 
--- the shorter stretch ends a piece
+-- The walk passes the shorter of the two runs ahead. So a piece of at least one list ends.
 pub places_onward : (a b : List Piece) (x y x' y' : Place) (n : ℕ) → ArePieces a → ArePieces b → IsPlace a x → IsPlace b y
     → n ≡ min (ahead_of a x).count (ahead_of b y).count → (x.at < length a) ⊎ (y.at < length b) → x.at ≤ x'.at → y.at ≤ y'.at
     → (x.at < length a → n ≡ (ahead_of a x).count → x'.at ≡ x.at + 1) → (y.at < length b → n ≡ (ahead_of b y).count → y'.at ≡ y.at + 1)
@@ -73,11 +66,9 @@ places_onward a b x y x' y' n are_a are_b in_a in_b shorter more stays_a stays_b
   ]
 ]
   where
-    -- zeros without end
     end_count : (ps : List Piece) (z : Place) → length ps ≤ z.at → (ahead_of ps z).count ≡ 2 ^ 64 - 1
     end_count ps z over = ap (λ (p : Piece). p.count) (first_left-end ps z.at z.used over)
 
-    -- no more than 64 bits count
     at_most : (ps : List Piece) (z : Place) → ArePieces ps → IsPlace ps z → (ahead_of ps z).count ≤ 2 ^ 64 - 1
     at_most ps z are place = elim (cases_lt z.at (length ps)) [
       | inl inside ↦ omega (arith, are.fits, place_fits ps z.at z.used (ahead_of ps z).count inside place.inside (omega arith))

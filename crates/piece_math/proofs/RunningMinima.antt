@@ -1,4 +1,4 @@
--- Lists that are known by their running sums, as a walk goes on.
+-- Some lists are given by their running sums, as the lesser of two lists is. These lemmas are about the walk that builds the lesser list.
 use Rattle.std.proofs.Common.{◌≡◌, ℕ, zero, suc, ◌+◌, ◌*◌, ◌^◌, ◌<◌, ◌≤◌, min, max, List, [], ◌∷◌, length, get_or, take, refl, ap, sym, ◌∙◌, subst, sum, arith, add-zero}
 use Rattle.std.specs.List.{AllByRecursion}
 use Rattle.std.proofs.lemmas.List.{take_all}
@@ -18,42 +18,35 @@ use Rattle.piece_math.proofs.Expansion.{IsFalling-expanded}
 use Rattle.piece_math.proofs.Building.{HasRun, run_built, ends_at_zero}
 use Rattle.piece_math.proofs.Walking.{Walked, at_left, at_right, walk_on, walk_start, rest_none}
 
--- an element is a step of the running sums
 pub element_from_sums : (s : List ℕ) (r v : ℕ) → running_sum s (r + 1) ≡ running_sum s r + v → get_or s r 0 ≡ v
 element_from_sums s r v h = let e : r + 1 ≡ suc r = omega arith in omega (arith, running_sum-suc s r, ap (running_sum s) e, h)
 
--- running sums rise by the value of a run
 pub running_sum-has_run : (s : List ℕ) (n c x : ℕ) → HasRun s n c x → (k : ℕ) → k ≤ c → running_sum s (n + k) ≡ running_sum s n + k * x
 running_sum-has_run s n c x run zero h = omega (arith, ap (running_sum s) (add-zero n))
 running_sum-has_run s n c x run (suc k) h =
     let e : n + suc k ≡ suc (n + k) = omega arith in
     omega (arith, ap (running_sum s) e, running_sum-suc s (n + k), run.same k (omega arith), running_sum-has_run s n c x run k (omega arith))
 
--- trimmed lists that fall are positive
 onto_tail : (x : ℕ) (s : List ℕ) → IsFalling (onto x s) → IsFalling s
 onto_tail zero [] fall = λ r. omega arith
 onto_tail zero (y ∷ s) fall = λ r. fall (suc r)
 onto_tail (suc x) s fall = λ r. fall (suc r)
 
--- what stands before positive numbers that fall is positive
 onto_positive : (x : ℕ) (s : List ℕ) → IsFalling (onto x s) → AllByRecursion (λ y. 0 < y) s → AllByRecursion (λ y. 0 < y) (onto x s)
 onto_positive zero [] fall all = tt
 onto_positive zero (y ∷ s) fall all = absurd (omega (arith, fall 0, all.0))
 onto_positive (suc x) s fall all = (omega arith, all)
 
--- so the whole list is
 pub positive-falling_trimmed : (s : List ℕ) → IsFalling (trimmed s) → AllByRecursion (λ y. 0 < y) (trimmed s)
 positive-falling_trimmed [] fall = tt
 positive-falling_trimmed (x ∷ s) fall = onto_positive x (trimmed s) fall (positive-falling_trimmed s (onto_tail x (trimmed s) fall))
 
 -- ---- the lesser of two lists
 
--- the lesser of two falling lists is positive
 positive-lesser : (s t : List ℕ) → IsFalling s → IsFalling t → AllByRecursion (λ y. 0 < y) (lesser s t)
 positive-lesser s t fs ft =
     positive-falling_trimmed (with_running_sums (λ r. min (running_sum s r) (running_sum t r)) (max (length s) (length t))) (IsFalling-lesser s t fs ft)
 
--- it ends where both do
 lesser_ends : (s t : List ℕ) (r : ℕ) → length s ≤ r → length t ≤ r → IsFalling s → IsFalling t → length (lesser s t) ≤ r
 lesser_ends s t r over_s over_t fs ft =
     ends_at_zero (lesser s t) (positive-lesser s t fs ft) r
@@ -68,7 +61,7 @@ lesser_ends s t r over_s over_t fs ft =
       running_sum-past t (r + 1) (omega arith),
     )))
 
--- the lesser list is built as far as the places, at these running sums
+-- this is the state of the walk: the lesser list is built up to the places, and `left_sum` and `right_sum` are the two running sums there
 pub record Lessened (a b : List Piece) (places : Places) (list : List ℕ) (left_sum right_sum : ℕ) : Type 0 where
   pub walked : Walked a b places
   pub left : left_sum ≡ running_sum (expanded a) walked.rank
@@ -76,35 +69,28 @@ pub record Lessened (a b : List Piece) (places : Places) (list : List ℕ) (left
   pub built : list ≡ take walked.rank (lesser (expanded a) (expanded b))
   pub few : runs list ≤ 3 * (places.left.at + places.right.at)
 
--- before the first turn
 pub lesser_start : (a b : List Piece) → ArePieces a → ArePieces b
     → Lessened a b (record { left = record { at = 0; used = 0 }; right = record { at = 0; used = 0 } }) [] 0 0
 lesser_start a b are_a are_b = record { walked = walk_start a b are_a are_b; left = refl; right = refl; built = refl; few = omega arith }
 
 module _ {a b : List Piece} (are_a : ArePieces a) (are_b : ArePieces b) where
-  -- the one list falls
   falls_a : IsFalling (expanded a)
   falls_a = IsFalling-expanded a are_a.falls
 
-  -- and the other
   falls_b : IsFalling (expanded b)
   falls_b = IsFalling-expanded b are_b.falls
 
-  -- the lesser list is short enough
   pub lesser_fits : length (lesser (expanded a) (expanded b)) < 2 ^ 64
   lesser_fits =
       let n : ℕ = max (length (expanded a)) (length (expanded b)) in
       omega (arith, are_a.fits, are_b.fits, lesser_ends (expanded a) (expanded b) n (omega arith) (omega arith) falls_a falls_b)
 
-  -- it falls
   pub lesser_falls : IsFalling (lesser (expanded a) (expanded b))
   lesser_falls = IsFalling-lesser (expanded a) (expanded b) falls_a falls_b
 
-  -- and is positive
   pub lesser_positive : AllByRecursion (λ y. 0 < y) (lesser (expanded a) (expanded b))
   lesser_positive = positive-lesser (expanded a) (expanded b) falls_a falls_b
 
-  -- at the end of both lists
   pub lesser_end : (places : Places) (list : List ℕ) (left_sum right_sum : ℕ) → Lessened a b places list left_sum right_sum → length a ≤ places.left.at → length b ≤ places.right.at
       → list ≡ lesser (expanded a) (expanded b)
   lesser_end places list left_sum right_sum so_far over_a over_b =
@@ -115,28 +101,23 @@ module _ {a b : List Piece} (are_a : ArePieces a) (are_b : ArePieces b) where
       (rest_none b places.right so_far.walked.rank so_far.walked.right over_b) falls_a falls_b)
 
   module _ {places : Places} {list : List ℕ} {left_sum right_sum : ℕ} {turn : Turn} (so_far : Lessened a b places list left_sum right_sum) (t : IsTurn a b places turn) where
-    -- running sums of the one list in a turn
     pub left_rises : (k : ℕ) → k ≤ turn.count → running_sum (expanded a) (so_far.walked.rank + k) ≡ left_sum + k * turn.left
     left_rises k h = omega (arith, so_far.left, running_sum-has_run (expanded a) so_far.walked.rank turn.count turn.left (record { same = at_left t so_far.walked }) k h)
 
-    -- and of the other
     pub right_rises : (k : ℕ) → k ≤ turn.count → running_sum (expanded b) (so_far.walked.rank + k) ≡ right_sum + k * turn.right
     right_rises k h = omega (arith, so_far.right, running_sum-has_run (expanded b) so_far.walked.rank turn.count turn.right (record { same = at_right t so_far.walked }) k h)
 
-    -- the running sums of the lesser list are the lower line
+    -- Along a turn the running sums of both lists are lines. Those of the lesser list are the lower line.
     lower_rises : (k : ℕ) → k ≤ turn.count
         → running_sum (lesser (expanded a) (expanded b)) (so_far.walked.rank + k) ≡ lower_at (record { sum = left_sum; step = turn.left }) (record { sum = right_sum; step = turn.right }) k
     lower_rises k h = omega (arith, running_sum-lesser (expanded a) (expanded b) (so_far.walked.rank + k), left_rises k h, right_rises k h)
 
-    -- they are at most the total
     pub left_fits : left_sum + turn.left * turn.count ≤ sum (expanded a)
     left_fits = omega (arith, left_rises turn.count (omega arith), running_sum-le-sum (expanded a) (so_far.walked.rank + turn.count))
 
-    -- and so are the others
     pub right_fits : right_sum + turn.right * turn.count ≤ sum (expanded b)
     right_fits = omega (arith, right_rises turn.count (omega arith), running_sum-le-sum (expanded b) (so_far.walked.rank + turn.count))
 
-    -- a run of the lower line's rises
     lower_run : (o n v : ℕ) → o + n ≤ turn.count
         → ((k : ℕ) → k < n → lower_at (record { sum = left_sum; step = turn.left }) (record { sum = right_sum; step = turn.right }) (o + k + 1)
         ≡ lower_at (record { sum = left_sum; step = turn.left }) (record { sum = right_sum; step = turn.right }) (o + k) + v)
@@ -164,16 +145,13 @@ module _ {a b : List Piece} (are_a : ArePieces a) (are_b : ArePieces b) where
           subst (λ n. HasRun (lesser (expanded a) (expanded b)) n bend.after.count bend.after.value) e
           (lower_run (bend.before.count + bend.between.count) bend.after.count bend.after.value (omega (arith, bent.counts)) (λ k h. bent.after k h))
 
-      -- after the run before the crossing
       pub built_before : {one : List ℕ} → IsAppended list one bend.before.value bend.before.count → one ≡ take (so_far.walked.rank + bend.before.count) (lesser (expanded a) (expanded b))
       built_before put = run_built so_far.built before_run lesser_positive put
 
-      -- after the element at the crossing
       pub built_between : {one two : List ℕ} → IsAppended list one bend.before.value bend.before.count → IsAppended one two bend.between.value bend.between.count
           → two ≡ take (so_far.walked.rank + bend.before.count + bend.between.count) (lesser (expanded a) (expanded b))
       built_between put1 put2 = run_built (built_before put1) between_run lesser_positive put2
 
-      -- after the turn
       pub lesser_step : {one two new : List ℕ} → IsAppended list one bend.before.value bend.before.count → IsAppended one two bend.between.value bend.between.count
           → IsAppended two new bend.after.value bend.after.count
           → Lessened a b turn.next new (left_sum + turn.left * turn.count) (right_sum + turn.right * turn.count)

@@ -1,4 +1,4 @@
--- The class weights of rows, stretch by stretch.
+-- The class weights of rows are built one run of equal weights after another.
 use Rattle.std.proofs.Common.{◌≡◌, ℕ, zero, suc, ◌+◌, ◌-◌, ◌*◌, ◌<◌, ◌≤◌, List, [], ◌∷◌, ◌++◌, length, get_or, take, drop, replicate, refl, ap, sym, ◌∙◌, sum, arith, zero-add, inl, inr, eqb, cond}
 use Rattle.std.specs.List.{AllByRecursion, range_with_len}
 use Rattle.std.proofs.Math.Nat.{mul-one, suc-mul, zero-mul}
@@ -29,16 +29,13 @@ use Rattle.piece_math.proofs.Walking.{Walked, at_left, at_right, walk_on, walk_s
 
 -- ---- elements of trimmed lists
 
--- trimming leaves each element
 pub get_or-trimmed : (s : List ℕ) (r : ℕ) → get_or (trimmed s) r 0 ≡ get_or s r 0
 get_or-trimmed s r = omega (arith, running_sum-suc s r, running_sum-suc (trimmed s) r, running_sum-trimmed s r, running_sum-trimmed s (suc r))
 
--- and makes no list longer
 pub length-trimmed-le : (s : List ℕ) → length (trimmed s) ≤ length s
 length-trimmed-le [] = omega arith
 length-trimmed-le (x ∷ s) = omega (arith, onto_longer x (trimmed s), length-trimmed-le s)
   where
-    -- by at most one
     onto_longer : (x : ℕ) (s : List ℕ) → length (onto x s) ≤ suc (length s)
     onto_longer zero [] = omega arith
     onto_longer zero (y ∷ s) = omega arith
@@ -46,17 +43,14 @@ length-trimmed-le (x ∷ s) = omega (arith, onto_longer x (trimmed s), length-tr
 
 -- ---- the rows from a rank on
 
--- past a run
 drop-run_more : (x w m : ℕ) (s : List ℕ) → drop (x + m) (replicate x w ++ s) ≡ drop m s
 drop-run_more zero w m s = ap (λ k. drop k s) (zero-add m)
 drop-run_more (suc x) w m s = let e : suc x + m ≡ suc (x + m) = omega arith in rw e (drop-run_more x w m s)
 
--- past one element more
 drop-tail_of : (n : ℕ) (v : List ℕ) → drop n (tail_of v) ≡ drop (suc n) v
 drop-tail_of n [] = drop-nil n
 drop-tail_of n (y ∷ v) = refl
 
--- the rows of the first ranks passed
 drop-spread : (n : ℕ) (g v : List ℕ) → drop (running_sum g n) (spread g v) ≡ spread (drop n g) (drop n v)
 drop-spread zero g v = refl
 drop-spread (suc n) [] v = refl
@@ -65,7 +59,6 @@ drop-spread (suc n) (x ∷ g) v =
     ∙ drop-spread n g (tail_of v)
     ∙ ap (spread (drop n g)) (drop-tail_of n v)
 
--- where both lists stay the same, so do the rows
 first_rows : (c x y : ℕ) (g v : List ℕ) → ((k : ℕ) → k < c → get_or g k 0 ≡ x) → ((k : ℕ) → k < c → get_or v k 0 ≡ y)
     → (k : ℕ) → k < c * x → get_or (spread g v) k 0 ≡ y
 first_rows zero x y g v same_g same_v k h = absurd (omega (arith, zero-mul x))
@@ -79,24 +72,20 @@ first_rows (suc c) x y (z ∷ g) v same_g same_v k h =
           (k - z) (omega (arith, suc-mul c x))
     ]
 
--- trimmed falling lists fall
 pub IsFalling-trimmed : (s : List ℕ) → IsFalling s → IsFalling (trimmed s)
 IsFalling-trimmed s fall r = omega (arith, fall r, get_or-trimmed s r, get_or-trimmed s (suc r))
 
 -- ---- the row weights of one child
 
--- lists of one length with the same elements are the same
 pub same_list : (s t : List ℕ) → length s ≡ length t → ((r : ℕ) → r < length s → get_or s r 0 ≡ get_or t r 0) → s ≡ t
 same_list [] [] len same = refl
 same_list [] (y ∷ t) len same = absurd (omega arith)
 same_list (x ∷ s) [] len same = absurd (omega arith)
 same_list (x ∷ s) (y ∷ t) len same = let e : x ≡ y = same 0 (omega arith) in rw (e, same_list s t (omega arith) (λ r h. same (suc r) (omega arith))) refl
 
--- there is a weight for each row
 pub length-row_weights : (cs : List ChildLists) (n : ℕ) → length (row_weights cs n) ≡ n
 length-row_weights cs n = length-map (range_with_len 1 n) (weight_by_rank cs) ∙ length-range_with_len 1 n
 
--- they are the class spread over the column
 pub spread-row_weights : (c : ChildLists) → spread c.column c.class ≡ row_weights (c ∷ []) (sum c.column)
 spread-row_weights c = same_list (spread c.column c.class) (row_weights (c ∷ []) (sum c.column))
     (length-spread c.column c.class ∙ sym (length-row_weights (c ∷ []) (sum c.column)))
@@ -106,22 +95,18 @@ spread-row_weights c = same_list (spread c.column c.class) (row_weights (c ∷ [
 
 -- ---- runs
 
--- zeros in front of nothing are nothing
 trimmed-zeros : (n : ℕ) (s : List ℕ) → trimmed s ≡ [] → trimmed (replicate n 0 ++ s) ≡ []
 trimmed-zeros zero s h = h
 trimmed-zeros (suc n) s h = rw (trimmed-zeros n s h) refl
 
--- no class weighs nothing
 trimmed-spread_nil : (g : List ℕ) → trimmed (spread g []) ≡ []
 trimmed-spread_nil [] = refl
 trimmed-spread_nil (x ∷ g) = trimmed-zeros x (spread g []) (trimmed-spread_nil g)
 
--- a positive run stays
 pub trimmed-front : (n h : ℕ) (s : List ℕ) → 0 < h → trimmed (replicate n h ++ s) ≡ replicate n h ++ trimmed s
 trimmed-front zero h s pos = refl
 trimmed-front (suc n) h s pos = ap (onto h) (trimmed-front n h s pos) ∙ onto-pos h (replicate n h ++ trimmed s) pos
 
--- a run in front
 runs_after-front-le : (b n h : ℕ) (s : List ℕ) → runs_after b (replicate (suc n) h ++ s) ≡ cond (eqb h b) 0 1 + runs_after h s
 runs_after-front-le b zero h s = refl
 runs_after-front-le b (suc n) h s =
@@ -129,7 +114,6 @@ runs_after-front-le b (suc n) h s =
     let same : cond {A = ℕ} (eqb h h) 0 1 ≡ 0 = rw (eq-eqb h h refl) refl in
     omega (arith, ih, same)
 
--- rows have at most one run for each run of the class
 pub runs_after-spread : (b : ℕ) (g v : List ℕ) → AllByRecursion (λ x. 0 < x) v → runs_after b (trimmed (spread g v)) ≤ runs_after b v
 runs_after-spread b [] v pos = omega arith
 runs_after-spread b (x ∷ g) [] pos = rw (trimmed-spread_nil (x ∷ g)) (omega arith)
@@ -142,12 +126,11 @@ runs_after-spread b (suc x ∷ g) (h ∷ v) pos =
 
 -- ---- the walk
 
--- the rows are built as far as the places
+-- this is the state of the walk: the weights are built up to the rows of the places
 pub record SpreadSoFar (a b : List Piece) (places : Places) (list : List ℕ) : Type 0 where
   pub walked : Walked a b places
   pub built : list ≡ take (running_sum (expanded a) walked.rank) (trimmed (spread (expanded a) (expanded b)))
 
--- before the first turn
 pub spread_start : (a b : List Piece) → ArePieces a → ArePieces b → SpreadSoFar a b (record { left = record { at = 0; used = 0 }; right = record { at = 0; used = 0 } }) []
 spread_start a b are_a are_b = record { walked = walk_start a b are_a are_b; built = refl }
 
@@ -161,7 +144,6 @@ module _ {a b : List Piece} (are_a : ArePieces a) (are_b : ArePieces b) {places 
   pub spread_short : length (trimmed (spread (expanded a) (expanded b))) ≤ sum (expanded a)
   spread_short = omega (arith, length-trimmed-le (spread (expanded a) (expanded b)), length-spread (expanded a) (expanded b))
 
-  -- at the end of the column
   pub spread_end : length a ≤ places.left.at → list ≡ trimmed (spread (expanded a) (expanded b))
   spread_end over =
       so_far.built
@@ -169,15 +151,12 @@ module _ {a b : List Piece} (are_a : ArePieces a) (are_b : ArePieces b) {places 
       (omega (arith, spread_short, running_sum-past (expanded a) so_far.walked.rank (rest_none a places.left so_far.walked.rank so_far.walked.left over)))
 
   module _ {turn : Turn} (t : IsTurn a b places turn) where
-    -- the rows of a turn
     rises : running_sum (expanded a) (so_far.walked.rank + turn.count) ≡ running_sum (expanded a) so_far.walked.rank + turn.count * turn.left
     rises = running_sum-has_run (expanded a) so_far.walked.rank turn.count turn.left (record { same = at_left t so_far.walked }) turn.count (omega arith)
 
-    -- they are at most all rows
     pub rows_fit : turn.left * turn.count ≤ sum (expanded a)
     rows_fit = omega (arith, rises, running_sum-le-sum (expanded a) (so_far.walked.rank + turn.count))
 
-    -- they weigh the same
     pub spread_run : HasRun (trimmed (spread (expanded a) (expanded b))) (running_sum (expanded a) so_far.walked.rank) (turn.left * turn.count) turn.right
     spread_run = record {
       same = λ k h.
@@ -190,7 +169,6 @@ module _ {a b : List Piece} (are_a : ArePieces a) (are_b : ArePieces b) {places 
           k (omega arith);
     }
 
-    -- after a turn
     pub spread_step : {new : List ℕ} → IsAppended list new turn.right (turn.left * turn.count) → SpreadSoFar a b turn.next new
     spread_step put = record {
       walked = walk_on t so_far.walked;

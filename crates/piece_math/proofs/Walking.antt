@@ -1,4 +1,4 @@
--- A walk along two lists, rank by rank.
+-- A walk goes along two lists rank by rank. Its two places are at the same rank.
 use Rattle.std.proofs.Common.{◌≡◌, ℕ, ◌+◌, ◌<◌, ◌≤◌, List, [], length, get_or, drop, refl, ap, sym, ◌∙◌, arith, length-drop}
 use Rattle.std.proofs.lemmas.List.{get_or-drop, drop_all}
 use Rattle.std.proofs.Math.Seq.{drop-nil}
@@ -10,7 +10,6 @@ use Rattle.piece_math.specs.Expanded.{expanded, ArePieces}
 use Rattle.piece_math.specs.Places.{rest_from, IsPlace, IsTurn}
 use Rattle.piece_math.proofs.Places.{drop-drop, IsPlace-start}
 
--- the places of two lists at one rank
 pub record Walked (a b : List Piece) (places : Places) : Type 0 where
   pub rank : ℕ
   pub left : rest_from a places.left ≡ drop rank (expanded a)
@@ -18,7 +17,6 @@ pub record Walked (a b : List Piece) (places : Places) : Type 0 where
   pub left_place : IsPlace a places.left
   pub right_place : IsPlace b places.right
 
--- both walks start at one rank
 abbrev pub walk_start : (a b : List Piece) → ArePieces a → ArePieces b → Walked a b (record { left = record { at = 0; used = 0 }; right = record { at = 0; used = 0 } })
 walk_start a b are_a are_b = record {
   rank = 0;
@@ -28,23 +26,19 @@ walk_start a b are_a are_b = record {
   right_place = IsPlace-start b are_b;
 }
 
--- the element of a list at a rank, from the rest of the list at an earlier one
 pub element_ahead : (ps : List Piece) (place : Place) (n k x : ℕ) → rest_from ps place ≡ drop n (expanded ps) → get_or (rest_from ps place) k 0 ≡ x → get_or (expanded ps) (n + k) 0 ≡ x
 element_ahead ps place n k x at_n same = sym (get_or-drop n (expanded ps) k 0) ∙ ap (λ (s : List ℕ). get_or s k 0) (sym at_n) ∙ same
 
--- the rest of a list further on
 pub rest_after : (ps : List Piece) (place next : Place) (n c : ℕ) → rest_from ps place ≡ drop n (expanded ps) → rest_from ps next ≡ drop c (rest_from ps place)
     → rest_from ps next ≡ drop (n + c) (expanded ps)
 rest_after ps place next n c at_n after = after ∙ ap (drop c) at_n ∙ drop-drop n c (expanded ps)
 
--- at the end of the pieces nothing is left
 pub rest_none : (ps : List Piece) (place : Place) (n : ℕ) → rest_from ps place ≡ drop n (expanded ps) → length ps ≤ place.at → length (expanded ps) ≤ n
 rest_none ps place n at_n ended =
     let nothing : rest_from ps place ≡ [] = rw (drop_all place.at ps ended) (drop-nil place.used) in
     omega (arith, length-drop n (expanded ps), ap length at_n, ap length nothing)
 
 module _ {a b : List Piece} {places : Places} {turn : Turn} (t : IsTurn a b places turn) (w : Walked a b places) where
-  -- a turn leads both to one rank
   abbrev pub walk_on : Walked a b turn.next
   walk_on = record {
     rank = w.rank + turn.count;
@@ -54,10 +48,8 @@ module _ {a b : List Piece} {places : Places} {turn : Turn} (t : IsTurn a b plac
     right_place = t.next_right;
   }
 
-  -- the elements that it passes in the one list
   pub at_left : (k : ℕ) → k < turn.count → get_or (expanded a) (w.rank + k) 0 ≡ turn.left
   at_left k h = element_ahead a places.left w.rank k turn.left w.left (t.equal_left k h)
 
-  -- and in the other
   pub at_right : (k : ℕ) → k < turn.count → get_or (expanded b) (w.rank + k) 0 ≡ turn.right
   at_right k h = element_ahead b places.right w.rank k turn.right w.right (t.equal_right k h)

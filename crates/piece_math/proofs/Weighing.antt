@@ -1,4 +1,4 @@
--- The weights of rows, child by child.
+-- The weights of rows are computed child by child. Each child multiplies the weight of a row.
 use Rattle.std.proofs.Common.{◌≡◌, ℕ, zero, suc, ◌+◌, ◌-◌, ◌*◌, ◌^◌, ◌<◌, ◌≤◌, cond, eqb, List, [], ◌∷◌, ◌++◌, length, get_or, map, take, replicate, refl, ap, sym, ◌∙◌, subst, sum, arith, inl, inr}
 use Rattle.std.specs.List.{AllByRecursion}
 use Rattle.std.proofs.Math.Nat.{one-mul, mul_assoc}
@@ -23,7 +23,6 @@ use Rattle.piece_math.specs.Expanded.{IsAppended}
 use Rattle.piece_math.proofs.Combining.{positive-rank_product}
 use Rattle.piece_math.proofs.Spreading.{get_or-trimmed, length-trimmed-le, length-row_weights, same_list, trimmed-front}
 
--- lists of positive numbers with the same elements are the same
 same_by_elements : (s t : List ℕ) → AllByRecursion (λ x. 0 < x) s → AllByRecursion (λ x. 0 < x) t → ((r : ℕ) → get_or s r 0 ≡ get_or t r 0) → s ≡ t
 same_by_elements [] [] ps pt same = refl
 same_by_elements [] (y ∷ t) ps pt same = absurd (omega (arith, same 0, pt.0))
@@ -32,7 +31,6 @@ same_by_elements (x ∷ s) (y ∷ t) ps pt same =
     let e : x ≡ y = same 0 in
     rw (e, same_by_elements s t ps.1 pt.1 (λ r. same (suc r))) refl
 
--- saturation of one factor doesn't show
 saturated-rank_product_left : (s t : List ℕ) → map saturated (rank_product (map saturated s) t) ≡ map saturated (rank_product s t)
 saturated-rank_product_left [] t = refl
 saturated-rank_product_left (x ∷ s) [] = refl
@@ -42,18 +40,15 @@ saturated-rank_product_left (x ∷ s) (y ∷ t) =
 
 -- ---- one more child
 
--- the weight of a row with one more child
 weight_by_rank-push : (cs : List ChildLists) (c : ChildLists) (t : ℕ) → weight_by_rank (cs ++ c ∷ []) t ≡ weight_by_rank cs t * weight_by_rank (c ∷ []) t
 weight_by_rank-push [] c t = sym (one-mul (weight_by_rank (c ∷ []) t))
 weight_by_rank-push (d ∷ cs) c t =
     ap (λ n. get_or d.class (rank d.column t - 1) 0 * n) (weight_by_rank-push cs c t)
     ∙ sym (mul_assoc (get_or d.class (rank d.column t - 1) 0) (weight_by_rank cs t) (weight_by_rank (c ∷ []) t))
 
--- past the last row
 get_or-row_weights_past : (cs : List ChildLists) (n r : ℕ) → n ≤ r → get_or (row_weights cs n) r 0 ≡ 0
 get_or-row_weights_past cs n r h = get_or_past (row_weights cs n) r 0 (omega (arith, length-row_weights cs n))
 
--- row weights fall
 IsFalling-row_weights : (n : ℕ) (cs : List ChildLists) → AllByRecursion (IsChildOf n) cs → IsFalling (row_weights cs n)
 IsFalling-row_weights n cs all r = elim (cases_lt (suc r) n) [
   | inl inside ↦ omega (
@@ -67,12 +62,10 @@ IsFalling-row_weights n cs all r = elim (cases_lt (suc r) n) [
   | inr past ↦ omega (arith, get_or-row_weights_past cs n (suc r) past)
 ]
 
--- a fact on one more child
 AllByRecursion-push : (P : ChildLists → Type 0) (cs : List ChildLists) (c : ChildLists) → AllByRecursion P cs → P c → AllByRecursion P (cs ++ c ∷ [])
 AllByRecursion-push P [] c all h = (h, tt)
 AllByRecursion-push P (d ∷ cs) c all h = (all.0, AllByRecursion-push P cs c all.1 h)
 
--- the weights of one child more are a product
 rank_product-row_weights : (n : ℕ) (cs : List ChildLists) (c : ChildLists) → AllByRecursion (IsChildOf n) cs → IsChildOf n c
     → rank_product (trimmed (row_weights cs n)) (trimmed (row_weights (c ∷ []) n)) ≡ trimmed (row_weights (cs ++ c ∷ []) n)
 rank_product-row_weights n cs c all one =
@@ -84,7 +77,6 @@ rank_product-row_weights n cs c all one =
     (λ r. get_or-rank_product (trimmed (row_weights cs n)) (trimmed (row_weights (c ∷ []) n)) r
     ∙ rw (get_or-trimmed (row_weights cs n) r, get_or-trimmed (row_weights (c ∷ []) n) r, get_or-trimmed (row_weights (cs ++ c ∷ []) n) r) (at r))
   where
-    -- at each row
     at : (r : ℕ) → get_or (row_weights cs n) r 0 * get_or (row_weights (c ∷ []) n) r 0 ≡ get_or (row_weights (cs ++ c ∷ []) n) r 0
     at r = elim (cases_lt r n) [
       | inl inside ↦ rw (get_or-row_weights cs n r inside, get_or-row_weights (c ∷ []) n r inside, get_or-row_weights (cs ++ c ∷ []) n r inside)
@@ -92,29 +84,24 @@ rank_product-row_weights n cs c all one =
       | inr past ↦ rw (get_or-row_weights_past cs n r past, get_or-row_weights_past (c ∷ []) n r past, get_or-row_weights_past (cs ++ c ∷ []) n r past) refl
     ]
 
--- ---- no child
+-- ---- without children
 
--- ones are small
 saturated-ones : (n : ℕ) → map saturated (replicate n 1) ≡ replicate n 1
 saturated-ones zero = refl
 saturated-ones (suc n) = ap (λ (s : List ℕ). 1 ∷ s) (saturated-ones n)
 
--- without children each row weighs one
 pub row_weights-none : (n : ℕ) → row_weights [] n ≡ replicate n 1
 row_weights-none n = same_list (row_weights [] n) (replicate n 1) (length-row_weights [] n ∙ sym (length-replicate n 1))
     (λ r h. let within : r < n = omega (arith, length-row_weights [] n) in get_or-row_weights [] n r within ∙ sym (get_or-replicate n r 1 0 within))
 
--- no one is left out
 trimmed-ones : (n : ℕ) → trimmed (replicate n 1) ≡ replicate n 1
 trimmed-ones n = ap trimmed (sym (append-nil (replicate n 1))) ∙ trimmed-front n 1 [] (omega arith) ∙ append-nil (replicate n 1)
 
--- so the weights are ones
 pub weights-none : (n : ℕ) → map saturated (trimmed (row_weights [] n)) ≡ replicate n 1
 weights-none n = ap (λ s. map saturated (trimmed s)) (row_weights-none n) ∙ ap (map saturated) (trimmed-ones n) ∙ saturated-ones n
 
 -- ---- runs
 
--- saturation makes no new runs
 runs_after-saturated : (b : ℕ) (s : List ℕ) → runs_after (saturated b) (map saturated s) ≤ runs_after b s
 runs_after-saturated b [] = omega arith
 runs_after-saturated b (x ∷ s) = cond_both (eqb x b) 0 1 (λ n. cond (eqb (saturated x) (saturated b)) 0 1 + runs_after (saturated x) (map saturated s) ≤ n + runs_after x s)
@@ -122,19 +109,17 @@ runs_after-saturated b (x ∷ s) = cond_both (eqb x b) 0 1 (λ n. cond (eqb (sat
     (λ e. cond_both (eqb (saturated x) (saturated b)) 0 1 (λ n. n + runs_after (saturated x) (map saturated s) ≤ 1 + runs_after x s)
     (λ e. omega (arith, runs_after-saturated x s)) (λ e. omega (arith, runs_after-saturated x s)))
 
--- saturated lists have no more runs
 pub runs-saturated : (s : List ℕ) → runs (map saturated s) ≤ runs s
 runs-saturated s = runs_after-saturated 0 s
 
--- ---- the loop
+-- ---- the loop over the children
 
--- the weights by the first i children
+-- this is the state of the loop: `weights` has the weights by the first i children
 pub record WeightsSoFar (cs : List Child) (rows i : ℕ) (weights : List ℕ) : Type 0 where
   pub lists : AllByRecursion (IsChildOf rows) (map lists_of (take i cs))
   pub value : weights ≡ map saturated (trimmed (row_weights (map lists_of (take i cs)) rows))
   pub few : 0 < i → runs weights ≤ class_runs (take i cs)
 
--- by none
 pub weights_start : (cs : List Child) (rows : ℕ) {list : List ℕ} → IsAppended [] list 1 rows → WeightsSoFar cs rows 0 list
 weights_start cs rows put = record {
   lists = tt;
@@ -142,7 +127,6 @@ weights_start cs rows put = record {
   few = λ h. absurd (omega arith);
 }
 
--- by one more
 pub weights_step : (cs : List Child) (rows i : ℕ) (weights own new : List ℕ) (c : Child) → i < length cs → c ≡ get_or cs i c → sum c.column ≡ rows
     → IsChildOf (sum c.column) (lists_of c) → own ≡ trimmed (row_weights (lists_of c ∷ []) (sum c.column)) → runs own ≤ runs c.class
     → new ≡ map saturated (rank_product weights own) → runs new ≤ runs weights + runs own → WeightsSoFar cs rows i weights → WeightsSoFar cs rows (i + 1) new
@@ -169,17 +153,14 @@ weights_step cs rows i weights own new c h at total lists own_is own_few new_is 
 
 -- ---- totals
 
--- the total of saturated numbers
 sum-saturated : (s : List ℕ) → saturated (sum (map saturated s)) ≡ saturated (sum s)
 sum-saturated s =
     ap saturated (sym (running_sum-past (map saturated s) (length s) (omega (arith, length-map s saturated))))
     ∙ saturated-running_sum s (length s)
     ∙ ap saturated (running_sum-past s (length s) (omega arith))
 
--- zeros add nothing
 sum-trimmed : (s : List ℕ) → sum (trimmed s) ≡ sum s
 sum-trimmed s = sym (running_sum-past (trimmed s) (length s) (length-trimmed-le s)) ∙ running_sum-trimmed s (length s) ∙ running_sum-past s (length s) (omega arith)
 
--- the total of saturated weights
 pub total-weights : (s : List ℕ) → saturated (sum (map saturated (trimmed s))) ≡ saturated (sum s)
 total-weights s = sum-saturated (trimmed s) ∙ ap saturated (sum-trimmed s)

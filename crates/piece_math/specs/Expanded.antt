@@ -23,7 +23,7 @@ pub record ArePieces (ps : List Piece) : Type 0 where
   pub falls : AreRuns ps
   pub fits : length (expanded ps) < 2 ^ 64
 
--- `new` is `old` with `count` more elements of this value, or `old` itself if the value is 0. It has at most one run more
+-- `new` is `old` with `count` more elements of this value, or `old` itself if the value is 0. `new` has at most one run more than `old`
 pub record IsAppended (old new : List ℕ) (value count : ℕ) : Type 0 where
   pub some : 0 < value → new ≡ old ++ replicate count value
   pub zeros : value ≡ 0 → new ≡ old

@@ -10,7 +10,7 @@ use Rattle.piece_math.specs.Expanded.{expanded}
 abbrev pub rest_from : List Piece → Place → List ℕ
 rest_from ps place = drop place.used (expanded (drop place.at ps))
 
--- what is left of the first piece. Past the end of a list it is a piece of 2 ^ 64 - 1 zeros
+-- the first piece without its first `used` elements. At the end of a list it is a piece of 2 ^ 64 - 1 zeros
 abbrev pub first_left : List Piece → ℕ → Piece
 first_left [] used = record { value = 0; count = 2 ^ 64 - 1 }
 first_left (p ∷ ps) used = record { value = p.value; count = p.count - used }
@@ -24,7 +24,7 @@ pub record IsPlace (ps : List Piece) (place : Place) : Type 0 where
   pub within : place.at ≤ length ps
   pub inside : 0 < (ahead_of ps place).count
 
--- a turn of two walks: the next ranks, on which neither list changes. It uses up a piece of at least one list
+-- a turn of a walk along two lists: the next ranks on which neither list changes. The turn uses up a piece of at least one list
 pub record IsTurn (a b : List Piece) (places : Places) (turn : Turn) : Type 0 where
   pub some : 0 < turn.count
   pub equal_left : (k : ℕ) → k < turn.count → slice_index (rest_from a places.left) k ≡ turn.left

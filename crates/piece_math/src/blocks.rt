@@ -1,4 +1,4 @@
-//! Composition: the weights of rows are summed by the blocks of a parent list.
+//! Composition: the weights of rows are summed by blocks. An element x of the parent list makes a block of the next x rows.
 ghost use Rattle.std.specs.Prelude.{◌≡◌, ◌+◌, ◌*◌, ◌^◌, ◌<◌, ◌≤◌, drop, length, map, IfOk};
 ghost use Rattle.std.specs.List.{All, sum};
 ghost use Rattle.degree_sequences.specs.Composition.{block_sums, composed};
@@ -16,7 +16,7 @@ use crate::weights::{Child, row_weights};
 use base_io::NoMemory;
 use std::alloc::Global;
 
-// The sum of the weights of one block, and the place after it.
+// The sum of the weights of one block, and the place after the block.
 #[derive(Clone, Copy)]
 struct Block {
     sum: u128,

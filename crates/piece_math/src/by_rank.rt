@@ -50,7 +50,7 @@ fn combine(how: Combination, left: &Pieces, right: &Pieces) -> Result<Pieces, No
 }
 
 impl Pieces {
-    /// The product of the two numbers of each rank. It ends with the shorter list.
+    /// The product of the two numbers of each rank. The result is as long as the shorter list.
     pub fn product(&self, other: &Pieces) -> Result<Pieces, NoMemory>
         ensures value { IfOk result (λ list. list ≡ map saturated (rank_product self.now other.now)) }
         ensures few_pieces { IfOk result (λ list. runs list ≤ runs self.now + runs other.now) }

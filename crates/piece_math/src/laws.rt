@@ -1,8 +1,8 @@
 //! Why bounds are safe: five laws of falling lists.
 //!
-//! Lists have natural numbers of any size, and a list is 0 past its end. Each law says which lists have to fall.
-//! A domination holds of any different keys, in any order. No law computes anything: the bodies are empty, and the
-//! contract is the law. Products and compositions of dominating lists are from Degree Sequence Bound (ICDT 2023).
+//! Lists have natural numbers of any size, and a list is 0 past its end. Each law says which lists have to fall. Domination is a statement about any
+//! different keys, in any order. No law computes anything: the bodies are empty, and the contract is the law. Products and compositions of dominating
+//! lists are from Degree Sequence Bound (ICDT 2023).
 ghost use Rattle.std.specs.Prelude.{◌≡◌, ℕ, ◌+◌, ◌*◌, ◌≤◌, List, [], ◌∷◌, length, map};
 ghost use Rattle.std.specs.List.{AllByRecursion, AllZip, sum, sum_by, range_with_len};
 ghost use Rattle.degree_sequences.specs.ByRank.{rank_product, rank_product_of};
@@ -21,9 +21,9 @@ pub fn product_dominates()
         → DominatesWeights s v → DominatesWeights t w → DominatesWeights (rank_product s t) (λ a. v a * w a) }
 {}
 
-/// Composition dominates, for rows that have a parent key and a key for each child. Its lists dominate the parent
-/// keys, the keys of each child, and the class weights of each child's keys. The lists of keys may have different
-/// sums: each sum is at least the number of rows, because the list dominates.
+/// Composition dominates, for rows that have a parent key and a key for each child. The lists that are composed dominate the parent keys, the keys of
+/// each child, and the class weights of each child's keys. The lists of keys may have different sums: each sum is at least the number of rows,
+/// because the list dominates.
 pub fn compose_dominates()
     // the composition dominates the weights that the rows give to the parent keys
     ensures keys { (parent parent_keys : List ℕ) (lists : List ChildLists) (children : List ChildKeys)
@@ -51,10 +51,10 @@ pub fn compose_is_monotone()
         → IsAbove (composed parent children) (composed lower_parent lower) }
 {}
 
-/// Composition scales. Suppose that K times each running sum of the near parent list is at most K + 1 times that of
-/// the exact one, and the same for the columns. For each class list two other numbers take the place of K and K + 1.
-/// Then the same holds of the compositions: with the product of K and the first numbers of all class lists, and with
-/// the product of K + 1 and their second numbers. Only the near columns need to fall.
+/// Composition scales. Suppose that K times each running sum of the near parent list is at most K + 1 times the running sum of the exact one, and
+/// likewise for the columns. Suppose the same for the class lists, but with two numbers of each child, its scale and its factor, in place of K and K
+/// + 1. Then it is so for the compositions too: with K times the product of all scales in place of K, and K + 1 times the product of all factors in
+/// place of K + 1. Only the near columns need to fall.
 pub fn compose_scales()
     ensures { (accuracy : ℕ) (parent exact_parent : List ℕ) (children : List MatchedChild)
         → SumsAreWithin accuracy (accuracy + 1) parent exact_parent → AllByRecursion (IsNear accuracy) children

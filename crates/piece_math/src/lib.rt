@@ -4,8 +4,8 @@
 //! time of an operation depends on the number of pieces and never on the number of ranks (Degree Sequence Bound, ICDT 2023;
 //! SafeBound, SIGMOD 2023). Statistics are pieces, and the bounds that are made of them are totals.
 //!
-//! Contracts see a `Pieces` as the list that it stands for. Callers cite `expanded` for the list of a slice of
-//! pieces, and `runs` for the number of pieces of a list.
+//! Contracts speak of a `Pieces` as the list that its pieces stand for. Callers cite `expanded` for the list of a slice of pieces, and `runs` for the
+//! number of pieces of a list.
 //!
 //! ```text
 //! let degrees = Pieces::from_list(alloc, &[4, 4, 1])?;        // pieces (4, 2), (1, 1)

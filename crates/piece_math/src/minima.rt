@@ -9,7 +9,7 @@ use crate::pieces::{Piece, Pieces};
 use crate::walk::{Places, START, next_turn};
 use base_io::NoMemory;
 
-// The running sums of a list while its elements stay equal.
+// A line: the running sums of a list along equal elements. It begins at `sum` and rises by `step` at each rank.
 #[derive(Clone, Copy)]
 struct Line {
     sum: u128,
@@ -24,7 +24,7 @@ struct Bend {
     after: Piece,
 }
 
-// The lower of two lines, where `low` doesn't begin above `high`. If `low` is steeper, they may cross once, within one rank.
+// The lower of two lines, if `low` doesn't begin above `high`. If `low` is steeper, the lines may cross once, within one rank.
 fn crossing(low: Line, high: Line, count: u64) -> Bend
     requires { low.sum ≤ high.sum }
     ensures { IsBend low high count result }
@@ -64,7 +64,7 @@ fn crossing(low: Line, high: Line, count: u64) -> Bend
     }
 }
 
-// The lower of two lines, whichever begins below.
+// The lower of two lines, whichever of them begins below the other.
 fn lower_line(left: Line, right: Line, count: u64) -> Bend
     ensures { IsBend left right count result }
 {
@@ -76,7 +76,7 @@ fn lower_line(left: Line, right: Line, count: u64) -> Bend
 }
 
 impl Pieces {
-    /// The list whose running sums are the minima of those of both lists.
+    /// The list whose running sum at each rank is the lesser of the two lists' running sums.
     pub fn lesser(&self, other: &Pieces) -> Result<Pieces, NoMemory>
         requires own_total { sum self.now < 2 ^ 128 }
         requires other_total { sum other.now < 2 ^ 128 }
@@ -113,7 +113,7 @@ impl Pieces {
         Ok(list)
     }
 
-    /// The list whose running sums are the minima of those of this list and `n`.
+    /// The list whose running sum at each rank is the lesser of this list's running sum and `n`.
     pub fn cap(&self, n: u64) -> Result<Pieces, NoMemory>
         ensures value { IfOk result (λ list. list ≡ cut_at self.now n) }
         ensures few_pieces { IfOk result (λ list. runs list ≤ runs self.now + 1) }

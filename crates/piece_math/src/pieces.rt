@@ -18,7 +18,7 @@ pub struct Piece {
     pub count: u64,
 }
 
-/// A falling list of positive numbers, which contracts see as that list. It is kept as pieces, whose values strictly fall.
+/// A falling list of positive numbers. It is kept as pieces, whose values strictly fall. Contracts speak of the list itself.
 #[derive(Debug, Drop)]
 pub struct Pieces {
     parts: SmallVec<Piece, 4>,
@@ -56,7 +56,7 @@ impl Pieces {
         self.parts.as_slice()
     }
 
-    /// Appends `count` elements of a value that is at most each element before. On `NoMemory` the list is as it was.
+    /// Appends `count` elements of a value that is at most each element so far. On `NoMemory` the list is unchanged.
     pub fn push_run(&mut self, value: u128, count: u64) -> Result<(), NoMemory>
         requires value { 0 < value }
         requires falls { All (λ x. value ≤ x) self.old }
@@ -117,7 +117,7 @@ impl Pieces {
         Ok(Pieces { parts })
     }
 
-    /// The sum of the list, or `u128::MAX` where it is larger.
+    /// The sum of the list, or `u128::MAX` if the sum is larger.
     #[tactic(auto, using(crate::proofs::Expansion::sum_at_piece))]
     pub fn total(&self) -> u128
         ensures { result ≡ saturated (sum self.now) }

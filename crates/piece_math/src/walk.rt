@@ -31,7 +31,7 @@ pub struct Turn {
 /// The start of any list.
 pub const START: Place = Place { at: 0, used: 0 };
 
-/// The equal elements at a place.
+/// The equal elements from a place on, within its piece. At the end of the list they are zeros.
 pub fn ahead(pieces: &[Piece], place: Place) -> Piece
     requires { IsPlace pieces.now place }
     ensures { result ≡ ahead_of pieces.now place }
@@ -50,7 +50,7 @@ pub fn ahead(pieces: &[Piece], place: Place) -> Piece
     }
 }
 
-/// The place after `count` of the equal elements at a place.
+/// The place after `count` of the equal elements that `ahead` gives.
 pub fn passed(pieces: &[Piece], place: Place, count: u64) -> Place
     requires pieces { ArePieces pieces.now }
     requires place { IsPlace pieces.now place }

@@ -1,4 +1,4 @@
--- The list of all orders has each order of the entries and nothing else, and is in lexicographic order.
+-- The list of all orders has each order of the entries and nothing else, and it is in lexicographic order.
 use Rattle.std.proofs.Common.{◌≡◌, ℕ, zero, suc, ◌+◌, ◌<◌, ◌≤◌, Bool, true, false, eqb, List, [], ◌∷◌, ◌++◌, length, map, refl, ap, sym, subst, arith, inl, inr}
 use Rattle.std.specs.Prelude.{filter, flat_map, not, ⊤}
 use Rattle.std.specs.List.{AllByRecursion as Each, Contains, IsDistinct, range_with_len}
@@ -9,7 +9,7 @@ use Rattle.entry_sets.proofs.Listing.{each, in_front, in_none, in_rest, one_in}
 use Rattle.order_search.specs.Orders.{IsNotAfter}
 use Rattle.plan_answers.specs.BestOrder.{orders_of, all_orders}
 
--- ---- each element of a list
+-- ---- what is true of each element of a list
 
 pub each_so : {X : Type 0} (P Q : X → Type 0) → ((x : X) → P x → Q x) → (xs : List X) → Each P xs → Each Q xs
 each_so P Q so [] h = tt
@@ -72,7 +72,6 @@ still_in test (x ∷ xs) y k t = elim (one_in x xs y k) [
 
 -- ---- orders of some entries
 
--- different entries of a kind, so many
 record AreArranged (P : ℕ → Type 0) (count : ℕ) (order : List ℕ) : Type 0 where
   entries : Each P order
   once : IsDistinct eqb order
@@ -100,7 +99,6 @@ arranged P (suc count) entries h =
     (arranged (λ entry. P entry × (eqb first entry ≡ false)) count (others first entries) (kept P first entries h))))
     entries h)
 
--- what is true of each that is listed is true of each that there is
 at_arranged : (Q : List ℕ → Type 0) (count : ℕ) (entries order : List ℕ) → Each Q (orders_of count entries) → AreArranged (Contains entries) count order → Q order
 at_arranged Q zero entries [] h is = h.0
 at_arranged Q zero entries (x ∷ xs) h is = absurd (omega (arith, is.all))
@@ -153,7 +151,6 @@ ascend-kept test (x ∷ xs) h = elim (cases_Bool (test x)) [
   | inr n ↦ rw n (ascend-kept test xs h.1)
 ]
 
--- lists that begin with an entry come before those that begin with a greater one
 in_order-firsts : (behind : ℕ → List (List ℕ)) → ((first : ℕ) → InOrder (behind first)) → (firsts : List ℕ) → Ascend firsts → InOrder (flat_map (λ first. map (λ rest. first ∷ rest) (behind first)) firsts)
 in_order-firsts behind h [] a = tt
 in_order-firsts behind h (x ∷ xs) a =

@@ -9,7 +9,7 @@ use Rattle.order_search.proofs.SomeBest.{some_best}
 use Rattle.plan_answers.specs.BestOrder.{all_orders, best_order, is_no_worse}
 use Rattle.plan_answers.proofs.AllOrders.{InOrder, all_in_order, at_order, each_so, listed_are_orders}
 
--- ---- the first that passes a test
+-- ---- the first list that passes a test
 
 not_after_itself : (x : List ℕ) → IsNotAfter x x
 not_after_itself [] = tt

@@ -1,4 +1,4 @@
--- A choice has one answer besides that memory is wanting, and it is the one that is computed.
+-- Besides NoMemory a choice has exactly one answer, and it is the one that is computed.
 use Rattle.std.proofs.Common.{◌≡◌, ℕ, ◌-◌, ◌^◌, ◌<◌, ◌≤◌, List, length, Ok, Err, Result, refl, ap, sym, ◌∙◌, arith, inl, inr}
 use Rattle.std.specs.Prelude.{◌⊎◌, ◌≢◌}
 use Rattle.std.proofs.lemmas.Bool.{cases_lt, le-ltb, lt-ltb}
@@ -19,7 +19,7 @@ pub only_best : (bounds : List ℕ) (n : ℕ) (order : List ℕ) → IsBest boun
 only_best bounds n order is = one_best bounds n order (best_order bounds n) is (best_computed bounds n)
 
 module _ (bounds scans : List ℕ) (budget : ℕ) where
-  -- ---- the three cases
+  -- ---- the three cases of the computed answer
 
   past : (order : List ℕ) → 2 ^ 128 - 2 < cost bounds order → answer_along bounds scans budget order ≡ Err error.PastBits
   past order above = rw (lt-ltb (2 ^ 128 - 2) (cost bounds order) above) refl
@@ -30,7 +30,7 @@ module _ (bounds scans : List ℕ) (budget : ℕ) where
   fits : (order : List ℕ) → cost bounds order ≤ 2 ^ 128 - 2 → cost bounds order ≤ budget → answer_along bounds scans budget order ≡ Ok (plan_along bounds scans order)
   fits order is_told within = rw (le-ltb (2 ^ 128 - 2) (cost bounds order) is_told, le-ltb budget (cost bounds order) within) refl
 
-  -- ---- the answer is promised
+  -- ---- the computed answer is promised
 
   along : (order : List ℕ) → IsBest bounds (length scans) order → IsPromised bounds scans budget (answer_along bounds scans budget order)
   along order is = elim (cases_lt (2 ^ 128 - 2) (cost bounds order)) [
@@ -52,7 +52,7 @@ module _ (bounds scans : List ℕ) (budget : ℕ) where
   unfolding plan_answer
   allowed = along (best_order bounds (length scans)) (best_computed bounds (length scans))
 
-  -- ---- and no other
+  -- ---- no other answer is promised
 
   same_plan : (plan : Plan) → plan.levels ≡ levels bounds plan.order → plan.scans ≡ scans → plan ≡ plan_along bounds scans plan.order
   same_plan plan has_levels has_scans = rw (sym has_levels, sym has_scans) refl

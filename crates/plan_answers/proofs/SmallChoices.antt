@@ -1,4 +1,4 @@
--- The answers of small choices, by computation.
+-- These examples compute the answers of small choices.
 use Rattle.std.proofs.Common.{◌≡◌, ◌^◌, ◌-◌, [], ◌∷◌, Ok, Err, refl}
 use Rattle.limits.specs.Profile.{top_bound}
 use Rattle.plans.specs.Examples.{plan_of}

@@ -10,13 +10,13 @@ use Rattle.plan_answers.specs.BestOrder.{best_order}
 abbrev pub plan_along : List ℕ → List ℕ → List ℕ → Plan
 plan_along bounds scans order = record { order = order; scans = scans; levels = levels bounds order }
 
--- the answer for an order: it is refused if its cost is above 2 ^ 128 - 2, and else if its cost is above the budget
+-- the answer for an order: it is refused if its cost is above 2 ^ 128 - 2, or otherwise if its cost is above the budget
 abbrev pub answer_along : List ℕ → List ℕ → ℕ → List ℕ → Result Plan PlanError
 answer_along bounds scans budget order =
     if nat_lt (2 ^ 128 - 2) (cost bounds order) then Err error.PastBits
     else if nat_lt budget (cost bounds order) then Err (error.Budget (cost bounds order))
     else Ok (plan_along bounds scans order)
 
--- the answer by a bound for each set of entries, and with a bound for each scan
+-- the answer by the bounds of all sets of entries. If it is a plan, the plan has `scans` as the bounds of its scans
 unfoldable pub plan_answer : List ℕ → List ℕ → ℕ → Result Plan PlanError
 plan_answer bounds scans budget = answer_along bounds scans budget (best_order bounds (length scans))

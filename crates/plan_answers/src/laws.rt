@@ -32,7 +32,7 @@ pub fn choices()
         → IsCause bounds (length scans) budget e → plan_answer bounds scans budget ≡ Err e }
 {}
 
-/// `bounds_of_sets` is the only list that has each set's bound, or the top bound where the bound is greater.
+/// `bounds_of_sets` is the only list that has each set's bound, or the top bound if the set's bound is greater.
 pub fn bounds_of_all_sets()
     ensures one { (n : ℕ) (bound : ℕ → ℕ) (bounds : List ℕ) → length bounds ≡ 2 ^ n
         → ((set : ℕ) → set < 2 ^ n → slice_index bounds set ≡ min (bound set) top_bound) → bounds ≡ bounds_of_sets n bound }

@@ -4,9 +4,8 @@
 //! out of memory. `plan_answer` (in `specs/PlanAnswer.antt`) is the answer if it doesn't: the plan of `best_order`
 //! (in `specs/BestOrder.antt`) or a refusal. It searches all orders; it is for specifications and never runs.
 //!
-//! Callers cite `plan_answer` if they need a value. The laws say that it is what `choose` promises (`IsPromised`).
-//! For a whole answer take the clause `only` of `choices` (lemma `only` of proofs/OneChoice). At an exit of `choose`
-//! take `chosen` or `refused`.
+//! Callers cite `plan_answer` if they need a value. The laws say that this value is what `choose` promises (`IsPromised`). For a whole answer take
+//! the clause `only` of `choices` (lemma `only` of proofs/OneChoice). At an exit of `choose` take `chosen` or `refused`.
 //!
 //! `bounds_of_sets` (in `specs/Bounds.antt`) makes the list of bounds from a function of the set.
 #![tactic(auto)]

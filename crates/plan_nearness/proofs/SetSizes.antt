@@ -1,4 +1,4 @@
--- How many entries a set has, of which there is an order.
+-- A set has as many entries as an order of the set.
 use Rattle.std.proofs.Common.{◌≡◌, ℕ, ◌≤◌, eqb, List, length, arith}
 use Rattle.std.specs.List.{AllByRecursion, Contains, IsDistinct}
 use Rattle.std.proofs.lemmas.Cmp.{nat_eq_equiv}

@@ -1,4 +1,4 @@
-//! The laws. Each call does nothing.
+//! Laws of how near bounds of plans are to the bounds without compression. Each call does nothing: its contract is the law.
 ghost use Rattle.std.specs.Prelude.{◌≡◌, ◌*◌, ◌+◌, ◌<◌, ◌≤◌, ◌^◌, ℕ, Ok, length, slice_index, take};
 ghost use Rattle.limits.specs.Profile.{most_entries, usual_accuracy};
 ghost use Rattle.plans.specs.declared.left_deep.Plan.{Plan};

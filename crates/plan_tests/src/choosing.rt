@@ -1,4 +1,4 @@
-//! What is asked, and why nothing is chosen.
+//! Why a test has no tree, and how many sets its entries have.
 ghost use Rattle.std.specs.Prelude.{◌≡◌, ◌^◌, ◌≤◌};
 ghost use Rattle.limits.specs.Profile.{most_entries};
 
@@ -7,7 +7,7 @@ use std::alloc::{AllocError, AllocFailed};
 
 #[derive(Debug, Drop)]
 pub enum Fail {
-    // The test asks for what a choice has no answer to, or memory is wanting.
+    // The test's input breaks a condition of the choice, or memory ran out.
     Unfit,
     NoTree(PlanError),
 }

@@ -66,10 +66,9 @@ const CHOICES: [Choice<'static>; 5] = [
     },
     // The sizes of all sets of entries of a query:
     // SELECT C.N FROM C, P, Q, R, S WHERE C.A = P.X AND C.B = Q.X AND C.D = R.X AND C.E = S.X.
-    // Each of P, Q, R and S has X = 7 three times and X = 8 once. C has a row with 8 in all four joined columns. It has four more rows, one
-    // for each of these columns: in its column the row has a value that P, Q, R and S don't have, and 7 in the others. So all five entries
-    // have one row, but C with three others has 28. Each left-deep order passes a set of four entries, and the tree (((C, P), Q), (R, S))
-    // doesn't.
+    // Each of P, Q, R and S has X = 7 three times and X = 8 once. C has a row with 8 in all four joined columns. It has four more rows, one for each
+    // of these columns: in its column the row has a value that P, Q, R and S don't have, and 7 in the others. So the join of all five entries has one
+    // row, but the join of C with three others has 28. Each left-deep order passes a set of four entries, and the tree (((C, P), Q), (R, S)) doesn't.
     Choice {
         count: 5,
         bounds: &[

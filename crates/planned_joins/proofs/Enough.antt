@@ -1,4 +1,4 @@
--- What a plan's bounds say of the rooms that its run needs.
+-- Buffers with room for a plan's bounds have enough room for a run of the plan.
 use Rattle.std.proofs.Common.{◌≡◌, ℕ, ◌+◌, ◌<◌, ◌≤◌, List, length, get_or, sym, ◌∙◌, subst, arith}
 use Rattle.std.specs.Prelude.{All}
 use Rattle.std.specs.List.{AllZip}
@@ -55,7 +55,6 @@ module _ (query : Query) (db : Database) (plan : Plan) (shape : IsPlan (length q
 
 -- ---- a plan of a query over lists
 
--- bounds of which none is below a list of its entry
 module _ (query : Query) (lists : List (List ℕ)) (bounds : List ℕ) (count : length bounds ≡ length query.from)
     (fit : (entry : ℕ) → entry < length query.from → rows_listed lists entry ≤ get_or bounds entry 0) where
   lists_fit : AllZip ◌≤◌ (list_sizes query lists) bounds
@@ -76,14 +75,12 @@ module _ (query : Query) (db : Database) (lists : List (List ℕ)) (plan : Plan)
       let within : k < length query.from = omega (arith, reached, is.for_each_entry.order.all) in
       omega (arith, level_size query db lists plan.order k reached, is.levels k within))
 
-  -- room for what the plan says is room for what there is
   pub ready : (reserved : Reserved) → HasRooms (rooms plan.order plan.scans plan.levels) reserved
       → IsReadyFor query (tables_of db) lists plan.order reserved
   ready reserved has =
       less_room plan.order (list_sizes query lists) (list_level_sizes query (tables_of db) lists plan.order) plan.scans plan.levels reserved
       (lists_fit query lists plan.scans is.for_each_entry.scans is.scans) levels_fit has
 
-  -- the levels themselves are no larger
   pub few_in_levels : All (λ rows. rows ≤ most_budget) (list_level_sizes query (tables_of db) lists plan.order)
   few_in_levels = all_at_most most_budget (list_level_sizes query (tables_of db) lists plan.order)
       (λ k low.

@@ -1,15 +1,14 @@
 -- How the proofs of this crate go: what was hard, and what closed it.
 --
--- Three functions of one call each. What a plan says of a query over lists is a record over plain tables (`IsPlanOf` of join_steps: its
--- shape, no bound too low, no bound above the table's rows or the greatest budget), so the contracts speak neither of statistics nor of a
--- budget, and any plan with these facts serves.
+-- The crate has three functions, each of one call. What a plan says of a query over lists is a record over plain tables (`IsPlanOf` of join_steps):
+-- the plan's shape, that no bound is too low, and that no bound is above the table's rows or the greatest budget. So the contracts speak neither of
+-- statistics nor of a budget, and any plan with these facts serves.
 --
 -- - Pointwise, then `less_room`: the sizes of lists and levels are `map`s over ranges, so `size_at` and `size_count` of join_steps
 --   (WholeScans), `level_size` and `level_count` of hash_join (PlanRooms) and one lemma on two lists (`zip_each`) give `AllZip ◌≤◌`; the
 --   rest is reserve_plan's `less_room`, and for the lists of whole scans `less_buffers`. Nothing here looks into a buffer.
--- - `ready` is a clause over any lists: what is reserved knows none, so `reserve_plan` requires only that the plan is one over some lists,
---   and whoever joins says over which.
--- - `plan.order.as_slice()` is a new value with one equation: `subst` it in each `requires`, and `rw (..) at c.reserve.ensures` once for
---   the exit.
+-- - `ready` is a clause over any lists, since buffers are reserved before the lists are known. `reserve_plan` requires only that the plan is a plan
+--   over some lists, and the caller that joins says over which lists.
+-- - `plan.order.as_slice()` is a new value with one equation: `subst` it in each `requires`, and `rw (..) at c.reserve.ensures` once for the exit.
 
 pub mod Enough

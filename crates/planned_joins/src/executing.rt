@@ -16,10 +16,10 @@ use query_types::Query;
 use reserve_plan::Reserved;
 use row_buf::RowBuf;
 
-/// Lists every level of a plan over lists of scanned rows, one list for each FROM entry. Level k is of the first k + 1 entries of the
-/// plan's order. It has exactly the choices of one row of each entry's list for which every conjunct holds that names only these entries,
-/// in lexicographic order of row numbers. The answer is the buffers, with the levels in them. The call takes no memory and can't fail, and
-/// each buffer keeps the memory that was taken for it.
+/// Lists every level of a plan over lists of scanned rows, one list for each FROM entry. Level k has these choices and no others: one row from the
+/// list of each of the first k + 1 entries of the plan's order, so that every conjunct that names only these entries holds. The choices are in
+/// lexicographic order of row numbers. The result is the buffers, with the levels in them. The call takes no memory and can't fail, and each buffer
+/// keeps the memory that was taken for it.
 pub fn execute_plan(
     reserved: Reserved,
     plan: &Plan,

@@ -1,4 +1,4 @@
--- Each entry with a number for all entries that equalities connect with it.
+-- Each entry gets a number. Two entries have the same number exactly if equalities connect them.
 use Rattle.std.proofs.Common.{◌≡◌, ℕ, Bool, eqb, List, [], ◌∷◌, refl, ap, sym, ◌∙◌, subst, inl, inr}
 use Rattle.std.specs.Prelude.{◌⊎◌, if◌then◌else◌}
 use Rattle.std.specs.List.{Contains}
@@ -8,7 +8,6 @@ use Rattle.level_bounds.proofs.Lists.{all_from}
 use Rattle.reduced_scans.proofs.Members.{in_cases, not_in_none}
 use Rattle.join_graph.specs.Kept.{AreConnected}
 
--- the number of one side becomes that of the other
 abbrev pub merged : ℕ → ℕ → ℕ → ℕ
 merged left right n = if eqb n right then left else n
 
@@ -28,7 +27,6 @@ merged_left left right = elim (cases_eq left right) [
   | inr apart ↦ merged_other left right left apart
 ]
 
--- numbers that become one were one, or those of the two sides
 pub merged_cases : (left right n m : ℕ) → merged left right n ≡ merged left right m
     → (n ≡ m) ⊎ (((n ≡ left) × (m ≡ right)) ⊎ ((n ≡ right) × (m ≡ left)))
 merged_cases left right n m same = elim (cases_eq n right) [
@@ -42,7 +40,6 @@ merged_cases left right n m same = elim (cases_eq n right) [
   ]
 ]
 
--- both entries of an equality have one number
 pub closed_at : (es : List Edge) (e : Edge) → Contains es e → component es e.left.entry ≡ component es e.right.entry
 closed_at [] e has = absurd (not_in_none e has)
 closed_at (f ∷ es) e has = elim (in_cases e f es has) [
@@ -52,7 +49,6 @@ closed_at (f ∷ es) e has = elim (in_cases e f es has) [
   | inr there ↦ ap (merged (component es f.left.entry) (component es f.right.entry)) (closed_at es e there)
 ]
 
--- one number exactly where entries are connected
 pub connected_same : (es : List Edge) (a b : ℕ) → AreConnected es a b → component es b ≡ component es a
 connected_same es a b connected =
     let in_component : ℕ → Bool = λ x. eqb (component es x) (component es a) in

@@ -1,4 +1,5 @@
--- Where equalities close no cycle, a row of a family with all partners goes on to a choice for all connected entries.
+-- If equalities close no cycle, and each row in a family of lists has its partners, then each row extends to a choice for all connected entries. A
+-- partner of a row is a row of the other list that an equality joins with it.
 use Rattle.std.proofs.Common.{◌≡◌, ℕ, Bool, true, eqb, List, [], ◌∷◌, refl, ap, sym, ◌∙◌, subst, inl, inr}
 use Rattle.std.specs.Prelude.{◌⊎◌, if◌then◌else◌}
 use Rattle.std.specs.List.{AllByRecursion, Contains}
@@ -12,7 +13,7 @@ use Rattle.reduced_scans.proofs.Members.{behind, in_cases, in_front, not_in_none
 use Rattle.set_bounds.proofs.Forests.{onto}
 use Rattle.planning.proofs.Components.{closed_at, component, merged_cases, same_connects}
 
--- ---- equalities looked at in their order
+-- ---- equalities in the order in which they are looked at
 
 come_before : (earlier es : List Edge) (e : Edge) → Contains earlier e → Contains (onto earlier es) e
 come_before earlier [] e has = has
@@ -33,7 +34,6 @@ pub still_connected : (es : List Edge) (a b : ℕ) → AreConnected es a b → A
 still_connected es a b connected side all = connected side (all_come (λ e. side e.left.entry ≡ side e.right.entry) [] es all).1
 
 module _ (equal : Edge → ℕ → ℕ → Bool) (family : List (List ℕ)) where
-  -- each row has its partners on both sides
   abbrev pub Meet : Edge → Type 0
   Meet e = HavePartners (equal e) (list_at family e.left.entry) (list_at family e.right.entry)
       × HavePartners (λ right left. equal e left right) (list_at family e.right.entry) (list_at family e.left.entry)
@@ -50,9 +50,9 @@ module _ (equal : Edge → ℕ → ℕ → Bool) (family : List (List ℕ)) wher
     pub listed : (other : ℕ) → component es other ≡ component es entry → Contains (list_at family other) (row_of other)
     pub holds : (e : Edge) → Contains es e → component es e.left.entry ≡ component es entry → Holds row_of e
 
-  -- ---- an equality more
+  -- ---- one more equality
 
-  -- which does not touch the component
+  -- the equality joins no entry of the row's component
   untouched : (e : Edge) (es : List Edge) (entry row : ℕ) → Extends es entry row
       → (component es entry ≡ component es e.left.entry → ⊥) → (component es entry ≡ component es e.right.entry → ⊥) → Extends (e ∷ es) entry row
   untouched e es entry row f not_left not_right = record {
@@ -74,7 +74,7 @@ module _ (equal : Edge → ℕ → ℕ → Bool) (family : List (List ℕ)) wher
         ]
       ]
 
-  -- which joins the component with another one
+  -- the equality joins the row's component with another one
   module _ (e : Edge) (es : List Edge) (entry row near far partner : ℕ) (f : Extends es entry row) (g : Extends es far partner)
       (at_near : component es entry ≡ component es near) (apart : component es near ≡ component es far → ⊥) where
     abbrev both : ℕ → ℕ
@@ -108,7 +108,6 @@ module _ (equal : Edge → ℕ → ℕ → Bool) (family : List (List ℕ)) wher
       ];
     }
 
-  -- one more equality, where each listed row extends along the others
   one_more : (e : Edge) (es : List Edge) → AreApart es e.left.entry e.right.entry → Meet e → ((entry row : ℕ) → Contains (list_at family entry) row → Extends es entry row)
       → (entry row : ℕ) → Contains (list_at family entry) row → Extends (e ∷ es) entry row
   one_more e es none have rest entry row listed = elim (cases_eq (component es entry) (component es e.left.entry)) [

@@ -1,4 +1,4 @@
--- What the laws on statistics say of tables, in one record.
+-- This record has what the laws on statistics say of tables.
 use Rattle.std.proofs.Common.{ℕ, List, [], ◌∷◌}
 use Rattle.berge_tree.specs.declared.edges.Edge.{Edge}
 use Rattle.query_types.specs.declared.types.Query.{Query}
@@ -34,7 +34,6 @@ facts tables accuracy =
       falls = lists_fall tables accuracy;
     }
 
--- what holds of every column, holds of those that equalities name
 pub each_column : (Q : ℕ → ℕ → Type 0) (es : List Edge) → ((entry column : ℕ) → Q entry column) → EachNamedColumn Q es
 each_column Q [] h = tt
 each_column Q (e ∷ es) h = (h e.left.entry e.left.column, (h e.right.entry e.right.column, each_column Q es h))

@@ -1,5 +1,5 @@
--- Plans from bounds of sets and of scans: what they are, and that no bound in them is too low where these are from bounds of entries that
--- stand for lists of rows.
+-- These lemmas are about plans that are made from bounds of sets and of scans. If these bounds come from bounds of entries that stand for lists of
+-- rows, no bound in the plan is too low.
 use Rattle.std.proofs.Common.{◌≡◌, ◌⊎◌, inl, inr, ℕ, ◌+◌, ◌<◌, ◌≤◌, ◌^◌, Bool, true, List, [], ◌∷◌, Ok, Result, min, length, take, get_or, refl, ap, sym, ◌∙◌, subst, arith}
 use Rattle.std.specs.List.{AllByRecursion, filter}
 use Rattle.std.proofs.lemmas.Bool.{and_parts, cases_Bool, cases_lt}
@@ -57,7 +57,6 @@ module _ (sets scans : List ℕ) (count budget : ℕ) (one_each : length scans �
   pub level_bound : (k : ℕ) → k < count → get_or plan.levels k 0 ≡ get_or sets (set_of (take (k + 1) plan.order)) 0
   level_bound k low = ap (λ (s : List ℕ). get_or s k 0) promised.levels ∙ level_at sets plan.order k (omega (arith, is_best_from.is_order.all))
 
--- no bound in it is too low where none of these is
 module _ (query : Query) (tables : Tables) (lists : List (List ℕ)) (sets scans : List ℕ) (bound_sets : BoundLevels query tables lists sets) (bound : BoundLists query tables lists scans)
     (budget : ℕ) (plan : Plan) (few : length query.from ≤ most_entries) (small : budget ≤ most_budget) (made : plan_answer sets scans budget ≡ Ok plan) where
   abbrev n : ℕ
@@ -82,9 +81,8 @@ module _ (query : Query) (tables : Tables) (lists : List (List ℕ)) (sets scans
     within_budget = λ k low. omega (arith, level_within_budget sets scans n budget bound.one_each plan made k, small);
   }
 
--- ---- the bounds of sets, where what is known of entries stands for lists
+-- ---- the bounds of sets, from bounds of entries that stand for lists
 
--- a bound through 128 bits
 capped : (rows bound told : ℕ) → rows ≤ bound → told ≡ min bound top_bound → (rows ≤ told) ⊎ (told ≡ top_bound)
 capped rows bound told fits is = elim (cases_lt bound top_bound) [
   | inl below ↦ inl (omega arith)
@@ -110,9 +108,8 @@ levels_bound query tables lists key bounds stand subset order fits o =
     capped (length (level_over (conjuncts_of query tables) (list_at lists) order)) (bound_of_set (bounds subset) es subset) (get_or (bounds_in_sets bounds es n) subset 0) fits_bound
     (told_in bounds es n subset (bounds_in_sets bounds es n) refl fits)
 
--- ---- where the same is known in every set
+-- ---- bounds of entries that are the same in every set
 
--- the entries of an equality of a set of the first n entries
 both_below : (n subset : ℕ) (e : Edge) → subset < 2 ^ n → joins_within subset e ≡ true → (e.left.entry < n) × (e.right.entry < n)
 both_below n subset e fits joins =
     let both = and_parts (has_entry subset e.left.entry) (has_entry subset e.right.entry) joins in

@@ -1,4 +1,4 @@
--- From row bounds and lists of a query's entries to the bounds of its scans and of all sets.
+-- Row bounds and lists of a query's entries give the bounds of its scans and of all sets.
 use Rattle.std.proofs.Common.{◌≡◌, ℕ, ◌^◌, ◌<◌, Bool, true, List, [], Option, Some, length, map, get_or, sum, ap, sym, ◌∙◌, subst, arith}
 use Rattle.std.specs.Prelude.{All, if◌then◌else◌, unwrap_or}
 use Rattle.std.specs.List.{range_with_len}
@@ -35,7 +35,7 @@ use Rattle.planning.proofs.ScanBounds.{named_all}
 pub is_told : {query : Query} {stats : QueryStats} {known : Statistics} → Tells query stats known → StatsAreTold query stats
 is_told {known = known} tells = record { known = known; tells = tells }
 
--- ---- from statistics
+-- ---- bounds from statistics
 
 same_below : (f g : ℕ → ℕ) (n : ℕ) → ((k : ℕ) → k < n → f k ≡ g k) → map f (range_with_len 0 n) ≡ map g (range_with_len 0 n)
 same_below f g n same =
@@ -50,7 +50,6 @@ told_scans query stats lists are =
     ∙ same_below (entry_bounds query stats).rows (scan_rows query stats) (length query.from)
     (λ k low. ap (λ (t : Bool). if t then scan_rows query stats k else 0) (lt-ltb k (length query.from) low))
 
--- a list that is there is a list of its entry
 list_there : (lists : EntryLists) (entry column : ℕ) (list : List ℕ) → list_of lists entry column ≡ Some list → HasList (bounds_of lists) entry column
 list_there lists entry column list is = record {
   falls = subst (λ (o : Option (List ℕ)). IsFalling (unwrap_or o [])) (sym is) (lists.sums entry column list is).0;
@@ -71,14 +70,13 @@ told_lists query stats lists held are =
         subst (λ (b : EntryBounds). HasList b entry column) are
         (list_there lists entry column (scan_list query stats entry column) (told.list_there query stats (length query.from) (joined_columns query) lists held entry column among))
 
--- ---- from row bounds and lists of a query in parts, with the row bounds as bounds of scans
+-- ---- bounds from row bounds and lists of a query in parts, with the row bounds as bounds of scans
 
 module _ (query : Query) (es : List Edge) (split : es ≡ equalities_of query) (lists : EntryLists) (scans : List ℕ) (count : ℕ) (all : count ≡ length query.from)
     (are : scans ≡ map (bounds_of lists).rows (range_with_len 0 count)) where
   pub one_each : length scans ≡ length query.from
   one_each = ap (λ (s : List ℕ). length s) are ∙ length-map-range_with_len (bounds_of lists).rows 0 count ∙ all
 
-  -- every set has what its bound needs
   pub each_listed : SetIsListed lists (equalities_of query) (first_entries (length query.from)) → (subset : ℕ) → subset < 2 ^ length scans → SetIsListed lists es subset
   each_listed whole subset fits =
       subst (λ (s : List Edge). SetIsListed lists s subset) (sym split)
@@ -108,9 +106,8 @@ module _ (query : Query) (es : List Edge) (split : es ≡ equalities_of query) (
       (listed.sets_are db rows accuracy lists is (equalities_of query) joined (length query.from))
       (ap (λ (f : ℕ → ℕ). map f (range_with_len 0 (length query.from))) (fun_ext (listed.row_bound_is db rows accuracy lists is)))
 
--- ---- how many
+-- ---- the number of bounds
 
--- as many scans as entries, and as many bounds as sets of them
 module _ (query : Query) (bounds : ℕ → EntryBounds) (scans : List ℕ) (known : Known) (gives : HasBounds (bounds_in_sets bounds (equalities_of query) (length query.from)) scans known)
     (one_scan : length scans ≡ length query.from) where
   pub known_long : length known.scans ≡ length query.from

@@ -1,4 +1,4 @@
--- Row bounds and lists of columns, one after another, and what they say together.
+-- Row bounds and lists of columns are collected one after another. Together they make bounds of entries.
 use Rattle.std.proofs.Common.{◌≡◌, ◌≢◌, ◌⊎◌, inl, inr, ℕ, ◌+◌, ◌-◌, ◌<◌, ◌^◌, List, [], length, get_or, Option, None, Some, refl, ap, sym, ◌∙◌, subst, arith}
 use Rattle.std.specs.Prelude.{All, IsSome, unwrap_or}
 use Rattle.std.proofs.lemmas.Bool.{cases_eq, cases_lt, false≢true}
@@ -73,7 +73,6 @@ module _ (db : Database) (lists : List (List ℕ)) (accuracy : ℕ) where
     ];
   }
 
-  -- a list that is there stays there
   pub kept_there : (at in_column : ℕ) (list : List ℕ) (old new : EntryLists) → list_of new at in_column ≡ Some list
       → ((e c : ℕ) → ((e ≢ at) ⊎ (c ≢ in_column)) → list_of new e c ≡ list_of old e c)
       → (e c : ℕ) → IsSome (list_of old e c) → IsSome (list_of new e c)
@@ -85,7 +84,7 @@ module _ (db : Database) (lists : List (List ℕ)) (accuracy : ℕ) where
     ]
   ]
 
-  -- ---- all together
+  -- ---- the bounds that all row bounds and lists make together
 
   module _ (known : EntryLists) (is : IsKnown db lists accuracy known) where
     pub row_bound_is : (entry : ℕ) → unwrap_or (rows_of known entry) 0 ≡ rows_listed lists entry

@@ -1,4 +1,4 @@
--- The bounds along an order: which set each is of, and that none passes the cost.
+-- Each bound along an order is the bound of the set of its first entries. No bound is above the order's cost.
 use Rattle.std.proofs.Common.{◌≡◌, ℕ, zero, suc, ◌+◌, ◌-◌, ◌^◌, ◌<◌, ◌≤◌, List, [], ◌∷◌, length, take, get_or, ap, sym, ◌∙◌, add-one, arith}
 use Rattle.std.proofs.lemmas.Nat.{pow_pos}
 use Rattle.entry_sets.specs.Sets.{entries_of_set, set_of}
@@ -19,7 +19,6 @@ level_after bounds placed (entry ∷ entries) zero low = ap (λ (n : ℕ). get_o
 level_after bounds placed (entry ∷ entries) (suc k) low =
     level_after bounds (placed + 2 ^ entry) entries k (omega arith) ∙ ap (λ (n : ℕ). get_or bounds n 0) (omega arith)
 
--- the bound at each place is that of the first entries up to there
 pub level_at : (bounds order : List ℕ) (k : ℕ) → k < length order
     → get_or (levels bounds order) k 0 ≡ get_or bounds (set_of (take (k + 1) order)) 0
 level_at bounds order k low =

@@ -2,15 +2,15 @@
 --
 -- Plans from any source
 --
--- Everything here composes: no induction but three over lists, and all goals but one closed at the first check.
+-- Everything here composes. There are only three inductions, over lists, and all goals but one closed at the first check.
 --
--- - One law for every source, in two halves (`FromLists`). From bounds of all sets and of scans to the plan (`plan_over_lists`), with
---   nothing said of where they come from; and from what is known of entries in a set to the bound of the set (`levels_bound`). For a new
---   source only `StandForLists` and `BoundLists` have to be shown, for a new shape of plan only the first half. Where the same is known
---   in every set, facts on single columns are enough (`stand_in_every_set`): statistics of tables (`ScanBounds`, `NeverUnder`) and
---   degree lists of listed rows (`ListBounds`) are instances of a few lines.
--- - A constant function of sets computes: `bounds_of_sets b` is `bounds_in_sets (in_every_set b)`, both `abbrev`s, so laws of the one
---   serve the other without a lemma.
+-- - One law for every source, in two halves (`FromLists`): from bounds of all sets and of scans to the plan (`plan_over_lists`), wherever these
+--   bounds come from; and from bounds of entries in a set to the bound of the set (`levels_bound`). For a new source only `StandForLists` and
+--   `BoundLists` have to be shown, for a new shape of plan only the first half. If the bounds of entries are the same in every set, facts on single
+--   columns are enough (`stand_in_every_set`): statistics of tables (`ScanBounds`, `NeverUnder`) and degree lists of listed rows (`ListBounds`) are
+--   instances of a few lines.
+-- - A constant function of sets computes: `bounds_of_sets b` is `bounds_in_sets (in_every_set b)`, and both are `abbrev`s. So the laws about
+--   `bounds_in_sets` hold for `bounds_of_sets` without a lemma.
 -- - The laws "never too low" are over `entry_bounds`, not over the code's lists (`stand_for_scans` in ScanBounds): what statistics know
 --   is a function, so the laws speak of tables alone, and not of a database, a cell or `EntryLists`. That entries and columns exist
 --   follows from the set: its entries are below n, and both columns of an equality are among the joined ones. So no premise is needed
@@ -19,9 +19,9 @@
 --   (`rt check --allow-holes` says for each law that it depends on this hole alone), and meanwhile everything above was proved.
 -- - A level of a plan is never the top bound: it is at most the cost, so at most the budget (`level_within_budget`), and the second case of
 --   "or 2^128 - 1" is absurd by `omega`.
--- - The first entries of an order as a number below 2^n (`on_way`): along the way through 2^n - 1 each entry's power fits what is left.
--- - Near with no keys: a row's own number in its column is a key, so `keys_of` of these is the numbered column by `fill_by_all`, and
---   `whole_columns` is `uncompressed` by `fun_ext`.
+-- - The set of an order's first entries has a number below 2^n (`on_way`): along the way through 2^n - 1, each entry's power of 2 is at most what is left.
+-- - Bounds are near (`NearColumns`) without given keys: a row's own number in its column serves as its key. So `keys_of` is the numbered column by
+--   `fill_by_all`, and `whole_columns` is `uncompressed` by `fun_ext`.
 -- - The worked plan computes, statistics and all orders too. `rw` doesn't reach into an argument of an unfolded `plan_answer`: compute the
 --   choice over literal lists by `refl`, and join by `ap`.
 --
@@ -32,25 +32,25 @@
 -- - A level over lists is a sublist of the query's level (`ListedLevels`): `AllPairs-filter` keeps its choices different, and their rows
 --   are listed by `all_pass`. So tree_bounds' law over scanned rows (`scanned_within`) takes the lists in place of the scans, and no
 --   further conjunct is made.
--- - A value is the first listed row that has it (`ListBounds`): numbers and keys are equal alike (table_stats' `FirstRows`), and
---   relabelling_laws carries domination over to keys that all tables share.
+-- - A value's number is the first listed row that has the value (`ListBounds`): two rows have equal numbers exactly if they have equal keys
+--   (table_stats' `FirstRows`), and relabelling_laws carries domination over to keys that all tables share.
 -- - Each reduced row takes part (`Components`, `Extending`): connection is defined in join_graph, and is proved with a number for each
 --   component, by one induction on the equalities in their order, like `ClosesNoCycleAfter`: the earlier ones come after the rest, in
---   reverse order (`onto` of set_bounds), so no lemma reverses the list. One more equality joins a component with another (a partner,
---   extended there, and the two choices combined by the number of the component), or touches neither. The three cases need
---   `merged_cases` alone.
--- - Examples: compute the rounds over literal equalities and scans by `refl`, and join by `ap` (`reduced_from`, `plan_computed`). An answer
---   is `filter_agree` with one test for all conjuncts (`answer_by`), and then computes. `filter_agree` where an own conjunct asks the row.
+--   reverse order (`onto` of set_bounds), so no lemma reverses the list. One more equality may join the row's component with another one.
+--   Then the row's partner is extended to a choice there, and the two choices are combined by the number of the component. Or the equality
+--   joins no entry of the row's component. The three cases need `merged_cases` alone.
+-- - Examples: compute the rounds over literal equalities and scans by `refl`, and join by `ap` (`reduced_from`, `plan_computed`). An answer is
+--   `filter_agree` with one test for all conjuncts (`answer_by`), and then computes. Where an own conjunct asks for the row, `filter_agree` serves
+--   too.
 --
 -- Lists of rows, and what is known from them
 --
--- - Sound and complete are two facts (`IsKnown`, `HaveLists`): each list that is there is the one of the definition, and each joined column
---   has one. So adding a list says nothing of the other columns, and the loop's invariant is two facts.
--- - Bounds are a function of what equalities name (`SameBounds`): `entry_bounds_over` has a list for every column, and the code those of
---   joined columns alone. That both give all sets the same bounds is one induction over trees, with `named_in_turn` and `tree_columns` of
---   tree_bounds.
--- - Cells and values (`SameDegrees`): a row's cell and the first row with its value are equal alike, so relabelling_laws gives one degree
---   list.
+-- - Sound and complete are two facts (`IsKnown`, `HaveLists`): each list that is known is the one of the definition, and each joined column has a
+--   list. So adding a list says nothing of the other columns, and the loop's invariant is two facts.
+-- - Bounds are a function of what equalities name (`SameBounds`): `entry_bounds_over` has a list for every column, and the code has lists for joined
+--   columns alone. One induction over trees shows that both give all sets the same bounds, with `named_in_turn` and `tree_columns` of tree_bounds.
+-- - Cells and values (`SameDegrees`): two rows have equal cells exactly if the first rows with their values are equal, so relabelling_laws gives the
+--   same degree list for both.
 -- - A list in file order of rows below n has at most n rows (`short`), so `AreListsOf` follows from being a family of the scans, and
 --   nothing about the removal of rows is needed.
 -- - Scans are listed in buffers with room for whole tables, since no bound is known yet: `less_buffers` of reserve_plan makes that room for

@@ -1,4 +1,4 @@
--- The lists of columns over listed rows: they fall, sum to the number of rows, and dominate all keys that tell values.
+-- The lists of columns over listed rows fall, sum to the number of rows, and dominate all keys that tell values apart.
 use Rattle.std.proofs.Common.{ℕ, ◌<◌, ◌≤◌, List, length, map, refl, ap, ◌∙◌, subst, arith}
 use Rattle.std.specs.List.{Contains, range_with_len}
 use Rattle.std.proofs.lemmas.List.{get_or-map, length-map}
@@ -54,7 +54,6 @@ module _ (tables : Tables) (lists : List (List ℕ)) (accuracy : ℕ) where
       abbrev values : List Value
       values = listed_values tables lists entry column
 
-      -- the number of a row's value
       abbrev number_at : ℕ → ℕ
       number_at row = first_row values (value_at row)
 
@@ -63,7 +62,6 @@ module _ (tables : Tables) (lists : List (List ℕ)) (accuracy : ℕ) where
           first_there values (value_at row) listed.0 (value_at row) (omega (arith, listed.1, length-map rows value_at))
           (ap (λ (v : Value). is_equal v (value_at row)) (get_or-map value_at rows listed.0 row (value_at row) listed.1 ∙ ap value_at listed.2) ∙ equal_itself (value_at row))
 
-      -- rows have one number exactly where they have one key
       alike : AreEqualAlike number_at (key entry column) rows
       alike row other listed also =
           let told = tells entry column row other (row_low query tables lists are entry row listed) (row_low query tables lists are entry other also) in (
@@ -84,7 +82,6 @@ module _ (tables : Tables) (lists : List (List ℕ)) (accuracy : ℕ) where
           (λ entry column low. record { has = has_list entry column; dominates = dominates entry column });
     }
 
--- a list has at most as many rows as its table
 rows_few : (query : Query) (tables : Tables) (lists : List (List ℕ)) → AreOfScans query tables lists → (entry : ℕ) → rows_listed lists entry ≤ row_counts tables entry
 rows_few query tables lists are entry =
     omega (

@@ -1,4 +1,4 @@
--- The choices of a level over lists of scanned rows: different, of listed rows, and with one key along each equality.
+-- The choices of a level over lists of scanned rows are different, and their rows are listed. Along each equality their rows have the same key.
 use Rattle.std.proofs.Common.{◌≡◌, ℕ, ◌<◌, ◌≤◌, Bool, true, eqb, List, [], ◌∷◌, length, map, get_or, ap, sym, subst, arith, inl, inr}
 use Rattle.std.specs.Prelude.{◌≢◌, AllPairs}
 use Rattle.std.specs.List.{AllByRecursion, Contains, filter}
@@ -28,7 +28,6 @@ use Rattle.join_steps.specs.Lists.{list_at, AreOfScans}
 use Rattle.reduced_scans.proofs.Bridge.{has, has-contains}
 use Rattle.reduced_scans.proofs.FamilyRows.{family_level}
 
--- where all rows of a choice pass, so does that of each entry
 pass_at : (test : ℕ → ℕ → Bool) (rows : ℕ → ℕ) (order choice : List ℕ) → IsChoiceOf rows order choice → all_pass test order choice ≡ true
     → (entry : ℕ) → is_in order entry ≡ true → test entry (row_in order choice entry) ≡ true
 pass_at test rows [] choice is all entry here = absurd (false≢true here)
@@ -40,7 +39,7 @@ pass_at test rows (e ∷ order) (row ∷ choice) is all entry here =
       | inr n ↦ (let rest : is_in order entry ≡ true = rw n at here in rw n (pass_at test rows order choice is.1 parts.1 entry rest))
     ]
 
--- ---- what is so of each two elements, and of what a function makes of them
+-- ---- what is true of each two elements, before and after a function is mapped over them
 
 module _ {Y : Type 0} (R : Y → Y → Type 0) (f : List ℕ → Y) (xs : List (List ℕ)) where
   pairs_unmapped : AllPairs R (map f xs) → AllPairs (λ a b. R (f a) (f b)) xs
@@ -63,7 +62,6 @@ module _ (query : Query) (tables : Tables) (lists : List (List ℕ)) (are : AreO
   abbrev listed : ℕ → ℕ → Bool
   listed entry row = has row (list_at lists entry)
 
-  -- the choices over whole tables whose rows are all listed
   abbrev kept : List (List ℕ)
   kept = filter (all_pass listed order) (query_level query tables order)
 

@@ -1,4 +1,4 @@
--- Where no conjunct names just one entry, bounds are near those from the degree lists of whole columns.
+-- If no conjunct names just one entry, bounds are near those from the degree lists of whole columns.
 use Rattle.std.proofs.Common.{◌≡◌, ℕ, ◌+◌, ◌*◌, ◌<◌, ◌≤◌, ◌^◌, List, [], length, get_or, refl, ap, sym, ◌∙◌, subst}
 use Rattle.std.proofs.Math.Path.{fun_ext}
 use Rattle.std.proofs.lemmas.List.{length-map}
@@ -23,7 +23,7 @@ use Rattle.planning.specs.Bounds.{set_bounds_of, whole_columns}
 use Rattle.planning.proofs.Facts.{each_column}
 
 module _ (tables : Tables) where
-  -- a row's value as a number
+  -- a row's number in its column serves as its key
   abbrev row_number : ℕ → ℕ → ℕ → ℕ
   row_number entry column row = get_or (numbered (column_values tables entry column)) row 0
 

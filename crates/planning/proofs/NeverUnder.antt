@@ -1,4 +1,4 @@
--- No scan passes its bound, and no level the bound of its set: what statistics of the tables tell stands for the scans.
+-- No scan has more rows than its bound, and no level has more rows than the bound of its set: bounds from statistics of the tables stand for the scans.
 use Rattle.std.proofs.Common.{◌≡◌, ◌⊎◌, ℕ, ◌<◌, ◌≤◌, ◌^◌, List, length, get_or, refl, sym, subst, arith}
 use Rattle.std.specs.List.{Contains}
 use Rattle.std.proofs.lemmas.List.{take_all}
@@ -33,11 +33,9 @@ use Rattle.planning.proofs.Facts.{Facts, each_column, facts, stand_for}
 use Rattle.planning.proofs.FromLists.{levels_bound, stand_in_every_set}
 use Rattle.planning.proofs.ScanBounds.{have_lists, stand_for_scans}
 
--- as many scans as entries
 pub one_scan_each : (query : Query) (tables : Tables) (accuracy : ℕ) → length (scan_bounds_of query tables accuracy) ≡ length query.from
 one_scan_each query tables accuracy = length-map-range_with_len (scan_rows query (statistics_of tables accuracy)) 0 (length query.from)
 
--- bounds of scans, from statistics that stand for the tables and tell of no entry more rows than its table has
 module _ (query : Query) (known : Statistics) (tables : Tables) (key : Keys) (stands : StandFor query known tables key) where
   scan_fits : (entry : ℕ) → entry < length query.from → length (query_scan query tables entry) ≤ get_or (scan_bounds query known) entry 0
   scan_fits entry low = scan_within query known tables key entry (scan_bounds query known) refl stands low
@@ -61,7 +59,6 @@ module _ (query : Query) (tables : Tables) (accuracy : ℕ) where
   abbrev bounds : EntryBounds
   bounds = entry_bounds query (statistics_of tables accuracy)
 
-  -- what the statistics tell of the entries stands for their scans
   pub entries_stand : EntriesStand query tables (scans_of query tables) (facts tables accuracy).key (entry_bounds query (statistics_of tables accuracy))
   entries_stand =
       let f : Facts tables accuracy = facts tables accuracy in
@@ -82,7 +79,6 @@ module _ (query : Query) (tables : Tables) (accuracy : ℕ) where
       let f : Facts tables accuracy = facts tables accuracy in
       scans_bound query (statistics_of tables accuracy) tables f.key (stand_for query tables accuracy f) (λ entry low. omega arith)
 
-  -- the bound of a scan is at most the number of rows of the table
   pub scan_small : (entry : ℕ) → entry < length query.from
       → get_or (scan_bounds_of query tables accuracy) entry 0 ≤ row_counts tables entry
   scan_small = told_bound.within
@@ -93,7 +89,6 @@ module _ (query : Query) (tables : Tables) (accuracy : ℕ) where
       levels_bound query tables (scans_of query tables) key (in_every_set bounds)
       (stand_in_every_set query tables (scans_of query tables) key bounds (whole_of_scans query tables) entries_stand)
 
-  -- levels over the scans are the query's
   level_is : (subset : ℕ) (order : List ℕ) → subset < 2 ^ length query.from → IsOrderOfSet (entries_of_set subset) order
       → level_over (conjuncts_of query tables) (list_at (scans_of query tables)) order ≡ query_level query tables order
   level_is subset order fits o =

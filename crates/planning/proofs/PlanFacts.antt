@@ -1,4 +1,4 @@
--- What holds of the plan of a query over its tables: it is one over the scans.
+-- The plan of a query over its tables is a plan over the scans.
 use Rattle.std.proofs.Common.{◌≡◌, ℕ, ◌+◌, ◌<◌, ◌≤◌, List, Ok, Err, length, take, get_or, subst, arith}
 use Rattle.std.specs.Prelude.{◌≢◌}
 use Rattle.limits.specs.Profile.{most_budget, most_entries}
@@ -56,7 +56,6 @@ module _ (query : Query) (tables : Tables) (accuracy budget : ℕ) where
     unfolding planned
     level_within k = level_within_budget sets scans (length query.from) budget (one_scan_each query tables accuracy) plan made k
 
-    -- it is one over the scans, as lists
     pub is_plan_of : length query.from ≤ most_entries → budget ≤ most_budget → IsPlanOf query tables (scans_of query tables) plan
     unfolding planned
     is_plan_of few small =

@@ -1,4 +1,4 @@
--- From lists of scanned rows to lists of a query's database, as the code takes them.
+-- Lists of scanned rows are lists of rows of the query's database, in the form in which the code takes them.
 use Rattle.std.proofs.Common.{◌≡◌, ℕ, ◌+◌, ◌<◌, ◌≤◌, List, [], ◌∷◌, length, get_or, refl, ap, sym, ◌∙◌, subst, arith, inl, inr}
 use Rattle.std.specs.List.{Contains}
 use Rattle.std.proofs.lemmas.Bool.{cases_lt}
@@ -16,7 +16,6 @@ use Rattle.reduced_scans.proofs.Members.{all_has, behind, in_front}
 use Rattle.join_steps.proofs.WholeScans.{length-lists_of, count_of, scan_at}
 use Rattle.reduced_scans.proofs.QueryScans.{scanned_low}
 
--- different rows below n are at most n
 short : (rows : List ℕ) (from n : ℕ) → from ≤ n → IsAscending rows → ((row : ℕ) → Contains rows row → (from ≤ row) × (row < n)) → from + length rows ≤ n
 short [] from n fits ascend within = omega (arith, fits)
 short (row ∷ rows) from n fits ascend within =

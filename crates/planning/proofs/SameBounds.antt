@@ -23,7 +23,7 @@ module _ (b c : EntryBounds) (rows : (entry : ℕ) → b.rows entry ≡ c.rows e
   abbrev IsSame : ℕ → ℕ → Type 0
   IsSame entry column = b.list entry column ≡ c.list entry column
 
-  -- ---- a tree
+  -- ---- the bound of a tree
 
   composed_same : (entry column : ℕ) (cs : Classes) → IsSame entry column → child_lists b entry cs ≡ child_lists c entry cs
       → composed (b.list entry column) (child_lists b entry cs) ≡ composed (c.list entry column) (child_lists c entry cs)
@@ -54,7 +54,7 @@ module _ (b c : EntryBounds) (rows : (entry : ℕ) → b.rows entry ≡ c.rows e
   trees_same es (t ∷ ts) columns trees =
       ap (λ (n : ℕ). n * bound_of_trees b ts) (tree_same t (columns t trees.0)) ∙ ap (λ (n : ℕ). bound_of_tree c t * n) (trees_same es ts columns trees.1)
 
-  -- ---- a set
+  -- ---- the bound of a set
 
   least_same : (f g : ℕ → ℕ) → ((turn : ℕ) → f turn ≡ g turn) → (last : ℕ) → least_to f last ≡ least_to g last
   least_same f g same last = ap (λ (h : ℕ → ℕ). least_to h last) (fun_ext same)

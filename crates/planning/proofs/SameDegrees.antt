@@ -1,4 +1,4 @@
--- Cells of rows have the same degree list as the values that they stand for.
+-- Cells of rows have the same degree list as the values of the cells.
 use Rattle.std.proofs.Common.{◌≡◌, ℕ, ◌<◌, true, List, length, map, get_or, pos, refl, ap, sym, ◌∙◌, arith}
 use Rattle.std.specs.Prelude.{All, slice_index}
 use Rattle.std.specs.List.{Contains}

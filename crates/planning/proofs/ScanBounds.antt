@@ -1,4 +1,4 @@
--- The bounds of entries stand for the scans, where statistics stand for tables.
+-- If statistics stand for tables, the bounds of entries from these statistics stand for the scans.
 use Rattle.std.proofs.Common.{◌≡◌, ℕ, suc, ◌<◌, ◌≤◌, Bool, true, List, [], ◌∷◌, length, map, get_or, ap, sym, ◌∙◌, subst, sum, arith}
 use Rattle.std.specs.Prelude.{if◌then◌else◌}
 use Rattle.std.proofs.lemmas.Bool.{lt-ltb}
@@ -24,7 +24,6 @@ use Rattle.query_bounds.proofs.Levels.{scan_fits}
 use Rattle.query_bounds.proofs.Sets.{both_among}
 use Rattle.planning.specs.Standing.{ColumnStands, EntriesStand, JoinedHaveLists}
 
--- what holds of both columns of each equality
 pub named_all : (Q : ℕ → ℕ → Type 0) (es : List Edge)
     → ((k : ℕ) (d : Edge) → k < length es → Q (get_or es k d).left.entry (get_or es k d).left.column × Q (get_or es k d).right.entry (get_or es k d).right.column)
     → EachNamedColumn Q es
@@ -84,7 +83,6 @@ module _ (query : Query) (known : Statistics) where
           ));
     }
 
-  -- lists of joined columns that fall and sum to the numbers of rows are there
   pub have_lists : EachNamedColumn (λ entry column. ListsFall (known.lists entry column) × SumTo (known.lists entry column) (known.counts entry)) (equalities_of query)
       → JoinedHaveLists query (entry_bounds query known)
   have_lists named =

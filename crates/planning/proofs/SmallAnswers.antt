@@ -1,4 +1,4 @@
--- Answers over small tables beside their reduced scans, by computation.
+-- These examples compute answers over the small tables whose reduced scans are examples.
 use Rattle.std.proofs.Common.{◌≡◌, ℕ, Bool, true, ◌&&◌, List, [], ◌∷◌, Ok, length, map, refl, ap, ◌∙◌, arith}
 use Rattle.std.specs.Prelude.{pos, slice_index}
 use Rattle.std.specs.List.{filter}
@@ -33,7 +33,7 @@ use Rattle.planning.specs.ReducedExamples.{crossed_tables, empty_first, never_tr
 use Rattle.planning.specs.Plans.{planned_reduced}
 use Rattle.planning.proofs.SmallReductions.{another_reduced, plan_computed, reduced_from}
 
--- the answer, where this test says whether every conjunct holds
+-- the answer is computed with one test that says whether every conjunct holds
 answer_by : (query : Query) (tables : Tables) (test : (ℕ → ℕ) → Bool) → ((row_of : ℕ → ℕ) → query_holds query tables row_of ≡ test row_of)
     → answer query tables ≡ map (λ choice. selected query tables (slice_index choice)) (filter (λ choice. test (slice_index choice)) (choices_of (row_counts tables) (entries_of query)))
 answer_by query tables test is =

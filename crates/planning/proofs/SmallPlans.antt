@@ -1,4 +1,4 @@
--- The plans of two small tables, by computation.
+-- These examples compute the plans of two small tables.
 use Rattle.std.proofs.Common.{◌≡◌, ℕ, List, [], ◌∷◌, Ok, Err, refl, ap, ◌∙◌, arith}
 use Rattle.entry_sets.specs.Sets.{entries_of_set}
 use Rattle.plans.specs.Examples.{plan_of}
@@ -27,7 +27,6 @@ unfolding entries_of_set
 finer_sets =
     rw (entries_compare op.Eq (column_operand 0 0) (column_operand 1 0), equality_two 0 0 1 0 (λ e. absurd (omega (arith, e)))) refl
 
--- the choice over these bounds, within a budget that is enough and within one that isn't
 chosen : plan_answer (1 ∷ 6 ∷ 5 ∷ 12 ∷ []) (6 ∷ 5 ∷ []) 12 ≡ Ok (plan_of (1 ∷ 0 ∷ []) (6 ∷ 5 ∷ []) (5 ∷ 12 ∷ []))
 unfolding plan_answer best_order
 chosen = refl

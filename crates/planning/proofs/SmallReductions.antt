@@ -1,4 +1,4 @@
--- Reduced scans and plans of small tables, by computation.
+-- These examples compute reduced scans and plans of small tables.
 use Rattle.std.proofs.Common.{◌≡◌, ℕ, ◌+◌, true, not, ◌&&◌, ◌||◌, List, [], ◌∷◌, Ok, refl, ap, ◌∙◌, arith}
 use Rattle.std.specs.Prelude.{pos}
 use Rattle.std.specs.List.{list_all, range_with_len}
@@ -34,7 +34,7 @@ use Rattle.planning.specs.ListedBounds.{set_bounds_over}
 use Rattle.planning.specs.ReducedExamples.{along, by_region, chain_tables, empty_first, never_true, region_tables, with_another}
 use Rattle.planning.specs.Plans.{planned_over, planned_reduced}
 
--- ---- from equalities, scans and bounds to what is computed of them
+-- ---- reduced scans and plans, from computed equalities, scans and bounds
 
 pub reduced_from : (query : Query) (tables : Tables) (es : List Edge) (scans : List (List ℕ)) → equalities_of query ≡ es → scans_of query tables ≡ scans
     → reduced_of query tables ≡ after_rounds es (are_equal_at tables) (rows_in_all scans + 1) scans
@@ -82,7 +82,6 @@ pair_plan = plan_computed pair small_tables ((0 ∷ 1 ∷ 2 ∷ []) ∷ (0 ∷ 1
 region_joined : equalities_of by_region ≡ edge_of 0 1 1 0 ∷ []
 region_joined = rw (equality_two 0 1 1 0 (λ e. absurd (omega (arith, e))), equality_literal (column_operand 1 1) (operand.Int (pos 3)) refl) refl
 
--- C's own conjunct
 in_region : (row : ℕ) → list_all (λ c. not (names_just c 1) || c.holds (λ e. row)) (conjuncts_of by_region region_tables)
     ≡ (comparison_says region_tables (λ e. row) op.Eq (column_operand 1 1) (operand.Int (pos 3)) && true)
 in_region row =

@@ -1,4 +1,5 @@
--- A row of a consistent family takes part in a choice for all entries connected with its own, where equalities close no cycle.
+-- If equalities close no cycle, each row of a consistent family (lists in which each row has its partners) takes part in a choice for all entries
+-- connected with its own.
 use Rattle.std.proofs.Common.{◌≡◌, ℕ, true, false, not, ◌||◌, eqb, List, [], ◌∷◌, length, refl, ap, sym, ◌∙◌, subst, inl, inr, Some}
 use Rattle.std.specs.List.{Contains, list_all, range_with_len}
 use Rattle.std.proofs.lemmas.Bool.{and_from, cases_lt, eqb-true, false≢true, or_cases}
@@ -35,7 +36,6 @@ not_none [] x has = absurd (not_in_none x has)
 not_none (y ∷ named) x has = refl
 
 module _ (query : Query) (tables : Tables) (family : List (List ℕ)) (are : AreConsistentScans query tables family) where
-  -- a listed row is one of its entry's scan
   scanned : (entry row : ℕ) → Contains (list_at family entry) row → Contains (query_scan query tables entry) row
   scanned entry row listed =
       let there : Contains (list_at (scans_of query tables) entry) row = are.is_family.scanned entry row listed in
@@ -51,7 +51,6 @@ module _ (query : Query) (tables : Tables) (family : List (List ℕ)) (are : Are
     connected_to : (other : ℕ) → AreConnected (equalities_of query) entry other → component es other ≡ component es entry
     connected_to other connected = connected_same es entry other (still_connected (equalities_of query) entry other connected)
 
-    -- an equality that names a connected entry
     equality_met : (cond : Cond) (other : ℕ) (edge : Edge) → Contains query.conjuncts cond → equality_of cond ≡ Some edge → Contains (entries_named cond) other
         → component es other ≡ component es entry → cond_holds tables e.row_of cond ≡ true
     equality_met cond other edge there is named same =
@@ -66,7 +65,6 @@ module _ (query : Query) (tables : Tables) (family : List (List ℕ)) (are : Are
           ]
         ])
 
-    -- a conjunct that names a connected entry alone
     own_met : (cond : Cond) (other : ℕ) → Contains query.conjuncts cond → are_within (entries_named cond) (other ∷ []) ≡ true → Contains (entries_named cond) other
         → component es other ≡ component es entry → cond_holds tables e.row_of cond ≡ true
     own_met cond other there alone named same =

@@ -17,11 +17,11 @@ use Rattle.join_steps.specs.Lists.{list_at, rows_listed, AreOfScans}
 use Rattle.level_bounds.specs.Keys.{AreKeys, Keys}
 use Rattle.level_bounds.specs.Orders.{IsOrderOfSet}
 
--- ---- what is known of entries
+-- ---- bounds of entries
 
--- `taking` has listed rows that may take part in a choice for a set: without the others no choice of the set's level is lost. What is known
--- of the entries stands for these rows. Each entry of the set has at most as many of them as its row bound. The degree sequence of each
--- column that joins two entries of the set dominates the degrees of these rows' keys
+-- `bounds` stands for the listed rows in a set. `taking` has the listed rows that may take part in a choice for the set: without the other rows no
+-- choice of the set's level is lost. Each entry of the set has at most as many rows in `taking` as its row bound. The degree sequence of each column
+-- that joins two entries of the set dominates the degrees of these rows' keys
 pub record StandInSet (query : Query) (tables : Tables) (lists : List (List ℕ)) (key : Keys) (bounds : EntryBounds) (subset : ℕ) : Type 0 where
   pub taking : List (List ℕ)
   pub are : AreOfScans query tables taking
@@ -30,25 +30,25 @@ pub record StandInSet (query : Query) (tables : Tables) (lists : List (List ℕ)
   pub have_lists : SetHasLists bounds (equalities_of query) subset
   pub dominate : SetDominates bounds (scanned (list_at taking) key) (equalities_of query) subset
 
--- rows that an equality joins have the same key, and what is known of the entries in each set stands for the listed rows
+-- rows that an equality joins have the same key, and the bounds of the entries in each set stand for the listed rows
 pub record StandForLists (query : Query) (tables : Tables) (lists : List (List ℕ)) (key : Keys) (bounds : ℕ → EntryBounds) : Type 0 where
   pub keys : AreKeys tables key (equalities_of query)
   pub each_set : (subset : ℕ) → subset < 2 ^ length query.from → StandInSet query tables lists key (bounds subset) subset
 
--- ---- the same in every set
+-- ---- bounds of entries that are the same in every set
 
 -- each column of a FROM entry that an equality joins has its degree sequence
 abbrev pub JoinedHaveLists : Query → EntryBounds → Type 0
 JoinedHaveLists query bounds = EachNamedColumn (λ entry column. entry < length query.from → HasList bounds entry column) (equalities_of query)
 
--- the degree sequence of a column falls and sums to the row bound of its entry, and dominates the degrees of the keys that the listed rows
--- have in it
+-- the degree sequence of a column falls and sums to the row bound of its entry, and it dominates the degrees of the keys that the listed rows have in
+-- the column
 pub record ColumnStands (lists : List (List ℕ)) (key : Keys) (bounds : EntryBounds) (entry column : ℕ) : Type 0 where
   pub has : HasList bounds entry column
   pub dominates : DominatesKeys (bounds.list entry column) (map (key entry column) (list_at lists entry))
 
--- rows that an equality joins have the same key. The row bound of each FROM entry is at least the number of its listed rows, and for each
--- of its columns that an equality joins `ColumnStands` holds
+-- rows that an equality joins have the same key. The row bound of each FROM entry is at least the number of its listed rows, and `ColumnStands` is
+-- true for each of its columns that an equality joins
 pub record EntriesStand (query : Query) (tables : Tables) (lists : List (List ℕ)) (key : Keys) (bounds : EntryBounds) : Type 0 where
   pub keys : AreKeys tables key (equalities_of query)
   pub rows : (entry : ℕ) → entry < length query.from → rows_listed lists entry ≤ bounds.rows entry

@@ -20,7 +20,7 @@ use std::alloc::Global;
 
 /// The bound of each entry's scan, in rows and in FROM order. No scan has more rows than its bound.
 ///
-/// The accuracy is that of compressed lists (SafeBound, SIGMOD 2023).
+/// `accuracy` is the accuracy of compressed lists (SafeBound, SIGMOD 2023).
 #[tactic(auto, using(crate::proofs::Giving::is_told))]
 pub fn scan_bounds(
     alloc: Global,
@@ -41,10 +41,10 @@ pub fn scan_bounds(
     Ok(scans)
 }
 
-/// The bound of each set of entries, in rows, at the number whose bits are the set. It is `u128::MAX` where the bound is larger, and 1 for
-/// the empty set. No level over exactly these entries has more rows than a bound below `u128::MAX`, in whatever order the entries stand.
+/// The bound of each set of entries, in rows, at the number whose bits are the set. It is `u128::MAX` if the bound is larger, and 1 for the empty
+/// set. No level over exactly these entries has more rows than a bound below `u128::MAX`, in whatever order the entries stand.
 ///
-/// The accuracy is that of compressed lists (SafeBound, SIGMOD 2023).
+/// `accuracy` is the accuracy of compressed lists (SafeBound, SIGMOD 2023).
 pub fn subset_bounds(
     alloc: Global,
     query: &Query,

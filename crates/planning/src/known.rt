@@ -20,11 +20,11 @@ pub struct Known {
     pub scans: Seq<u64>,
 }
 
-/// The bounds of all sets of the entries, from the row bound of each entry and the degree sequence of each of its joined columns. These may
-/// depend on the set. The bounds of the scans are kept as they are given.
+/// The bounds of all sets of the entries, from the row bound of each entry and the degree sequence of each of its joined columns. Row bounds and
+/// degree sequences may depend on the set. The bounds of the scans are kept as they are given.
 ///
-/// In each turn a set has the product of the bounds of its trees, by the degree sequences of its columns. Its bound is the least of these
-/// products (SafeBound, SIGMOD 2023; Degree Sequence Bound, ICDT 2023).
+/// In each turn the bounds of a set's trees, which come from the degree sequences of their columns, are multiplied. The set's bound is the least of
+/// these products (SafeBound, SIGMOD 2023; Degree Sequence Bound, ICDT 2023).
 pub fn bounds_from<K: KnownInSets>(
     alloc: Global,
     parts: &Parts,
@@ -44,7 +44,7 @@ pub fn bounds_from<K: KnownInSets>(
 /// The best order of the entries by these bounds, with the bounds of its scans and levels, or why no order is within the budget. All
 /// numbers are in rows, and the budget is at most 20,000,000.
 ///
-/// It answers `Budget` and `PastBits` exactly where `plan_answer` says, and `NoMemory` if memory runs out.
+/// It answers `Budget` or `PastBits` exactly if `plan_answer` does, and `NoMemory` if memory runs out.
 pub fn plan_from(alloc: Global, known: &Known, budget: u64) -> Result<Plan, PlanError>
     requires some { 1 ≤ length known.now.scans }
     requires few { length known.now.scans ≤ most_entries }

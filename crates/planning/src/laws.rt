@@ -32,7 +32,8 @@ ghost use Rattle.planning.specs.Bounds.{scan_bounds_of, set_bounds_of, whole_col
 ghost use Rattle.planning.specs.Plans.{planned, planned_from};
 ghost use Rattle.planning.specs.Standing.{BoundLevels, BoundLists, EntriesStand, JoinedHaveLists, StandForLists};
 
-/// The statistics of any tables stand for these tables, with keys that are the same for rows that an equality joins.
+/// The statistics of any tables stand for these tables: what they say of the rows is true. They speak of keys that are the same for rows which an
+/// equality joins.
 pub fn statistics_stand()
     ensures { (query : Query) (tables : Tables) (accuracy : ℕ)
         → (key : Keys) × StandFor query (statistics_of tables accuracy) tables key × AreKeys tables key (equalities_of query) }
@@ -49,8 +50,8 @@ pub fn bounds_are_never_under()
         ⊎ (slice_index (set_bounds_of query tables accuracy) subset ≡ top_bound) }
 {}
 
-/// Bounds are near where no conjunct names just one entry. At accuracy K, K^n times the bound of a set of n entries is at most (K + 1)^n
-/// times its uncompressed bound, which is made from the degree sequences of whole columns.
+/// If no conjunct names just one entry, bounds are near the uncompressed bounds, which are made from the degree sequences of whole columns. At
+/// accuracy K, K^n times the bound of a set of n entries is at most (K + 1)^n times its uncompressed bound.
 pub fn bounds_are_near()
     ensures { (query : Query) (tables : Tables) (accuracy subset : ℕ)
         → ((entry : ℕ) → own_conjuncts entry query.conjuncts ≡ []) → subset < 2 ^ length query.from
@@ -63,8 +64,8 @@ pub fn plans_want_no_memory()
     ensures { (query : Query) (tables : Tables) (accuracy budget : ℕ) → planned query tables accuracy budget ≢ Err error.NoMemory }
 {}
 
-/// What holds of a plan: its order is the best one, and no bound in it is too low. A scan's bound is at most the number of rows of its
-/// table, and a level's bound at most the budget.
+/// The order of a plan is the best one, and no bound in the plan is too low. A scan's bound is at most the number of rows of its table, and a level's
+/// bound at most the budget.
 pub fn plans_are_never_under()
     ensures plan { (query : Query) (tables : Tables) (accuracy budget : ℕ) (plan : Plan)
         → planned query tables accuracy budget ≡ Ok plan → IsPlan (length query.from) plan }
@@ -79,7 +80,7 @@ pub fn plans_are_never_under()
         → length query.from ≤ most_entries → budget ≤ most_budget
         → planned query tables accuracy budget ≡ Ok plan → k < length query.from
         → length (query_level query tables (take (k + 1) plan.order)) ≤ slice_index plan.levels k }
-    // the same, as a level of the order
+    // the same for level k + 1 of the order
     ensures levels_of_order { (query : Query) (tables : Tables) (accuracy budget : ℕ) (plan : Plan) (k : ℕ)
         → length query.from ≤ most_entries → budget ≤ most_budget
         → planned query tables accuracy budget ≡ Ok plan → k < length query.from
@@ -92,10 +93,10 @@ pub fn plans_are_never_under()
         → slice_index plan.levels k ≤ budget }
 {}
 
-/// The law of all plans, whatever bounds they are from. Suppose that no bound of a set is below a level over lists of scanned rows. Suppose
-/// also that each scan's bound is at least the number of its listed rows, and at most the number of rows of its table. Then the plan is one
-/// over these lists (`IsPlanOf`), so no bound in it is too low. The first condition holds where what is known of the entries in each set
-/// stands for the lists. Statistics of the tables stand for the scans, and degree sequences of listed rows stand for these rows.
+/// This law is about all plans, whatever bounds they are from. Suppose that no level over lists of scanned rows has more rows than the bound of its
+/// set. Suppose also that each scan's bound is at least the number of its listed rows, and at most the number of rows of its table. Then the plan is
+/// a plan over these lists (`IsPlanOf`), so no bound in it is too low. The first condition holds if the bounds of the entries in each set stand for
+/// the lists (`StandForLists`). Statistics of the tables stand for the scans, and degree sequences of listed rows stand for these rows.
 pub fn plans_from_lists_are_never_under()
     ensures sets { (query : Query) (tables : Tables) (lists : List (List ℕ)) (key : Keys) (bounds : ℕ → EntryBounds)
         → StandForLists query tables lists key bounds

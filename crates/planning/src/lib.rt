@@ -1,9 +1,9 @@
 //! From a query and its database to the best order of its entries, with the bounds of scans and levels.
 //!
-//! In: a query and the tables of its entries. Each entry gets a row bound, and each of its joined columns a degree sequence. They are made
-//! from statistics of the entry's table (`from_statistics`), or from a list of its rows, such as its reduced scan (`from_reduced`). From
-//! these `bounds_from` makes the bounds of all sets of entries, a `Known`, and `plan_from` chooses the order of least cost. Out: the plan,
-//! or why no plan is within the budget. `from_reduced` answers the reduced scans too, since the plan's levels are joined from them.
+//! In: a query and the tables of its entries. Each entry gets a row bound, and each of its joined columns a degree sequence. Both are made from
+//! statistics of the entry's table (`from_statistics`), or from a list of its rows, such as its reduced scan (`from_reduced`). From these
+//! `bounds_from` makes the bounds of all sets of entries, a `Known`, and `plan_from` chooses the order of least cost. Out: the plan, or why no plan
+//! is within the budget. `from_reduced` returns the reduced scans too, since the plan's levels are joined from them.
 //!
 //! Callers cite `HasBounds` for the bounds in a `Known`, and `planned_from` (in `specs/Plans.antt`) for the answer. `planned`,
 //! `planned_over` and `planned_reduced` are this answer for bounds from different sources. Each is a function of the query, its plain

@@ -32,8 +32,8 @@ pub fn bounds_over_lists_are_never_under()
         ⊎ (slice_index (set_bounds_over query tables lists accuracy) subset ≡ top_bound) }
 {}
 
-/// What holds of a plan over lists. Its order is the best one, and a scan's bound is exactly the number of listed rows. Where the
-/// lists are of scanned rows, no bound in it is too low.
+/// The order of a plan over lists is the best one, and a scan's bound is exactly the number of listed rows. If the lists are of scanned rows, no
+/// bound in the plan is too low.
 pub fn plans_over_lists_are_never_under()
     ensures plan { (query : Query) (tables : Tables) (lists : List (List ℕ)) (accuracy budget : ℕ) (plan : Plan)
         → AreOfScans query tables lists → length query.from ≤ most_entries → budget ≤ most_budget
@@ -66,7 +66,7 @@ pub fn reduced_plans_lose_no_row()
         → planned_reduced query tables accuracy budget ≢ Err error.NoMemory }
 {}
 
-/// The scans themselves are lists of scanned rows, and the levels over them are those of the query.
+/// The scans themselves are lists of scanned rows, and the levels over them are the levels of the query.
 pub fn levels_over_whole_scans()
     ensures lists { (query : Query) (tables : Tables) → AreOfScans query tables (scans_of query tables) }
     ensures levels { (query : Query) (tables : Tables) (order : List ℕ) (k : ℕ) → IsOrderOfSet (entries_of query) order
@@ -74,9 +74,9 @@ pub fn levels_over_whole_scans()
         ≡ level (conjuncts_of query tables) (row_counts tables) order k }
 {}
 
-/// Suppose that the equalities close no cycle of entries, and that no other conjunct names several entries. Then each reduced row
-/// takes part in a choice of reduced rows for all entries that are connected with its own. Every conjunct that names one of these
-/// entries holds of the choice. The same is true of any lists of scanned rows in which each row finds its partners.
+/// Suppose that the equalities close no cycle of entries, and that no other conjunct names several entries. Then each reduced row takes part in a
+/// choice of reduced rows for all entries that are connected with its own. Every conjunct that names one of these entries holds for the choice. The
+/// same is true of any lists of scanned rows in which each row finds its partners.
 pub fn reduced_rows_take_part()
     ensures consistent { (query : Query) (tables : Tables) (lists : List (List ℕ)) (entry row : ℕ) → AreConsistentScans query tables lists
         → ClosesNoCycle (equalities_of query) → JoinsByEqualitiesAlone query → Contains (list_at lists entry) row

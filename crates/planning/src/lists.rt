@@ -56,7 +56,7 @@ fn column_list(
     compress(alloc, degrees.as_slice(), accuracy)
 }
 
-// Adds the degree sequence of a column that isn't there yet.
+// Adds the degree sequence of a column to `known`, which doesn't have it yet.
 fn add_new(
     alloc: Global,
     db: &Database,
@@ -87,7 +87,7 @@ fn is_there(known: &EntryLists, place: Place) -> bool
     known.list(place.entry, place.column).is_some()
 }
 
-// Adds the degree sequence of a column, if it isn't there yet.
+// Adds the degree sequence of a column to `known`, unless `known` has it.
 fn add_list(
     alloc: Global,
     db: &Database,
@@ -110,7 +110,7 @@ fn add_list(
     add_new(alloc, db, lists, place, accuracy, known)
 }
 
-/// The row bound of each entry, and the degree sequence of each column that one of the equalities joins, once each.
+/// The row bound of each entry, and the degree sequence of each column that one of the equalities joins. A column gets one degree sequence.
 pub(crate) fn lists_over_rows(
     alloc: Global,
     db: &Database,

@@ -1,4 +1,4 @@
-//! What is known of a query's entries over their reduced scans.
+//! The bounds of a query's sets and scans, from the reduced scans of its entries.
 ghost use Rattle.std.specs.Prelude.{◌≡◌, IfOk, length, vec_capacity};
 ghost use Rattle.join_graph.specs.Conjuncts.{equalities_of};
 ghost use Rattle.sql_meaning.specs.Databases.{IsDatabaseOf};
@@ -22,7 +22,7 @@ use reduced_scans::reduce_scans;
 use row_buf::RowBuf;
 use std::alloc::Global;
 
-/// What is known over the reduced scans of a query, and for each FROM entry the numbers of its reduced rows, in file order.
+/// The bounds from the reduced scans of a query, and for each FROM entry the numbers of its reduced rows, in file order.
 #[derive(Drop)]
 pub struct Reduced {
     pub known: Known,
@@ -47,14 +47,14 @@ pub fn reduced_lists(
     reduce_scans(alloc, query, equalities, db, &scans)
 }
 
-/// What is known from the reduced scans of the query, together with these scans. A scan's bound is the number of its rows that are left.
+/// The bounds from the reduced scans of the query, together with these scans. A scan's bound is the number of its rows that are left.
 ///
-/// A row of a scan is left if it has a match for each equality of one of its columns with a column of another entry. A match is a row
-/// of that entry that has the same value and is left too (semi-join reduction, Bernstein and Goodman 1981). Time and memory are linear
-/// in the rows times their equalities, except for sorting columns and for the bounds of all sets. All memory but the answer's is freed,
-/// and the answer's lists have room for their own rows alone.
+/// A row of a scan is left if it has a match for each equality of one of its columns with a column of another entry. A match is a row of the other
+/// entry that has the same value and is left too (semi-join reduction, Bernstein and Goodman 1981). Time and memory are linear in the rows times
+/// their equalities, except for sorting columns and for the bounds of all sets. All memory but the result's is freed, and the result's lists have
+/// room for their own rows alone.
 ///
-/// The accuracy is that of compressed lists (SafeBound, SIGMOD 2023).
+/// `accuracy` is the accuracy of compressed lists (SafeBound, SIGMOD 2023).
 pub fn from_reduced(
     alloc: Global,
     query: &Query,

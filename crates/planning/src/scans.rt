@@ -35,7 +35,7 @@ fn table_sizes(alloc: Global, query: &Query, db: &Database) -> Result<Vec<u64>, 
     Ok(sizes)
 }
 
-/// The scan of each FROM entry, as `reduce_scans` takes them, in buffers with room for its table.
+/// The scan of each FROM entry, in a buffer with room for all rows of the entry's table. `reduce_scans` takes such buffers.
 pub fn scan_entries(
     alloc: Global,
     query: &Query,

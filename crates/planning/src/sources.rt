@@ -1,4 +1,4 @@
-//! What is known of a query's entries, from statistics of its tables or from lists of their rows.
+//! The bounds of a query's sets and scans, from statistics of its tables or from lists of their rows.
 ghost use Rattle.std.specs.Prelude.{◌≡◌, ◌≤◌, IfOk, length};
 ghost use Rattle.limits.specs.Profile.{most_entries};
 ghost use Rattle.join_graph.specs.Conjuncts.{equalities_of};
@@ -26,8 +26,8 @@ use query_types::Query;
 use row_buf::RowBuf;
 use std::alloc::Global;
 
-/// What is known from statistics of a query's entries, whatever these were made from. A scan's bound is the row bound of its entry. The
-/// parts are those of `split`.
+/// The bounds from statistics of a query's entries, whatever the statistics were made from. A scan's bound is the row bound of its entry. `parts` is
+/// the result of `split`.
 pub fn from_told(
     alloc: Global,
     query: &Query,
@@ -48,9 +48,9 @@ pub fn from_told(
     Ok(known)
 }
 
-/// What is known from statistics of the query's tables, which are gathered once. A scan's bound is the row bound of its entry.
+/// The bounds from statistics of the query's tables, which are gathered once. A scan's bound is the row bound of its entry.
 ///
-/// The accuracy is that of compressed degree sequences (SafeBound, SIGMOD 2023).
+/// `accuracy` is the accuracy of compressed degree sequences (SafeBound, SIGMOD 2023).
 #[tactic(auto, using(crate::proofs::Giving::is_told))]
 pub fn from_statistics(
     alloc: Global,
@@ -66,10 +66,10 @@ pub fn from_statistics(
     from_told(alloc, query, &parts, &stats)
 }
 
-/// What is known from lists of rows of the query's tables, one list for each entry. A scan's bound is the number of rows of its list. The
-/// equalities are those of `split`.
+/// The bounds from lists of rows of the query's tables, one list for each entry. A scan's bound is the number of rows of its list. `parts` is the
+/// result of `split`.
 ///
-/// The accuracy is that of compressed degree sequences (SafeBound, SIGMOD 2023).
+/// `accuracy` is the accuracy of compressed degree sequences (SafeBound, SIGMOD 2023).
 pub fn from_rows(
     alloc: Global,
     query: &Query,

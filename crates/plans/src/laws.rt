@@ -2,7 +2,7 @@ ghost use Rattle.std.specs.Prelude.{[], ◌∷◌};
 ghost use Rattle.plans.specs.Examples.{plan_of};
 ghost use Rattle.plans.specs.LeftDeep.{IsOrder, IsPlan};
 
-/// What the definitions say of three entries. It does nothing.
+/// Examples: what the definitions say of three entries. The call does nothing.
 pub fn examples()
     ensures order { IsOrder 3 (0 ∷ 2 ∷ 1 ∷ []) }
     ensures twice { ¬ IsOrder 3 (0 ∷ 2 ∷ 0 ∷ []) }

@@ -1,4 +1,4 @@
--- Steps that are added member by member.
+-- The steps of an AND and of an OR are added member by member. After each member the new steps are those of the definition.
 use Rattle.std.proofs.Common.{◌≡◌, ℕ, ◌+◌, ◌<◌, Bool, true, false, ◌||◌, List, [], ◌∷◌, ◌++◌, map, length, take, get_or, refl, ap, sym, ◌∙◌, subst, append_assoc}
 use Rattle.std.proofs.lemmas.List.{take_more, map-append}
 use Rattle.std.proofs.Math.Bool.{or-true, or-false}
@@ -18,7 +18,7 @@ append_nil : (s : List Step) → s ++ [] ≡ s
 append_nil [] = refl
 append_nil (x ∷ s) = ap (λ (t : List Step). x ∷ t) (append_nil s)
 
--- ---- the steps of members
+-- ---- the steps of two lists of members, one after the other
 
 pub more_steps-append : (some : Bool) (xs ys : List (List Step)) → more_steps some (xs ++ ys) ≡ more_steps some xs ++ more_steps (some || is_some_of xs) ys
 more_steps-append some [] ys = ap (λ (b : Bool). more_steps b ys) (sym (or-false some))
@@ -41,7 +41,7 @@ pub last_true : (ys : List (List Step)) → last_steps true ys ≡ more_steps tr
 last_true [] = refl
 last_true (y ∷ ys) = refl
 
--- an AND of answers, the last of which are those of its ranges
+-- `ys` has the steps of the AND's ranges, which come last
 all_steps : (xs ys : List (List Step)) → all_of step_answers (xs ++ ys) ≡ more_steps false xs ++ last_steps (is_some_of xs) ys
 all_steps [] [] = refl
 all_steps [] (y ∷ ys) = and_more_steps y ys
@@ -49,13 +49,12 @@ all_steps (x ∷ xs) ys =
     and_more_steps x (xs ++ ys) ∙ ap (λ (t : List Step). x ++ t) (more_steps-append true xs ys)
     ∙ sym (append_assoc x (more_steps true xs) (more_steps true ys)) ∙ ap (λ (t : List Step). (x ++ more_steps true xs) ++ t) (sym (last_true ys))
 
--- ---- a member more
+-- ---- the members of one more conjunction
 
 pub or_assoc : (a b c : Bool) → ((a || b) || c) ≡ (a || (b || c))
 or_assoc true b c = refl
 or_assoc false b c = refl
 
--- the answers and ranges of both
 abbrev pub two : Conjunction (List Step) → Conjunction (List Step) → Conjunction (List Step)
 two x y = record { ranges = x.ranges ++ y.ranges; others = x.others ++ y.others }
 
@@ -84,7 +83,6 @@ joined_more (d ∷ cs) c =
     (ap (λ (s : List ranges.Range). record { ranges = s; others = d.others ++ ((one_conjunction cs).others ++ c.others) }) (sym (append_assoc d.ranges (one_conjunction cs).ranges c.ranges))
     ∙ ap (λ (s : List (List Step)). record { ranges = (d.ranges ++ (one_conjunction cs).ranges) ++ c.ranges; others = s }) (sym (append_assoc d.others (one_conjunction cs).others c.others)))
 
--- one condition more
 pub each_more : (f : Cond → Conjunction (List Step)) (conds : List Cond) (i : ℕ) (cond : Cond) (before between after : Members) (old mid new : List Step)
     → i < length conds → cond ≡ get_or conds i cond
     → IsConjunctionAdded before old between mid (one_conjunction (map f (take i conds))) → IsConjunctionAdded between mid after new (f cond) → IsConjunctionAdded before old after new (one_conjunction (map f (take (i + 1) conds)))
@@ -94,7 +92,6 @@ each_more f conds i cond before between after old mid new low is h k =
     (sym (joined_more (map f (take i conds)) (f cond)) ∙ ap one_conjunction (sym (map-append f (take i conds) (cond ∷ [])) ∙ ap (map f) (sym front)))
     (both_added before between after old mid new (one_conjunction (map f (take i conds))) (f cond) h k)
 
--- one answer more
 pub answer_added : (before after : Members) (old mid new x : List Step) → mid ≡ old ++ x → new ≡ mid ++ closing before.some → after.some ≡ true → after.ranges ≡ before.ranges
     → IsConjunctionAdded before old after new (of_answer x)
 answer_added before after old mid new x is closed some same = record {
@@ -107,7 +104,7 @@ answer_added before after old mid new x is closed some same = record {
     nil [] = refl
     nil (y ∷ s) = ap (λ (t : List Range). y ∷ t) (nil s)
 
--- ---- the end of an AND
+-- ---- if a conjunction was added to no members, and the AND was ended, the new steps are those of the conjunction's answer
 
 pub answer_steps : (none after : Members) (old mid new : List Step) (c : Conjunction (List Step)) → none.some ≡ false → none.ranges ≡ []
     → IsConjunctionAdded none old after mid c → new ≡ mid ++ ending after.some after.ranges → new ≡ old ++ and_answer step_answers c
@@ -121,9 +118,8 @@ answer_steps none after old mid new c fresh empty h closed =
     ∙ append_assoc old (more_steps false c.others) (last_steps (is_some_of c.others) (map step_answers.range (intersection_for_each_column c.ranges)))
     ∙ ap (λ (s : List Step). old ++ s) (sym (all_steps c.others (map step_answers.range (intersection_for_each_column c.ranges))))
 
--- ---- OR
+-- ---- the steps of an OR: Nothing, and then for each member its steps and Or
 
--- the steps of each answer, and OR after it
 abbrev pub or_steps : List (List Step) → List Step
 or_steps [] = []
 or_steps (x ∷ xs) = x ++ (step.Or ∷ or_steps xs)
@@ -139,7 +135,6 @@ or_steps_more [] x = refl
 or_steps_more (y ∷ xs) x =
     rw (or_steps_more xs x) (sym (append_assoc y (step.Or ∷ or_steps xs) (x ++ step.Or ∷ [])))
 
--- one condition more
 pub any_more : (f : Cond → List Step) (conds : List Cond) (i : ℕ) (cond : Cond) (old mid next new : List Step) → i < length conds → cond ≡ get_or conds i cond
     → mid ≡ old ++ or_steps (map f (take i conds)) → next ≡ mid ++ f cond → new ≡ next ++ step.Or ∷ [] → new ≡ old ++ or_steps (map f (take (i + 1) conds))
 any_more f conds i cond old mid next new low is so_far more last =

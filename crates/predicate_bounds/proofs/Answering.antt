@@ -1,4 +1,4 @@
--- The steps of an entry's own conjuncts leave the answer that the definition gives.
+-- The steps of an entry's own conjuncts leave on the stack the answer that `filtered` defines.
 use Rattle.std.proofs.Common.{◌≡◌, ℕ, List, [], ◌∷◌, ◌++◌, map, refl, ap, sym, ◌∙◌, append_assoc}
 use Rattle.std.proofs.lemmas.List.{append-nil}
 use Rattle.csv_tables.specs.Values.{Value}
@@ -14,7 +14,6 @@ use Rattle.predicate_bounds.specs.Runs.{after_step, after_steps}
 use Rattle.predicate_bounds.specs.Steps.{step_answers, steps_of}
 use Rattle.predicate_bounds.proofs.Literals.{value_again, range_of_in}
 
--- the steps put the answer on the stack
 abbrev Puts : (A : Type 0) → ComparisonAnswers A → List Step → A → Type 0
 Puts A answers steps answer = (rest : List Step) (stack : List A) → after_steps answers (steps ++ rest) stack ≡ after_steps answers rest (answer ∷ stack)
 
@@ -35,7 +34,7 @@ steps_answer : (A : Type 0) (answers : ComparisonAnswers A) (entry : ℕ) (conju
 steps_answer A answers entry conjuncts =
     ap (λ (s : List Step). after_steps answers s []) (sym (append-nil (steps_of entry conjuncts))) ∙ puts_filtered A answers entry conjuncts [] []
 
--- ---- the same with lists
+-- ---- steps that hold their lists leave the same answer as steps that ask for them
 
 module _ (lists : ColumnLists) where
   one_list : (s : Step) (stack : List (List ℕ)) → after_list_step (listed lists s) stack ≡ after_step (list_answers lists) s stack

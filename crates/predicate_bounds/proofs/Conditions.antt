@@ -1,4 +1,4 @@
--- Conditions that are read into steps, by their cases.
+-- These lemmas say what AND and OR are read into, with `holds` true and false.
 use Rattle.std.proofs.Common.{◌≡◌, Bool, true, false, List, [], ◌∷◌, map, refl, ap, ◌∙◌, Result, Ok, Err, OnOk}
 use Rattle.query_types.specs.declared.types.Cond.{Cond, And, Or}
 use Rattle.filtered_lists.specs.Filters.{Conjunction, and_answer, conjunction_of, one_conjunction, of_answer, or_answer}
@@ -29,14 +29,12 @@ pub or_when_false : (cond : Cond) (any items : List Cond) (holds : Bool) → con
 or_when_false cond any items holds is no_more same =
     rw (is, no_more, same) (of_or step_answers any false ∙ ap one_conjunction (each_read any false))
 
--- the answers of conditions
 pub answers : (conds : List Cond) (holds : Bool) → map (and_answer step_answers) (map (λ cond. read cond holds) conds) ≡ map (λ cond. and_answer step_answers (read cond holds)) conds
 answers [] holds = refl
 answers (cond ∷ conds) holds = ap (λ (s : List (List Step)). and_answer step_answers (read cond holds) ∷ s) (answers conds holds)
 
--- ---- answers of calls
+-- ---- results of calls
 
--- three facts after Ok give a fourth
 pub three_on_ok : {T E P Q R S : Type 0} (r : Result T E) → (P → Q → R → S) → OnOk r P → OnOk r Q → OnOk r R → OnOk r S
 three_on_ok (Ok x) f p q s = f p q s
 three_on_ok (Err e) f p q s = tt

@@ -1,4 +1,4 @@
--- The end of an AND: the steps of its ranges.
+-- `Members::finish` adds the steps of an AND's ranges, one for each column. These lemmas are about its loop.
 use Rattle.std.proofs.Common.{◌≡◌, ℕ, ◌+◌, ◌<◌, Bool, true, false, ◌||◌, eqb, List, [], ◌∷◌, ◌++◌, map, length, take, get_or, ap, sym, ◌∙◌, append_assoc, arith}
 use Rattle.std.specs.List.{list_any}
 use Rattle.std.proofs.lemmas.List.{append-nil}
@@ -13,7 +13,7 @@ use Rattle.predicate_bounds.specs.Steps.{range_in, range_of, step_answers}
 use Rattle.predicate_bounds.proofs.Adding.{more_steps-append, is_some_of-append}
 use Rattle.predicate_bounds.proofs.Narrow.{first_steps, old_column, new_column}
 
--- the first i ranges are done
+-- the loop has passed the first i ranges: the steps of their columns were added
 pub record AreFinished (before : Members) (old : List Step) (now : Members) (new : List Step) (count i : ℕ) : Type 0 where
   pub ranges : now.ranges ≡ before.ranges
   pub len : count ≡ length before.ranges
@@ -55,7 +55,7 @@ finished_new before now after old new mid last len i r range h low is there one 
           ∙ ap (λ (b : Bool). before.some || b) (or-true (is_some_of xs)) ∙ or-true before.some);
     }
 
--- ---- as the loop has it
+-- ---- the two facts above, with the names and tests of the loop
 
 there_is : (items : List Range) (i : ℕ) (r : Range) (found told : Bool) → r ≡ get_or items i r → found ≡ list_any (λ range. eqb range.column (get_or items i r).column) (take i items) → found ≡ told
     → (rs : List Range) → items ≡ rs → list_any (λ range. eqb range.column r.column) (take i rs) ≡ told

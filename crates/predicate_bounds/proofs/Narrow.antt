@@ -1,4 +1,4 @@
--- One range of each column, range by range.
+-- The ranges of an AND become one range for each column. The lemmas are for two loops: over the ranges of one column, and over all ranges.
 use Rattle.std.proofs.Common.{◌≡◌, ℕ, suc, ◌+◌, ◌-◌, ◌<◌, ◌≤◌, Bool, true, false, not, ◌||◌, eqb, cond, List, [], ◌∷◌, ◌++◌, map, length, take, drop, get_or, Option, None, Some, refl, ap, sym, ◌∙◌, inl, inr, arith}
 use Rattle.std.specs.List.{cons_option, filter, filter_map, list_any}
 use Rattle.std.proofs.Math.ListN.{get_or-map}
@@ -15,7 +15,7 @@ use Rattle.predicate_bounds.specs.declared.steps.Step.{Step}
 use Rattle.predicate_bounds.specs.Narrowing.{more_high, more_low, narrowed}
 use Rattle.predicate_bounds.specs.Steps.{range_of, step_answers}
 
--- ---- the ends
+-- ---- the ends of the intersection of the ranges of a column
 
 low_more : (low : Option Value) (lows : List Value) → greatest_value (cons_option low lows) ≡ more_low low (greatest_value lows)
 low_more None lows = refl
@@ -38,7 +38,7 @@ front rs j r low is =
     let within : j < length (map range_of rs) = omega (arith, length-map rs range_of) in
     drop-cons (map range_of rs) j (range_of r) within ∙ ap (λ (x : ranges.Range). x ∷ drop (suc j) (map range_of rs)) (get_or-map range_of rs j r ∙ ap range_of (sym is))
 
--- going down, a range of the column narrows, and another one does nothing
+-- the loop goes from the last range to the first: a range of the column narrows the intersection, and a range of another column leaves it
 pub narrowed_more : (rs : List Range) (i : ℕ) (r : Range) (column : ℕ) (one more : ranges.Range) → 0 < i → i ≤ length rs → r ≡ get_or rs (i - 1) r → r.column ≡ column
     → one ≡ intersection_of (drop i (map range_of rs)) column → more ≡ narrowed (range_of r) one → more ≡ intersection_of (drop (i - 1) (map range_of rs)) column
 narrowed_more rs i r column one more some low is same so_far narrow =
@@ -55,7 +55,7 @@ other_more rs i r column one some low is apart so_far =
     ∙ sym (range_other (range_of r) (drop (suc (i - 1)) (map range_of rs)) column (ne_eqb r.column column apart))
     ∙ ap (λ (s : List ranges.Range). intersection_of s column) (sym (front rs (i - 1) r (omega arith) is))
 
--- ---- different columns
+-- ---- the different columns of a list, when one more column is added to it
 
 same_test : (a b : ℕ) → eqb a b ≡ eqb b a
 same_test a b = elim (cases_Bool (eqb a b)) [
@@ -93,7 +93,6 @@ different_old (y ∷ xs) x h = elim (cases_Bool (list_any (λ c. eqb c x) xs)) [
 abbrev pub columns : List Range → List ℕ
 columns rs = map (λ range. range.column) (map range_of rs)
 
--- the steps of the ranges of the columns that the first i ranges are of
 abbrev pub first_steps : List Range → ℕ → List (List Step)
 first_steps rs i = map step_answers.range (map (intersection_of (map range_of rs)) (different (take i (columns rs))))
 
@@ -112,14 +111,12 @@ is_there rs i column =
     ap (list_any (λ c. eqb c column)) (take-map (λ (range : ranges.Range). range.column) i (map range_of rs) ∙ ap (map (λ (range : ranges.Range). range.column)) (take-map range_of i rs))
     ∙ any_of_columns (take i rs) column
 
--- a range of a column that an earlier range is of
 pub old_column : (rs : List Range) (i : ℕ) (r : Range) → i < length rs → r ≡ get_or rs i r → list_any (λ range. eqb range.column r.column) (take i rs) ≡ true
     → first_steps rs (i + 1) ≡ first_steps rs i
 old_column rs i r low is there =
     ap (λ (cs : List ℕ). map step_answers.range (map (intersection_of (map range_of rs)) cs))
     (ap different (next_column rs i r low is) ∙ different_old (take i (columns rs)) r.column (is_there rs i r.column ∙ there))
 
--- the first range of a column
 pub new_column : (rs : List Range) (i : ℕ) (r : Range) → i < length rs → r ≡ get_or rs i r → list_any (λ range. eqb range.column r.column) (take i rs) ≡ false
     → first_steps rs (i + 1) ≡ first_steps rs i ++ step_answers.range (intersection_of (map range_of rs) r.column) ∷ []
 new_column rs i r low is there =

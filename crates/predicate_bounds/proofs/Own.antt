@@ -1,4 +1,4 @@
--- An entry's own conjuncts by their numbers.
+-- An entry's own conjuncts are read by their numbers in the query.
 use Rattle.std.proofs.Common.{◌≡◌, ℕ, zero, suc, ◌+◌, ◌<◌, ◌≤◌, Bool, true, false, List, [], ◌∷◌, ◌++◌, map, length, take, get_or, Some, slice_get, refl, ap, sym, ◌∙◌, subst, inl, inr, arith, append_assoc}
 use Rattle.std.specs.List.{AllByRecursion, All, filter, filter_map, range_with_len}
 use Rattle.std.proofs.lemmas.Bool.{cases_Bool}
@@ -58,7 +58,7 @@ module _ (test : Cond → Bool) where
       zero_plus : (k : ℕ) → 0 + k ≡ k
       zero_plus k = omega arith
 
--- ---- reading them one by one
+-- ---- conjuncts that are read one by one, by their numbers
 
 abbrev pub conds_at : List Cond → List ℕ → List Cond
 conds_at conds numbers = filter_map (slice_get conds) numbers
@@ -82,7 +82,8 @@ one_read conds numbers i n c before now after old mid new low at is h k =
     map_more [] = refl
     map_more (x ∷ s) = ap (λ (t : List (Conjunction (List Step))). read x true ∷ t) (map_more s)
 
--- all own conjuncts are read, and the whole cuts the end
+-- Suppose that all own conjuncts were read, that the AND was ended, and that the steps `Whole` and `And` were appended. Then the steps are those of
+-- the definition.
 pub all_read : (from : ℕ) (conds : List Cond) (numbers : List ℕ) (i : ℕ) (before now : Members) (old mid ended whole last : List Step) → numbers ≡ numbers_where (names_just from) 0 conds → length numbers ≤ i
     → before.some ≡ false → before.ranges ≡ [] → old ≡ [] → AreRead conds (take i numbers) before old now mid → ended ≡ mid ++ ending now.some now.ranges
     → whole ≡ ended ++ step.Whole ∷ [] → last ≡ whole ++ step.And ∷ [] → last ≡ steps_of from conds
@@ -94,7 +95,7 @@ all_read from conds numbers i before now old mid ended whole last same end fresh
     second ∙ ap (λ (s : List Step). s ++ step.And ∷ []) (first ∙ ap (λ (s : List Step). s ++ step.Whole ∷ []) (all ∙ ap (λ (s : List Step). s ++ and_answer step_answers c) nothing))
     ∙ append_assoc (and_answer step_answers c) (step.Whole ∷ []) (step.And ∷ [])
 
--- ---- the numbers, as the parts of the conjuncts have them
+-- ---- the numbers of an entry's own conjuncts are those that `local_of` has for the entry
 
 number_at : (f : ℕ → List ℕ) (a n i : ℕ) (x : List ℕ) → slice_get (map f (range_with_len a n)) i ≡ Some x → x ≡ f (a + i)
 number_at f a zero i x h = absurd (cc)

@@ -1,4 +1,4 @@
--- A stack of lists, kept with its top at the end.
+-- The code's stack of lists has its top at the end; in the definitions the top comes first.
 use Rattle.std.proofs.Common.{◌≡◌, ℕ, suc, ◌+◌, ◌*◌, ◌^◌, ◌<◌, ◌≤◌, true, List, [], ◌∷◌, ◌++◌, map, reverse, length, drop, get_or, sum, refl, ap, sym, ◌∙◌, arith}
 use Rattle.std.specs.List.{list_all}
 use Rattle.std.proofs.lemmas.List.{reverse-append}
@@ -14,7 +14,7 @@ use Rattle.predicate_bounds.specs.ListRuns.{total_of, is_small, after_list_step,
 use Rattle.predicate_bounds.specs.Runs.{put_together}
 use Rattle.predicate_bounds.specs.declared.running.ListStep.{ListStep}
 
--- ---- the top
+-- ---- pushing a list, and combining the two lists on top
 
 pub pushed : (old new : List (List ℕ)) (x : List ℕ) → new ≡ old ++ x ∷ [] → reverse new ≡ x ∷ reverse old
 pushed old new x h = ap reverse h ∙ reverse-append old (x ∷ [])
@@ -24,7 +24,7 @@ pub two_put_together : (f : List ℕ → List ℕ → List ℕ) (old mid rest ne
 two_put_together f old mid rest new x y h k l =
     pushed rest new (f x y) l ∙ sym (ap (put_together f) (pushed mid old y h ∙ ap (λ (s : List (List ℕ)). y ∷ s) (pushed rest mid x k)))
 
--- ---- the rows of all lists
+-- ---- the sum of all lists on the stack, after a push, an And and an Or
 
 pub total_push : (old new : List (List ℕ)) (x : List ℕ) → new ≡ old ++ x ∷ [] → total_of new ≡ total_of old + sum x
 total_push old new x h =
@@ -49,12 +49,12 @@ small_whole (x ∷ s) h =
     let here : saturated x ≡ x = omega arith in
     ap (λ (n : ℕ). n ∷ map saturated s) here ∙ ap (λ (t : List ℕ). x ∷ t) (small_whole s rest)
 
--- the sum of two lists of a small stack is no more than 128 bits hold
+-- if the sum of all lists on the stack is below 2^128, then the sum of two of its lists, rank by rank, isn't cut off at 128 bits
 pub or_exact : (old mid rest : List (List ℕ)) (x y z : List ℕ) → old ≡ mid ++ y ∷ [] → mid ≡ rest ++ x ∷ [] → total_of old < 2 ^ 128 → z ≡ map saturated (rank_sum x y) → z ≡ rank_sum x y
 or_exact old mid rest x y z h k small is =
     is ∙ small_whole (rank_sum x y) (omega (arith, total_push mid old y h, total_push rest mid x k, sum-rank_sum x y, small))
 
--- ---- running
+-- ---- the loop that takes steps
 
 pub record AreRun (steps : List ListStep) (i : ℕ) (stack : List (List ℕ)) : Type 0 where
   pub lists : after_list_steps (drop i steps) (reverse stack) ≡ after_list_steps steps []

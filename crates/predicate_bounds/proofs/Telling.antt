@@ -1,4 +1,4 @@
--- What statistics tell, and what their steps leave.
+-- The list and the row bound that an entry's statistics give are those of the definitions.
 use Rattle.std.proofs.Common.{◌≡◌, ℕ, suc, ◌-◌, ◌^◌, ◌<◌, ◌≤◌, min, true, eqb, leb, leb-true, IsSome, List, [], ◌∷◌, ◌++◌, map, length, drop, get_or, Option, Some, option_map, slice_get, find, sum, refl, ap, sym, ◌∙◌, subst, Result, IfOk, arith}
 use Rattle.std.specs.List.{list_all}
 use Rattle.std.proofs.Math.Seq.{drop-cons}
@@ -22,7 +22,7 @@ use Rattle.predicate_bounds.specs.Steps.{step_answers}
 use Rattle.predicate_bounds.specs.Told.{HasLists, HasRowLists, asked_lists, column_steps, columns_of, first_steps, list_left, list_in_stats}
 use Rattle.predicate_bounds.proofs.Answering.{lists_answer}
 
--- ---- a column among columns
+-- ---- the search for a column
 
 abbrev pub found : ℕ → List ColumnSteps → Option (List ListStep)
 found column items = option_map (λ one. one.steps) (find (λ one. eqb one.column column) items)
@@ -31,7 +31,7 @@ pub found_here : (items : List ColumnSteps) (i column : ℕ) (one : ColumnSteps)
 found_here items i column one low is same =
     ap (found column) (drop-cons items i one low ∙ ap (λ (x : ColumnSteps). x ∷ drop (suc i) items) (sym is)) ∙ rw (eq-eqb one.column column same) refl
 
--- ---- the answer
+-- ---- the list that steps leave is the filtered list, which dominates the scanned rows
 
 pub told_list : {E : Type 0} (query : Query) (from : ℕ) (lists : ColumnLists) (steps : List ListStep) (r : Result (List ℕ) E) → steps ≡ asked_lists query from lists
     → IfOk r (λ list. list ≡ top_of (after_list_steps steps [])) → IfOk r (λ list. list ≡ filtered_list lists from query.conjuncts)
@@ -54,7 +54,6 @@ pub list_answer : {E : Type 0} (query : Query) (stats : QueryStats) (from column
 list_answer query stats from column lists steps r here tells h =
     told_list query from lists steps r (some_one steps (asked_lists query from lists) (column_steps stats from column) here tells) h
 
--- the list of a column is what its steps leave
 pub list_here : {E : Type 0} (stats : QueryStats) (from column : ℕ) (steps : List ListStep) (r : Result (List ℕ) E) → column_steps stats from column ≡ Some steps
     → IfOk r (λ list. list ≡ top_of (after_list_steps steps [])) → IfOk r (λ list. list ≡ list_in_stats stats from column)
 list_here stats from column steps r here h =
@@ -71,7 +70,7 @@ whole_is_small : (query : Query) (from : ℕ) (lists : ColumnLists) (steps : Lis
 whole_is_small query from lists steps is h =
     whole_in lists (and_answer step_answers (one_conjunction (map (λ c. conjunction_of step_answers c true) (own_conjuncts from query.conjuncts)))) (ap (list_all is_small) (sym is) ∙ h)
 
--- as many rows as 64 bits hold are all
+-- the filtered list has at most 2^32 rows, so that `min` with 2^64 - 1 changes nothing
 rows_fit : (query : Query) (from : ℕ) (lists : ColumnLists) (steps : List ListStep) → steps ≡ asked_lists query from lists → list_all is_small steps ≡ true
     → sum (filtered_list lists from query.conjuncts) ≤ 2 ^ 32
 rows_fit query from lists steps is small =

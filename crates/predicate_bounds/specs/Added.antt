@@ -1,4 +1,4 @@
--- The steps that the members of an AND add, one member after another.
+-- The steps that the members of an AND add, one member after another. Steps run over a stack of answers (see Steps).
 use Rattle.std.specs.Prelude.{◌≡◌, Bool, true, false, ◌||◌, List, [], ◌∷◌, ◌++◌, map}
 use Rattle.filtered_lists.specs.Filters.{Conjunction}
 use Rattle.filtered_lists.specs.Ranges.{intersection_for_each_column}
@@ -8,12 +8,12 @@ use Rattle.predicate_bounds.specs.declared.steps.Step.TheVariants as step
 use Rattle.predicate_bounds.specs.declared.reading.Members.{Members}
 use Rattle.predicate_bounds.specs.Steps.{range_of, range_in}
 
--- what follows the steps of a member: the step And, if an earlier member has left an answer on the stack
+-- the steps after those of a member: And, if an earlier member has left an answer on the stack, and otherwise no step
 abbrev pub closing : Bool → List Step
 closing false = []
 closing true = step.And ∷ []
 
--- the steps of further members. `some` says whether an earlier member has left an answer on the stack
+-- the steps of members, where `some` says whether a member before them has left an answer on the stack
 abbrev pub more_steps : Bool → List (List Step) → List Step
 more_steps some [] = []
 more_steps some (steps ∷ members) = steps ++ (closing some ++ more_steps true members)
@@ -22,20 +22,20 @@ abbrev pub is_some_of : {A : Type 0} → List A → Bool
 is_some_of [] = false
 is_some_of (x ∷ xs) = true
 
--- conjunction `c` was added to the members of an AND: its ranges stand behind the ranges before, and the steps of its other members behind
--- the old steps
+-- the members of conjunction `c` were added to the members of an AND: the ranges of `c` come after the ranges before, and the steps of its
+-- other members after the old steps
 pub record IsConjunctionAdded (before : Members) (old : List Step) (after : Members) (new : List Step) (c : Conjunction (List Step)) : Type 0 where
   pub steps : new ≡ old ++ more_steps before.some c.others
   pub ranges : after.ranges ≡ before.ranges ++ map range_in c.ranges
   pub some : after.some ≡ (before.some || is_some_of c.others)
 
--- the steps that end an AND, where these are the steps of its ranges, one range for each column. An AND without a member lets every row
+-- the steps that end an AND, where the list has the steps of its ranges, one range for each column. An AND without a member lets every row
 -- pass: its step is Whole
 abbrev pub last_steps : Bool → List (List Step) → List Step
 last_steps false [] = step.Whole ∷ []
 last_steps true [] = []
 last_steps some (steps ∷ members) = more_steps some (steps ∷ members)
 
--- the same, made of the ranges
+-- the steps that end an AND with these ranges. Ranges of one column become one range first
 abbrev pub ending : Bool → List Range → List Step
 ending some ranges = last_steps some (map (λ range. step.Within (range_in range) ∷ []) (intersection_for_each_column (map range_of ranges)))

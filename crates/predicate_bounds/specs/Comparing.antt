@@ -1,4 +1,4 @@
--- Comparisons of a column with a literal, as the code holds them.
+-- Comparisons of a column with a literal, as values of the type `Compared` of the code.
 use Rattle.std.specs.Prelude.{Option, None, Some, option_map}
 use Rattle.query_grammar.specs.declared.tree.Op.{Op}
 use Rattle.query_types.specs.declared.types.Operand.{Operand}

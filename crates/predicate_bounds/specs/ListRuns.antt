@@ -1,4 +1,4 @@
--- What steps make of a stack of lists, whose top stands first.
+-- The stack of lists after some steps. The top of the stack is the first element here.
 use Rattle.std.specs.Prelude.{ℕ, ◌^◌, nat_le, Bool, true, List, [], ◌∷◌}
 use Rattle.std.specs.List.{sum, sum_by}
 use Rattle.degree_sequences.specs.ByRank.{rank_sum}
@@ -29,14 +29,14 @@ top_of (list ∷ stack) = list
 abbrev pub total_of : List (List ℕ) → ℕ
 total_of stack = sum_by sum stack
 
--- the list of a step has at most 2^32 rows
+-- whether the list of a step, if the step has one, has at most 2^32 rows
 abbrev pub is_small : ListStep → Bool
 is_small (list_step.List list) = nat_le (sum list) (2 ^ 32)
 is_small list_step.And = true
 is_small list_step.Nothing = true
 is_small list_step.Or = true
 
--- a step with its list
+-- a step with the list that it asks for
 abbrev pub listed : ColumnLists → Step → ListStep
 listed lists step.Whole = list_step.List lists.whole
 listed lists (step.Equal column literal) = list_step.List (lists.equal column (value_of literal))

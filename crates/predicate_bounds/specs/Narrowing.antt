@@ -1,10 +1,10 @@
--- Ranges of a column, narrowed one by one.
+-- The intersection of the ranges of a column, made range by range.
 use Rattle.std.specs.Prelude.{Bool, false, Option, None, Some}
 use Rattle.std.specs.Ordering.{is_lt, is_gt}
 use Rattle.csv_tables.specs.Values.{Value, value_cmp}
 use Rattle.filtered_lists.specs.Ranges.{Range, greater_of, lesser_of}
 
--- whether there is an end and it is above a value, or below it
+-- whether there is an end that is above a value, or below the value
 abbrev pub is_above : Option Value → Value → Bool
 is_above None value = false
 is_above (Some end) value = is_lt (value_cmp value end)
@@ -13,7 +13,7 @@ abbrev pub is_below : Option Value → Value → Bool
 is_below None value = false
 is_below (Some end) value = is_gt (value_cmp value end)
 
--- the greater of two low ends, and the lower of two high ends
+-- the greater of two low ends, and the lower of two high ends. If one end is missing, the other one is taken
 abbrev pub more_low : Option Value → Option Value → Option Value
 more_low None other = other
 more_low (Some value) other = Some (greater_of value other)
@@ -22,6 +22,6 @@ abbrev pub more_high : Option Value → Option Value → Option Value
 more_high None other = other
 more_high (Some value) other = Some (lesser_of value other)
 
--- a range narrowed by another range of the same column
+-- the intersection of two ranges of one column
 abbrev pub narrowed : Range → Range → Range
 narrowed range one = record { column = one.column; low = more_low range.low one.low; high = more_high range.high one.high }

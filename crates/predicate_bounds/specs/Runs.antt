@@ -1,11 +1,11 @@
--- What steps make of a stack of answers, whose top stands first.
+-- The stack of answers after some steps. An answer is a list, a number of rows, or a test of a row. The top of the stack is the first element here.
 use Rattle.std.specs.Prelude.{List, [], ◌∷◌}
 use Rattle.filtered_lists.specs.Filters.{ComparisonAnswers}
 use Rattle.predicate_bounds.specs.declared.steps.Step.{Step}
 use Rattle.predicate_bounds.specs.declared.steps.Step.TheVariants as step
 use Rattle.predicate_bounds.specs.Steps.{value_of, range_of}
 
--- the two answers on top become one
+-- the stack after `f` has made one answer of the two on top
 abbrev pub put_together : {A : Type 0} → (A → A → A) → List A → List A
 put_together f [] = []
 put_together f (y ∷ []) = y ∷ []

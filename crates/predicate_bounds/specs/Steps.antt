@@ -1,5 +1,5 @@
--- An entry's own conjuncts as steps over a stack of answers: each step of a comparison puts an answer on it, and AND and OR
--- combine the two answers on top.
+-- An entry's own conjuncts as steps over a stack of answers. An answer is a list, a number of rows, or a test of a row. A comparison's step
+-- puts an answer on the stack; the steps And and Or combine the two answers on top.
 use Rattle.std.specs.Prelude.{ℕ, List, [], ◌∷◌, ◌++◌, option_map}
 use Rattle.csv_tables.specs.Values as values
 use Rattle.csv_tables.specs.Values.{Value}
@@ -12,7 +12,7 @@ use Rattle.predicate_bounds.specs.declared.steps.Range.{Range}
 use Rattle.predicate_bounds.specs.declared.steps.Step.{Step}
 use Rattle.predicate_bounds.specs.declared.steps.Step.TheVariants as step
 
--- the value of a literal, and the literal of a value
+-- the code's literals and ranges as values and ranges of the definitions (`value_of`, `range_of`), and the other way (`literal_of`, `range_in`)
 abbrev pub value_of : Literal → Value
 value_of (literal.Int number) = values.Int number
 value_of (literal.Text text) = values.Text text
@@ -27,7 +27,7 @@ range_of range = record { column = range.column; low = option_map value_of range
 abbrev pub range_in : ranges.Range → Range
 range_in range = record { column = range.column; low = option_map literal_of range.low; high = option_map literal_of range.high }
 
--- for each answer, the steps that put it on the stack
+-- answers that are lists of steps: running the steps puts the answer itself on the stack
 abbrev pub step_answers : ComparisonAnswers (List Step)
 step_answers = record {
   whole = step.Whole ∷ [];

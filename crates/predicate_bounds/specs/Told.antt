@@ -13,7 +13,7 @@ use Rattle.predicate_bounds.specs.Steps.{steps_of}
 abbrev pub no_columns : EntryStats
 no_columns = record { columns = [] }
 
--- the joined columns of an entry, each with its steps. An entry that joins no column has one column all the same
+-- the joined columns of entry `from`, each with its steps. An entry that joins no column has one column here all the same, for its row bound
 abbrev pub columns_of : QueryStats → ℕ → List ColumnSteps
 columns_of stats from = (slice_index_or stats.entries from no_columns).columns
 
@@ -21,11 +21,11 @@ columns_of stats from = (slice_index_or stats.entries from no_columns).columns
 abbrev pub column_steps : QueryStats → ℕ → ℕ → Option (List ListStep)
 column_steps stats from column = option_map (λ joined. joined.steps) (find (λ joined. joined.column == column) (columns_of stats from))
 
--- the steps of the first of these columns; the row bound is made of them
+-- the steps of the first column of entry `from`; the entry's row bound is made of them
 abbrev pub first_steps : QueryStats → ℕ → Option (List ListStep)
 first_steps stats from = option_map (λ joined. joined.steps) (slice_get (columns_of stats from) 0)
 
--- the list that steps leave on top of the stack, and the empty list where there are no steps
+-- the list that steps leave on top of the stack, or the empty list if there are no steps
 abbrev pub list_left : Option (List ListStep) → List ℕ
 list_left None = []
 list_left (Some steps) = top_of (after_list_steps steps [])
@@ -38,14 +38,14 @@ list_in_stats stats from column = list_left (column_steps stats from column)
 abbrev pub row_bound_in_stats : QueryStats → ℕ → ℕ
 row_bound_in_stats stats from = min (sum (list_left (first_steps stats from))) (2 ^ 64 - 1)
 
--- the steps of an entry's own conjuncts, each with the list of these that it asks for
+-- the steps of an entry's own conjuncts, each with the list of `lists` that the step asks for
 abbrev pub asked_lists : Query → ℕ → ColumnLists → List ListStep
 asked_lists query from lists = map (listed lists) (steps_of from query.conjuncts)
 
--- the statistics of a joined column are these lists, as far as the entry's own conjuncts ask for them
+-- the statistics of a joined column have the lists of `lists` that the entry's own conjuncts ask for
 abbrev pub HasLists : Query → QueryStats → ℕ → ℕ → ColumnLists → Type 0
 HasLists query stats from column lists = column_steps stats from column ≡ Some (asked_lists query from lists)
 
--- the statistics for an entry's row bound are these lists, again as far as its own conjuncts ask for them
+-- the statistics for an entry's row bound have the lists of `lists` that the entry's own conjuncts ask for
 abbrev pub HasRowLists : Query → QueryStats → ℕ → ColumnLists → Type 0
 HasRowLists query stats from lists = first_steps stats from ≡ Some (asked_lists query from lists)

@@ -7,7 +7,7 @@ use crate::running::ListStep;
 use base_io::{NoMemory, Seq};
 use std::alloc::Global;
 
-/// The steps of a joined column of an entry, each with its list. No list has more than 2^32 rows.
+/// A joined column of an entry with its steps. A step that puts a list on the stack holds that list, of at most 2^32 rows.
 #[derive(Drop)]
 pub struct ColumnSteps {
     pub column: u32,
@@ -16,7 +16,7 @@ pub struct ColumnSteps {
 }
 
 impl ColumnSteps {
-    /// No steps yet. It takes no memory.
+    /// A column without steps. `new` takes no memory.
     pub fn new(alloc: Global, column: u32) -> ColumnSteps
         ensures column { result.column ≡ column }
         ensures steps { result.steps ≡ [] }
@@ -27,7 +27,7 @@ impl ColumnSteps {
         }
     }
 
-    /// Appends a step, whose list has at most 2^32 rows. On `NoMemory` the step is dropped.
+    /// Appends `step`. If the step holds a list, the list has at most 2^32 rows. On `NoMemory` the step is dropped.
     pub fn push(&mut self, step: ListStep) -> Result<(), NoMemory>
         requires { IsTrue (is_small step) }
         ensures steps { OnOk result (self.new.steps ≡ self.old.steps ++ step ∷ []) }
@@ -38,13 +38,13 @@ impl ColumnSteps {
     }
 }
 
-/// The joined columns of an entry. An entry without joined columns has one column all the same, for its row bound.
+/// The joined columns of an entry. If the entry has no joined column, it has one column here all the same, for its row bound.
 #[derive(Drop)]
 pub struct EntryStats {
     pub columns: Seq<ColumnSteps>,
 }
 
-/// For each FROM entry the statistics that its own conjuncts ask for.
+/// The statistics of a query: for each FROM entry, its joined columns with the lists that the entry's own conjuncts ask for.
 #[derive(Drop)]
 pub struct QueryStats {
     pub entries: Seq<EntryStats>,

@@ -17,7 +17,7 @@ pub(crate) struct Compared {
     pub literal: Literal,
 }
 
-/// The comparison that holds exactly where this one does not.
+/// The comparison that holds exactly where `op` doesn't hold.
 pub(crate) fn opposite(op: Op) -> Op
     ensures { result ≡ opposite op }
 {
@@ -31,7 +31,7 @@ pub(crate) fn opposite(op: Op) -> Op
     }
 }
 
-// The same comparison with its sides swapped.
+// The comparison that holds exactly where `op` holds with its sides swapped: < becomes >, and = stays =.
 fn turned(op: Op) -> Op
     ensures { result ≡ mirrored op }
 {

@@ -1,12 +1,12 @@
 //! Bounds of filtered entries: from an entry's own conjuncts and their lists to a list that dominates the scanned rows.
 //!
-//! In: a query, and for each joined column lists of the filter columns. `read_steps` turns an entry's own conjuncts into steps that run
-//! over a stack of lists. It pushes NOT down to the comparisons, merges nested ANDs, and swaps the sides of a comparison with its literal
-//! on the left. All comparisons of a column with < <= > >= in an AND become one range. `QueryStats` holds these steps, each with its list,
-//! for each joined column. `bound_list` and `row_bound` run them. Nothing here knows where the lists come from.
+//! In: a query, and for each joined column lists of the filter columns. `read_steps` turns an entry's own conjuncts into steps that run over
+//! a stack of lists. It pushes NOT down to the comparisons, merges nested ANDs, and swaps the sides of a comparison with its literal on the
+//! left. All comparisons of a column with < <= > >= in an AND become one range. `QueryStats` holds the steps of each joined column, with the
+//! lists that they ask for. `bound_list` and `row_bound` run these steps. This crate doesn't know where the lists come from.
 //!
-//! Callers cite `steps_of` (in `specs/Steps.antt`) for what is asked. `HasLists` and `HasRowLists` (in `specs/Told.antt`) say
-//! what statistics hold, and `filtered_list` and `row_bound` of `filtered_lists` are the answers.
+//! Callers cite `steps_of` (in `specs/Steps.antt`) for the lists that an entry's own conjuncts ask for. `HasLists` and `HasRowLists` (in
+//! `specs/Told.antt`) say which lists statistics hold. The results are `filtered_list` and `row_bound` of `filtered_lists`.
 //!
 //! ```text
 //! let steps = read_steps(alloc, &query, &parts, 0)?;   // steps ≡ steps_of 0 query.conjuncts

@@ -9,7 +9,7 @@ use crate::steps::{Literal, Range, compare_literals};
 use base_io::NoMemory;
 use std::alloc::Global;
 
-// Whether there is an end and it is above a literal.
+// Whether `end` is there and is above `literal`.
 fn is_above(end: &Option<Literal>, literal: &Literal) -> bool
     ensures { result ≡ is_above (option_map value_of end.now) (value_of literal.now) }
 {
@@ -19,7 +19,7 @@ fn is_above(end: &Option<Literal>, literal: &Literal) -> bool
     }
 }
 
-// Whether there is an end and it is below a literal.
+// Whether `end` is there and is below `literal`.
 fn is_below(end: &Option<Literal>, literal: &Literal) -> bool
     ensures { result ≡ is_below (option_map value_of end.now) (value_of literal.now) }
 {
@@ -63,7 +63,7 @@ fn lower_high(
     Ok(Some(one.copy(alloc)?))
 }
 
-// A range narrowed by another range of the same column.
+// The intersection of two ranges of one column.
 fn narrowed(alloc: Global, range: &Range, one: Range) -> Result<Range, NoMemory>
     ensures { IfOk result (λ narrow. range_of narrow ≡ narrowed (range_of range.now) (range_of one)) }
 {
@@ -97,7 +97,7 @@ pub(crate) fn intersection_of(
     Ok(one)
 }
 
-/// Whether one of the ranges is of this column.
+/// Whether a range of `column` is among `ranges`.
 pub(crate) fn has_column(ranges: &[Range], column: u32) -> bool
     ensures { result ≡ list_any (λ range. range.column == column) ranges.now }
 {

@@ -1,5 +1,5 @@
-//! From an entry's own conjuncts to steps. NOT is pushed down as conditions are read: `holds` is false where the opposite of
-//! a condition is read. The recursion is as deep as the condition.
+//! Turns an entry's own conjuncts into steps over a stack of answers (see `steps`). NOT is pushed down while conditions are read: if `holds`
+//! is false, the opposite of the condition is read. The recursion is as deep as the condition.
 ghost use Rattle.std.specs.Prelude.{◌≡◌, ◌<◌, ◌++◌, ◌∷◌, [], false, true, map, length, IfOk, OnOk};
 ghost use Rattle.filtered_lists.specs.Comparisons.{comparison_of};
 ghost use Rattle.filtered_lists.specs.Filters.{and_answer, conjunction_of, one_conjunction, or_answer};
@@ -17,7 +17,8 @@ use query_grammar::Op;
 use query_types::{Cond, Operand, Query};
 use std::alloc::Global;
 
-/// What an AND has so far: whether a member has left an answer on the stack, and the ranges of its comparisons.
+/// The members of an AND that were read so far. `some` says whether a member has left an answer on the stack. `ranges` has the ranges of the
+/// comparisons with < <= > >=, whose steps come at the end of the AND.
 #[derive(Drop)]
 pub(crate) struct Members {
     pub some: bool,
@@ -36,7 +37,7 @@ impl Members {
         }
     }
 
-    // Ends the steps of one more answer: adds the step And, if an earlier member has left an answer on the stack.
+    // Ends the steps of a member that leaves an answer on the stack: adds the step And, if an earlier member has left an answer there too.
     fn close(&mut self, steps: &mut Seq<Step>) -> Result<(), NoMemory>
         ensures steps { OnOk result (steps.new ≡ steps.old ++ closing self.old.some) }
         ensures some { OnOk result (self.new.some ≡ true) }
@@ -49,7 +50,7 @@ impl Members {
         Ok(())
     }
 
-    // Adds the steps of the last members, one range for each column. The step of an AND without members is Whole.
+    // Ends the AND: adds the steps of its ranges, one range for each column. If the AND has no members, adds the step Whole.
     fn finish(&mut self, alloc: Global, steps: &mut Seq<Step>) -> Result<(), NoMemory>
         ensures { OnOk result (steps.new ≡ steps.old ++ ending self.old.some self.old.ranges) }
     {
@@ -117,7 +118,7 @@ impl Members {
         }
     }
 
-    // Adds a comparison. If it doesn't compare a column with a literal, its step is Whole.
+    // Adds a comparison. The step of any comparison but that of a column with a literal is Whole.
     fn add_comparison(
         &mut self,
         alloc: Global,
@@ -172,7 +173,7 @@ impl Members {
         }
     }
 
-    // Adds each of these conditions, or the opposite of each, as members of the same AND.
+    // Adds each condition of `conds` as a member of this AND, or the opposite of each, if `holds` is false.
     #[cycle(reading)]
     fn add_each(
         &mut self,
@@ -190,7 +191,7 @@ impl Members {
         Ok(())
     }
 
-    // Adds the OR of these conditions, or of their opposites, as one member.
+    // Adds the OR of `conds` as one member, or the OR of their opposites, if `holds` is false.
     #[cycle(reading)]
     fn add_any(
         &mut self,
@@ -211,7 +212,7 @@ impl Members {
     }
 }
 
-// Adds the steps of the answer of a condition, or of its opposite.
+// Adds steps that leave one answer on the stack: the answer of the condition, or of its opposite, if `holds` is false.
 #[cycle(reading)]
 fn add_answer(
     alloc: Global,
@@ -226,7 +227,7 @@ fn add_answer(
     members.finish(alloc, steps)
 }
 
-// The steps of an entry's own conjuncts, whose numbers are `own`.
+// The steps of the own conjuncts of entry `from`. `own` has these conjuncts' numbers in the query.
 fn read_own(alloc: Global, query: &Query, from: u8, own: &[u32]) -> Result<Seq<Step>, NoMemory>
     requires { own.now ≡ numbers_where (names_just from) 0 query.now.conjuncts }
     ensures { IfOk result (λ steps. steps ≡ steps_of from query.now.conjuncts) }
@@ -243,8 +244,8 @@ fn read_own(alloc: Global, query: &Query, from: u8, own: &[u32]) -> Result<Seq<S
     Ok(steps)
 }
 
-/// The steps of an entry's own conjuncts: what a bound asks of statistics, and how it combines their lists. The parts are those of
-/// `split`.
+/// The steps of the own conjuncts of entry `from`: which lists a bound asks for, and how the bound combines them. `parts` is what `split`
+/// made of the query.
 pub fn read_steps(
     alloc: Global,
     query: &Query,

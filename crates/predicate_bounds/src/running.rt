@@ -1,4 +1,4 @@
-//! Steps whose answers are lists, run over a stack of lists.
+//! Runs steps over a stack of lists.
 ghost use Rattle.std.specs.Prelude.{◌≡◌, ◌+◌, ◌*◌, ◌^◌, ◌<◌, ◌≤◌, [], reverse, length, true, IfOk, OnOk, IsTrue};
 ghost use Rattle.std.specs.List.{list_all, sum_by, sum};
 ghost use Rattle.degree_sequences.specs.ByRank.{rank_sum};
@@ -15,7 +15,7 @@ use std::alloc::Global;
 pub enum ListStep {
     /// Puts a list on the stack.
     List(Pieces),
-    /// Replaces the two lists on top by the list whose running sums are the minima of theirs.
+    /// Replaces the two lists on top by the list whose running sums are the lesser of the two lists' running sums, rank by rank.
     And,
     /// Puts the empty list on the stack.
     Nothing,
@@ -23,7 +23,7 @@ pub enum ListStep {
     Or,
 }
 
-// AND of the two lists on top.
+// Replaces the two lists on top by their AND.
 fn and_top(stack: &mut Seq<Pieces>) -> Result<(), NoMemory>
     requires { total_of stack.old < 2 ^ 128 }
     ensures lists { OnOk result (reverse stack.new ≡ put_together lesser (reverse stack.old)) }
@@ -39,7 +39,7 @@ fn and_top(stack: &mut Seq<Pieces>) -> Result<(), NoMemory>
     stack.push(list)
 }
 
-// OR of the two lists on top.
+// Replaces the two lists on top by their OR.
 fn or_top(stack: &mut Seq<Pieces>) -> Result<(), NoMemory>
     requires { total_of stack.old < 2 ^ 128 }
     ensures lists { OnOk result (reverse stack.new ≡ put_together rank_sum (reverse stack.old)) }
@@ -55,7 +55,7 @@ fn or_top(stack: &mut Seq<Pieces>) -> Result<(), NoMemory>
     stack.push(list)
 }
 
-// Takes one step. After it the lists on the stack have together at most 2^32 rows more.
+// Takes one step. The step adds at most 2^32 rows to the sum of all lists on the stack.
 fn take_step(alloc: Global, step: &ListStep, stack: &mut Seq<Pieces>) -> Result<(), NoMemory>
     requires room { total_of stack.old < 2 ^ 128 }
     requires small { IsTrue (is_small step.now) }

@@ -1,4 +1,4 @@
-//! Makes bounds of the statistics of a query: a list for each joined column, and a row bound for each entry.
+//! Makes bounds from the statistics of a query: a list for each joined column, and a row bound for each entry.
 ghost use Rattle.std.specs.Prelude.{◌≡◌, ◌-◌, ◌^◌, ◌<◌, ◌≤◌, min, sum, IfOk, IsSome, map, length, ℕ};
 ghost use Rattle.degree_sequences.specs.Domination.{DominatesKeys};
 ghost use Rattle.query_types.specs.declared.types.Query.{Query};
@@ -22,9 +22,9 @@ impl QueryStats {
         self.entries.get(usize::from(from)).columns.as_slice()
     }
 
-    /// Runs the steps of a joined column of an entry, and returns the list that they leave. Where these are the steps of the
-    /// entry's own conjuncts, the list is the one filtered by them. Where the statistics also stand for a database, the list
-    /// dominates the column over the rows of the entry's scan.
+    /// Runs the steps of a joined column of an entry, and returns the list that they leave. If these are the steps of the entry's own
+    /// conjuncts, the list is `filtered_list` of those conjuncts. If the statistics also stand for a database, the list dominates the column
+    /// over the rows of the entry's scan.
     pub fn bound_list(&self, alloc: Global, from: u8, column: u32) -> Result<Pieces, NoMemory>
         requires entry { from < length self.now.entries }
         requires known { IsSome (column_steps self.now from column) }
@@ -43,8 +43,8 @@ impl QueryStats {
         unreachable!()
     }
 
-    /// The row bound of an entry: the sum of the list of its first column, or `u64::MAX` where that is larger. Where the
-    /// statistics stand for a database, the row bound is at least the number of rows of the entry's scan.
+    /// The row bound of an entry: the sum of the list of its first column, and at most `u64::MAX`. If the statistics stand for a database,
+    /// the row bound is at least the number of rows of the entry's scan.
     pub fn row_bound(&self, alloc: Global, from: u8) -> Result<u64, NoMemory>
         requires entry { from < length self.now.entries }
         requires known { IsSome (first_steps self.now from) }
@@ -61,7 +61,7 @@ impl QueryStats {
     }
 }
 
-// The sum of a list, or `u64::MAX` where it is larger.
+// The sum of a list, and at most `u64::MAX`.
 fn rows_of(list: &Pieces) -> u64
     ensures { result ≡ min (sum list.now) (2 ^ 64 - 1) }
 {

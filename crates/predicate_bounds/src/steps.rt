@@ -1,4 +1,5 @@
-//! The steps by which an entry's own conjuncts combine answers, and the literals and ranges that they ask for.
+//! The steps by which an entry's own conjuncts combine answers, and the literals and ranges that they ask for. An answer is for some of the
+//! entry's rows: it is a list for these rows, their number, or a test that they pass.
 ghost use Rattle.std.specs.Prelude.{◌≡◌, IfOk};
 ghost use Rattle.csv_tables.specs.Values.{Int, Text, value_cmp};
 ghost use Rattle.predicate_bounds.specs.Steps.{value_of};
@@ -28,7 +29,7 @@ pub struct Range {
 pub enum Step {
     /// Puts the answer for all rows on the stack.
     Whole,
-    /// Puts the answer for the rows with a value in a column on the stack.
+    /// Puts the answer for the rows that have the value `literal` in a column on the stack.
     Equal { column: u32, literal: Literal },
     /// Puts the answer for the rows in a range of a column on the stack.
     Within(Range),

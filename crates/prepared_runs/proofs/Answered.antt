@@ -1,5 +1,5 @@
--- What the readers of texts answer, as endings of the one answer that a text has.
-use Rattle.std.proofs.Common.{◌≡◌, ◌⊎◌, ℕ, List, Result, Ok, Err, inl, inr, ap, sym, ◌∙◌, subst}
+-- A reader of a text returns the one answer that the text has, or NoMemory.
+use Rattle.std.proofs.Common.{◌≡◌, ◌⊎◌, ℕ, List, Option, Result, Ok, Err, inl, inr, ap, sym, ◌∙◌, subst}
 use Rattle.schema_types.specs.Texts.{IsSchemaOf}
 use Rattle.schema_types.specs.declared.errors.SchemaError.{SchemaError}
 use Rattle.schema_types.specs.declared.errors.SchemaError.TheVariants as schema
@@ -23,13 +23,12 @@ use Rattle.sql_meaning.specs.Tables.{Tables}
 use Rattle.table_files.specs.EntryTables.{tables_in}
 use Rattle.prepared_runs.specs.Limits.{limit_test, within_limit}
 use Rattle.prepared_runs.specs.RunOutcome.{RunOutcome, Planned}
-use Rattle.prepared_runs.specs.Shapes.{shape_bytes}
+use Rattle.prepared_runs.specs.Shapes.{planned_within, shape_bytes}
 use Rattle.prepared_runs.specs.Verdict.{plan_asked, plan_stage, run_asked}
 use Rattle.prepared_runs.specs.declared.shapes.AnyPlan.{AnyPlan}
 use Rattle.safebound_words.specs.declared.command.PlanWork.{PlanWork}
 use Rattle.prepared_runs.proofs.LimitFacts.{kept, stops}
 
--- a value that is read is the answer's
 pub same_value : {A E : Type 0} (memory : E) (answer : Result A E) (x : A) → (Ok x ≡ Err memory) ⊎ (Ok x ≡ answer) → answer ≡ Ok x
 same_value memory answer x (inl e) = cc
 same_value memory answer x (inr e) = sym e
@@ -70,7 +69,6 @@ query_told s text e is = query_tells (query_answer s text) e (queries.only s tex
 
 -- ---- plans
 
--- a plan that was made is the planned one
 pub was_made : (answer : Result AnyPlan PlanError) (p : AnyPlan) → (Ok p ≡ Err plan.NoMemory) ⊎ (Ok p ≡ answer) → answer ≡ Ok p
 was_made answer p h = same_value plan.NoMemory answer p h
 
@@ -88,30 +86,44 @@ module _ (next : AnyPlan → Result RunOutcome Refusal) where
   plan_tells answer plan.PastBits (inl e) = cc
   plan_tells answer plan.PastBits (inr e) = (ap (λ (r : Result AnyPlan PlanError). told plan_refusal r >>= next) e, (λ file h. cc), (λ h. cc))
 
+-- a plan within the budget is refused only if its bytes are past the limit of memory
+module _ (limit : Option ℕ) (outcome : AnyPlan → RunOutcome) (answer : Result AnyPlan PlanError) where
+  abbrev limited : AnyPlan → Result RunOutcome Refusal
+  limited p = within_limit limit (shape_bytes p) (outcome p)
+
+  planned_at : (p : AnyPlan) → answer ≡ Ok p → planned_within limit outcome answer ≡ within_limit limit (shape_bytes p) (outcome p)
+  planned_at p is = ap (λ (r : Result AnyPlan PlanError). told plan_refusal r >>= limited) is
+
+  pub planned_kept : (p : AnyPlan) → answer ≡ Ok p → limit_test limit (shape_bytes p) ≡ Ok tt → planned_within limit outcome answer ≡ Ok (outcome p)
+  planned_kept p is fits = planned_at p is ∙ kept limit (shape_bytes p) (outcome p) fits
+
+  pub planned_past : (p : AnyPlan) → answer ≡ Ok p → (r : Refusal) → limit_test limit (shape_bytes p) ≡ Err r
+      → StopsBy (planned_within limit outcome answer) (ending.Refused r)
+  planned_past p is r above =
+      subst (λ (s : Result RunOutcome Refusal). StopsBy s (ending.Refused r)) (sym (planned_at p is)) (stops limit (shape_bytes p) (outcome p) r above)
+
+  pub planned_told : (e : PlanError) → (e ≡ plan.NoMemory) ⊎ (answer ≡ Err e) → StopsBy (planned_within limit outcome answer) (plan_ending e)
+  planned_told e h = plan_tells limited answer e h
+
 module _ (task : PlanWork) (schema : Schema) (query : Query) (rows : List (List Row)) (t : Tables) (same : tables_in rows ≡ t) where
-  -- over the tables that a database has
   over_rows : plan_asked task schema query (tables_in rows) ≡ plan_asked task schema query t
   over_rows = ap (plan_asked task schema query) same
 
-  abbrev limited : AnyPlan → Result RunOutcome Refusal
-  limited p = within_limit task.memory (shape_bytes p) (Planned (run_asked task query rows p))
+  abbrev made : AnyPlan → RunOutcome
+  made p = Planned (run_asked task query rows p)
 
-  plan_stage_at : (p : AnyPlan) → plan_asked task schema query t ≡ Ok p → plan_stage task schema query rows ≡ within_limit task.memory (shape_bytes p) (Planned (run_asked task query rows p))
-  unfolding plan_stage
-  plan_stage_at p is = ap (λ (r : Result AnyPlan PlanError). told plan_refusal r >>= limited) (over_rows ∙ is)
-
-  pub plan_stage_ok : (p : AnyPlan) → plan_asked task schema query t ≡ Ok p → limit_test task.memory (shape_bytes p) ≡ Ok tt
+  pub plan_stage_ok : (p : AnyPlan) → plan_asked task schema query t ≡ Ok p → limit_test task.terms.memory (shape_bytes p) ≡ Ok tt
       → plan_stage task schema query rows ≡ Ok (Planned (run_asked task query rows p))
-  plan_stage_ok p is fits = plan_stage_at p is ∙ kept task.memory (shape_bytes p) (Planned (run_asked task query rows p)) fits
+  unfolding plan_stage
+  plan_stage_ok p is fits = planned_kept task.terms.memory made (plan_asked task schema query (tables_in rows)) p (over_rows ∙ is) fits
 
-  pub limit_told : (p : AnyPlan) → plan_asked task schema query t ≡ Ok p → (r : Refusal) → limit_test task.memory (shape_bytes p) ≡ Err r
+  pub limit_told : (p : AnyPlan) → plan_asked task schema query t ≡ Ok p → (r : Refusal) → limit_test task.terms.memory (shape_bytes p) ≡ Err r
       → StopsBy (plan_stage task schema query rows) (ending.Refused r)
-  limit_told p is r above =
-      subst (λ (s : Result RunOutcome Refusal). StopsBy s (ending.Refused r)) (sym (plan_stage_at p is))
-      (stops task.memory (shape_bytes p) (Planned (run_asked task query rows p)) r above)
+  unfolding plan_stage
+  limit_told p is r above = planned_past task.terms.memory made (plan_asked task schema query (tables_in rows)) p (over_rows ∙ is) r above
 
   pub plan_told : (e : PlanError) → (e ≡ plan.NoMemory) ⊎ (plan_asked task schema query t ≡ Err e) → StopsBy (plan_stage task schema query rows) (plan_ending e)
   unfolding plan_stage
   plan_told e h =
-      plan_tells limited (plan_asked task schema query (tables_in rows)) e
+      planned_told task.terms.memory made (plan_asked task schema query (tables_in rows)) e
       (subst (λ (r : Result AnyPlan PlanError). (e ≡ plan.NoMemory) ⊎ (r ≡ Err e)) (sym over_rows) h)

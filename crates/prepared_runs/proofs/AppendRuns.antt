@@ -1,4 +1,5 @@
--- What holds of every file with new rows that the verdict gives.
+-- Every outcome of `append` is an earlier statistics file with rows added, and stands for the earlier file's tables with these rows
+-- (`StandsForMore`).
 use Rattle.std.proofs.Common.{◌≡◌, ℕ, ◌+◌, List, Result, Ok, Err, length, refl, subst, sym, inl, inr}
 use Rattle.std.specs.Prelude.{IfOk, nat_le}
 use Rattle.std.proofs.lemmas.Bool.{cases_Bool}
@@ -21,7 +22,6 @@ use Rattle.prepared_runs.specs.StatsFiles.{stats_stage}
 use Rattle.prepared_runs.specs.RunOutcome.{Appended, AppendedRows, NoBoundIsTooLow, RunOutcome, StandsForMore}
 use Rattle.prepared_runs.proofs.StatsFileRuns.{stats_keep}
 
--- what holds of the first step's value, and then of the second's
 pub then_ok : {A B : Type 0} (P : A → Type 0) (Q : B → Type 0) (r : Result A Refusal) (f : A → Result B Refusal) → IfOk r P → ((x : A) → P x → IfOk (f x) Q) → IfOk (r >>= f) Q
 then_ok P Q (Ok x) f first next = next x first
 then_ok P Q (Err s) f first next = tt

@@ -1,4 +1,4 @@
--- New rows of a table, step by step.
+-- Each function of `append` does what its stage of the verdict says.
 use Rattle.std.proofs.Common.{◌≡◌, ℕ, ◌+◌, ◌<◌, ◌≤◌, Bool, true, false, if◌then◌else◌, inl, inr, List, [], length, get_or, Option, None, Some, Result, Ok, Err, refl, ap, sym, ◌∙◌, subst, arith}
 use Rattle.std.specs.Prelude.{IfErr, IfOk, IsOkAnd, find, nat_le}
 use Rattle.std.specs.List.{All}
@@ -58,7 +58,7 @@ module _ (name : List ℕ) (schema : Schema) (stats : StatsFile) where
         let of : IsSection schema section = subst (IsSection schema) place.2 (keeps.tables place.0 section place.1) in
         slice_get_within schema.tables section.table of.table of.table_is
 
-    -- no other section is of its table
+    -- every section of the table counts as many rows as this one, since no other section is of the table
     pub section_alone : All (HasAsMany (counted section)) stats.tables
     section_alone i d low same = elim (cases_lt i place.0) [
       | inl before ↦ absurd (omega (arith, keeps.order i place.0 d before place.1, same, its_table))
@@ -78,7 +78,7 @@ module _ (name : List ℕ) (schema : Schema) (stats : StatsFile) where
         its_table : (get_or stats.tables place.0 d).table ≡ section.table
         its_table = ap (λ (s : TableStats). s.table) its
 
-  -- ---- which section was counted
+  -- ---- the section whose rows were counted
 
   counted_so : (r : Result TableStats Refusal) (found : Counted) → seen counted r ≡ Ok found → (section : TableStats) × (r ≡ Ok section) × (counted section ≡ found)
   counted_so (Ok section) found is = (section, refl, cc)
@@ -138,7 +138,6 @@ module _ {store : Reading} (name : List ℕ) (schema : Schema) (stats : StatsFil
 
 -- ---- the section, and then the new rows
 
--- a step that reads nothing
 unread : {A : Type 0} (store : Reading) (stage : Files → Result A Refusal) (C : Files → FileId → Type 0) (e : Ending) → ((files : Files) → StopsBy (stage files) e)
     → store.misses_after ≡ store.misses_before → store.faults_before ≤ store.faults_after → store.files_after ≡ store.files → Reads store stage C (Err e)
 unread store stage C (ending.Refused r) tells misses later same = record {

@@ -1,4 +1,4 @@
--- The command of the words, and that its values are in their ranges.
+-- The command that the words ask for has values within their ranges.
 use Rattle.std.proofs.Common.{◌≡◌, List, ℕ, Option, None, Some, Ok, Err, ap, sym, subst, refl}
 use Rattle.outcomes.specs.declared.refusal.Refusal.TheVariants as refusal
 use Rattle.safebound_words.specs.Answer.{command_of}

@@ -1,4 +1,4 @@
--- How many bytes the lists and buffers of a run hold, before its joins and behind them; and what stands in them.
+-- These lemmas say how many bytes the lists and buffers of a run hold, before its joins and after them, and which rows the buffers have.
 use Rattle.std.proofs.Common.{◌≡◌, ℕ, ◌+◌, ◌*◌, ◌<◌, ◌≤◌, List, length, map, sum, get_or, Option, None, Some, Result, Ok, Err, refl, ap, sym, ◌∙◌, subst, arith}
 use Rattle.std.specs.Prelude.{IsOkAnd, OnOk}
 use Rattle.std.proofs.lemmas.List.{ext_get_or, get_or-map, length-map}
@@ -46,14 +46,12 @@ use Rattle.safebound_words.specs.declared.command.Shape.TheVariants as shapes
 use Rattle.prepared_runs.proofs.RootFacts.{counts_of_nodes}
 use Rattle.prepared_runs.proofs.ShapeFacts.{along, over, seen_ok}
 
--- what holds in any case holds of a value
 pub if_ok : {A E P : Type 0} (r : Result A E) → P → OnOk r P
 if_ok (Ok x) is = is
 if_ok (Err e) is = tt
 
 -- ---- lists without room to spare
 
--- each has memory for just the rows that it has
 own_sizes : (query : Query) (lists : List (Rows ℕ)) → length lists ≡ length query.from → HaveNoSpare lists → map capacity lists ≡ list_sizes query (lists_of lists)
 own_sizes query lists count full =
     ext_get_or 0 (map capacity lists) (list_sizes query (lists_of lists)) (length-map lists capacity ∙ count ∙ sym (size_count query (lists_of lists)))
@@ -62,7 +60,6 @@ own_sizes query lists count full =
     let rows : rows_listed (lists_of lists) k ≡ length (get_or lists k no_rows).items = ap (λ (rows : List ℕ). length rows) (list_in lists k) in
     get_or-map capacity lists k no_rows 0 there ∙ omega (arith, full k no_rows there, rows, size_at query (lists_of lists) k (omega (arith, there, count))))
 
--- so they hold exactly what lists by these sizes take
 pub own_bytes : (query : Query) (tables : Tables) (family : List (List ℕ)) (lists : List (Rows ℕ)) (held : ℕ) → AreOfScans query tables family → lists_of lists ≡ family → held ≡ length query.from → HaveNoSpare lists
     → BUFFER_BYTES * held + ROW_NUMBER_BYTES * sum (map capacity lists) ≡ lists_bytes (list_sizes query family)
 own_bytes query tables family lists held are same count full =
@@ -121,7 +118,7 @@ are_done query db joins it same is bytes = record {
   bytes = bytes;
 }
 
--- what is left of what was prepared is what is kept of the run
+-- after the joins, the buffers that were prepared for them are the buffers that the run keeps
 module _ (query : Query) (db : Database) (source : ListSource) (lists : List (List ℕ)) (memory : Option ℕ) (same : tables_in (entry_rows db) ≡ tables_of db) where
   kept_joins : (joins : Joins) (bytes : ℕ) (it : Joined) → lists_of joins.lists.items ≡ lists → bytes_held joins ≡ bytes → bytes ≡ shape_bytes (plan_in joins.room) → AreDone query db joins it
       → (k : ℕ) → k < part_count (plan_in joins.room) → rows_in it k ≡ part_rows query (tables_in (entry_rows db)) lists (plan_in joins.room) k
@@ -140,9 +137,8 @@ module _ (query : Query) (db : Database) (source : ListSource) (lists : List (Li
   kept_is bytes (rest.Audit joins) None are holds is done = done
   kept_is bytes (rest.Nothing plan) kept are holds is none = none
 
--- ---- over files that a store tells
+-- ---- the buffers of a run over the files of a store
 
--- from the schema on
 pub keeps_so : (ask : Command) {first : Reading} (after : Option Files) (schema : Schema) (kept : Option Joined) → Reads first (schema_stage ask.schema_file) (AtFile file.Schema) (Ok schema)
     → first.files_after ≡ after → ((files : Files) → after ≡ Some files → IsOkAnd (aim_run ask.aim schema files) (λ outcome. IsKept outcome kept))
     → (files : Files) → first.files ≡ Some files → IsOkAnd (command_run ask files) (λ outcome. IsKept outcome kept)
@@ -151,7 +147,6 @@ keeps_so ask {first} after schema kept reads meets keeps files told =
     let stage : (schema_stage ask.schema_file files >>= (λ (s : Schema). aim_run ask.aim s files)) ≡ aim_run ask.aim schema files = rw (reads.gives files told) refl in
     subst (λ (r : Result RunOutcome Refusal). IsOkAnd r (λ outcome. IsKept outcome kept)) (sym stage) (keeps files (sym meets ∙ reads.same ∙ told))
 
--- and from the words on
 pub keeps_verdict : (words : List (List ℕ)) (ask : Command) → command_stage words ≡ Ok ask → (handed_in : Reading) (shop : Option ℕ) (kept : Option Joined) → shop_of words ≡ shop
     → KeepsItsBuffers (store_read shop handed_in) (command_run ask) kept → KeepsItsBuffers (store_read (shop_of words) handed_in) (verdict words) kept
 unfolding verdict

@@ -33,13 +33,11 @@ use Rattle.prepared_runs.specs.Sources.{Needs}
 use Rattle.safebound_words.specs.declared.command.ListSource.{ListSource}
 use Rattle.safebound_words.specs.declared.command.ListSource.TheVariants as sources
 
--- a list of this column alone
 just_one : (column : ℕ) (key : List ℕ) → is_just column key ≡ true → key ≡ column ∷ []
 just_one column [] h = absurd (false≢true h)
 just_one column (first ∷ []) h = ap (λ (c : ℕ). c ∷ []) (eqb-true first column h)
 just_one column (first ∷ second ∷ rest) h = absurd (false≢true h)
 
--- where no key of a table has a repeat, a column that alone is a key has none
 key_without : (column : ℕ) (keys : List (List ℕ)) (rows : List Row) → AllByRecursion (λ key. first_repeat key rows ≡ None) keys → list_any (is_just column) keys ≡ true
     → first_repeat (column ∷ []) rows ≡ None
 key_without column [] rows kept h = absurd (false≢true h)
@@ -63,12 +61,11 @@ module _ (schema : Schema) (query : Query) (tables : Tables) (own : NamesItsEntr
   keys_hold = all_from (λ (p : Place). is_declared_key schema (table_of query p.entry) p.column ≡ true → HaveUniqueValues tables p.entry p.column) (places_of (equalities_of query))
       (λ p there key. apart_at p.entry p.column (place_low query own p there) key)
 
--- of a query's tables, as the stage reads them
 pub read_keys_hold : (schema : Schema) (query : Query) (files : Files) (rows : List (List Row)) → IsOf schema query → tables_stage schema query.from files ≡ Ok rows
     → DeclaredKeysHold schema query (tables_in rows)
 read_keys_hold schema query files rows of staged = keys_hold schema query (tables_in rows) (names_its_entries schema query of) (staged_files schema query.from files rows staged)
 
--- ---- what a source needs
+-- ---- if the declared keys hold, every source has what it needs
 
 pub needs_met : (source : ListSource) (schema : Schema) (query : Query) (tables : Tables) → DeclaredKeysHold schema query tables → Needs source schema query tables
 needs_met sources.Columns schema query tables holds = tt

@@ -1,4 +1,4 @@
--- What a limit of memory lets through, and what it refuses.
+-- A limit of memory lets a plan through if the plan's bytes are within the limit, and refuses it otherwise.
 use Rattle.std.proofs.Common.{◌≡◌, ◌≤◌, ℕ, Bool, true, false, Option, None, Some, Result, Ok, Err, refl, ap, ◌∙◌, arith}
 use Rattle.std.specs.Prelude.{nat_le, if◌then◌else◌, IfOk}
 use Rattle.std.proofs.lemmas.Bool.Decides.{nat_tests}
@@ -8,7 +8,7 @@ use Rattle.outcomes.specs.declared.refusal.Refusal.{Refusal}
 use Rattle.outcomes.specs.declared.refusal.Refusal.TheVariants as refusal
 use Rattle.prepared_runs.specs.Limits.{IsWithinLimit, limit_test, within_limit}
 
--- ---- by one test
+-- ---- a value that is let through or refused by a test
 
 tested : {A : Type 0} → Bool → ℕ → A → Result A Refusal
 tested test bytes x = if test then Ok x else Err (refusal.MemoryLimit bytes)
@@ -46,22 +46,19 @@ test_misses false bytes x file e = cc
 most_if : (most n : ℕ) → nat_le n most ≡ true → n ≤ most
 most_if most n is = grind (arith, nat_tests)
 
--- ---- by a limit, where there is one
+-- ---- a value that is let through or refused by a limit, if there is one
 
 module _ {A : Type 0} where
-  -- what was let through
   pub within_ok : (limit : Option ℕ) (bytes : ℕ) (x y : A) → within_limit limit bytes x ≡ Ok y → (x ≡ y) × IsWithinLimit limit bytes
   unfolding tested
   within_ok None bytes x y e = (cc, tt)
   within_ok (Some limit) bytes x y e = let its = test_ok (nat_le bytes limit) bytes x y e in (its.1, most_if limit bytes its.0)
 
-  -- what holds of a value within the limit holds of what is let through
   pub within_so : (P : A → Type 0) (limit : Option ℕ) (bytes : ℕ) (x : A) → (IsWithinLimit limit bytes → P x) → IfOk (within_limit limit bytes x) P
   unfolding tested
   within_so P None bytes x h = h tt
   within_so P (Some limit) bytes x h = test_so P (nat_le bytes limit) bytes x (λ is. h (most_if limit bytes is))
 
-  -- whether a value is let through is a matter of the bytes alone
   pub kept : (limit : Option ℕ) (bytes : ℕ) (x : A) → limit_test limit bytes ≡ Ok tt → within_limit limit bytes x ≡ Ok x
   unfolding tested
   kept None bytes x e = refl

@@ -1,4 +1,4 @@
--- The rows of a tree's root are those of the last level, and the numbers of rows that were listed those of its nodes.
+-- The rows of a tree's root are those of the last level, and the counts of the rows that were listed are those of the tree's nodes.
 use Rattle.std.proofs.Common.{◌≡◌, ℕ, ◌+◌, ◌-◌, ◌*◌, ◌<◌, ◌&&◌, Bool, true, false, List, length, map, ltb, refl, ap, sym, ◌∙◌, subst, arith, inl, inr}
 use Rattle.std.specs.Prelude.{All}
 use Rattle.std.specs.List.{range_with_len}
@@ -35,7 +35,6 @@ and_false : (b : Bool) → (b && false) ≡ false
 and_false true = refl
 and_false false = refl
 
--- the root isn't a leaf that is joined
 root_alone : (n : ℕ) (plan : BushyPlan) → IsTreePlan n plan → is_joined_leaf plan (node_count plan - 1) ≡ false
 root_alone n plan is = elim (cases_lt 1 (length plan.scans)) [
   | inl several ↦ ap (λ (b : Bool). b && ltb 1 (length plan.scans)) (le-ltb (node_count plan - 1) (length plan.scans) (omega (arith, several, is.scans, is.joins)))
@@ -68,7 +67,7 @@ module _ (query : Query) (db : Database) (plan : BushyPlan) (is : IsTreePlan (le
       (All-from_recursion (IsChoiceOf (row_counts (tables_of db)) its) (chosen_rows query (tables_of db) lists its)
       (are_choices query db lists rows.scanned its order.entries))
 
--- ---- what was listed
+-- ---- the rows that were listed at the root
 
 module _ (query : Query) (db : Database) (plan : BushyPlan) (is : IsTreePlan (length query.from) plan) (lists : List (List ℕ)) (database : IsDatabaseOf query db)
     (rows : LoseNoRow query (tables_of db) lists) (done : List Node) (entries : (node : ℕ) → node < node_count plan → (node_at done node).entries ≡ entries_at plan node)

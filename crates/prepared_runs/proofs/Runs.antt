@@ -1,4 +1,4 @@
--- What holds of every run that the verdict gives.
+-- Every run that the verdict gives has no bound that is too low, prints the answer, and keeps its limit of memory.
 use Rattle.std.proofs.Common.{◌≡◌, ℕ, ◌≤◌, List, Result, Ok, Err, length, map, get_or, refl, ap, sym, ◌∙◌, subst, arith}
 use Rattle.std.specs.Prelude.{IfOk, IsPermutation}
 use Rattle.std.proofs.Math.Seq.{take-length}
@@ -60,7 +60,6 @@ is_ok : {A : Type 0} (r : Result A Refusal) → IfOk r (λ x. r ≡ Ok x)
 is_ok (Ok x) = refl
 is_ok (Err s) = tt
 
--- what holds of each value that an answer may be
 ok_so : {A E : Type 0} (P : A → Type 0) (f : E → Refusal) (r : Result A E) → ((x : A) → r ≡ Ok x → P x) → IfOk (told f r) P
 ok_so P f (Ok x) h = h x refl
 ok_so P f (Err e) h = tt
@@ -77,7 +76,6 @@ schema_ok name files =
     any_ok IsValid (read file.Schema 1048576 name files) schema_of_text
     (λ text. ok_so IsValid schema_refusal (schema_answer text) (λ schema e. schemas.valid text schema e))
 
--- a query that names its own entries, over the rows that its source gives and by its plan
 pub record IsRun (run : AcceptedQuery) : Type 0 where
   pub own : NamesItsEntries run.query
   pub lists : run.lists ≡ lists_by run.source run.query (tables run)
@@ -86,7 +84,6 @@ pub record IsRun (run : AcceptedQuery) : Type 0 where
   pub limit : IsWithinLimit run.memory (shape_bytes run.plan)
   pub scans : (accuracy : ℕ) × ((entry : ℕ) → get_or (scan_bounds run.plan) entry 0 ≡ get_or (scans_by run.source run.query (tables run) accuracy) entry 0)
 
--- a plan over tables is such a run, and else what is promised of it holds
 abbrev IsSound : RunOutcome → Type 0
 IsSound (Planned run) = IsRun run
 IsSound (StatsMade made_stats) = NoBoundIsTooLow (StatsMade made_stats)
@@ -98,10 +95,10 @@ unfolding plan_stage
 plan_ok task schema query rows needs range some few own =
     then_ok IsMade IsSound (told plan_refusal (plan_asked task schema query (tables_in rows))) _
     (ok_so IsMade plan_refusal (plan_asked task schema query (tables_in rows)) made_ok)
-    (λ plan is. within_so IsSound task.memory (shape_bytes plan) (Planned (run_asked task query rows plan)) is)
+    (λ plan is. within_so IsSound task.terms.memory (shape_bytes plan) (Planned (run_asked task query rows plan)) is)
   where
     IsMade : AnyPlan → Type 0
-    IsMade plan = IsWithinLimit task.memory (shape_bytes plan) → IsRun (run_asked task query rows plan)
+    IsMade plan = IsWithinLimit task.terms.memory (shape_bytes plan) → IsRun (run_asked task query rows plan)
 
     made_ok : (plan : AnyPlan) → plan_asked task schema query (tables_in rows) ≡ Ok plan → IsMade plan
     made_ok plan made within =
@@ -112,8 +109,8 @@ plan_ok task schema query rows needs range some few own =
           lists = refl;
           rows = is.rows;
           limit = within;
-          bounds = plan_fits query (tables_in rows) given is task.accuracy task.budget some few task.shape plan made range.budget;
-          scans = (task.accuracy, scan_is_given query (tables_in rows) given is task.accuracy task.budget some few task.shape plan made);
+          bounds = plan_fits query (tables_in rows) given is task.accuracy task.terms.budget some few task.terms.shape plan made range.budget;
+          scans = (task.accuracy, scan_is_given query (tables_in rows) given is task.accuracy task.terms.budget some few task.terms.shape plan made);
         }
 
 work_ok : (work : Work) (schema : Schema) (query : Query) (files : Files) → WorkHasRanges work → IsValid schema → IsOf schema query → IfOk (work_run work schema query files) IsSound
@@ -123,9 +120,9 @@ work_ok (works.Plan task) schema query files range valid of =
 work_ok (works.WriteStats accuracy) schema query files range valid of =
     then_ok (λ rows. tables_stage schema query.from files ≡ Ok rows) IsSound (tables_stage schema query.from files) _ (is_ok (tables_stage schema query.from files))
     (λ rows is. filed_stands schema query files accuracy rows is)
-work_ok (works.PlanFromStats name budget memory) schema query files range valid of =
+work_ok (works.PlanFromStats name terms) schema query files range valid of =
     then_ok (KeepsRules schema) IsSound (stats_stage name schema files) _ (stats_keep name schema files valid)
-    (λ stats keeps. filed_plan_holds schema query of stats keeps budget range memory IsSound (λ plan holds within. (holds, within)))
+    (λ stats keeps. filed_plan_holds schema query of stats keeps terms range IsSound (λ plan holds within. (holds, within)))
 
 aim_ok : (aim : Aim) (schema : Schema) (files : Files) → HasRanges aim → IsValid schema → IfOk (aim_run aim schema files) IsSound
 aim_ok (aims.Query name work) schema files range valid =
@@ -144,7 +141,7 @@ unfolding verdict
 verdict_ok words files =
     then_ok (λ command. command_stage words ≡ Ok command) IsSound (command_stage words) _ (is_ok (command_stage words)) (λ command is. command_ok command files (has_ranges words command is))
 
--- ---- two sentences
+-- ---- two sentences of the headline: no bound is too low, and the printed rows are the answer
 
 module _ (run : AcceptedQuery) (is : IsRun run) where
   abbrev lists_from : ListSource → List (List ℕ)

@@ -1,15 +1,18 @@
--- What holds of a plan of either shape by what a source gives, and of the entries that it joins.
+-- A plan of either shape is made by the bounds that a source gives. Its bounds hold, and it joins each entry once.
 use Rattle.std.proofs.Common.{◌≡◌, ℕ, ◌+◌, ◌-◌, ◌<◌, ◌≤◌, List, Result, Ok, Err, eqb, length, get_or, refl, ap, sym, ◌∙◌, subst, arith}
 use Rattle.std.specs.Prelude.{◌≢◌}
 use Rattle.std.specs.List.{AllByRecursion, IsDistinct}
 use Rattle.csv_tables.specs.declared.types.Database.{Database}
 use Rattle.plans.specs.LeftDeep.{IsPlan}
 use Rattle.plans.specs.declared.left_deep.Plan.{Plan}
+use Rattle.order_search.specs.declared.refusal.PlanError.{PlanError}
 use Rattle.order_search.specs.declared.refusal.PlanError.TheVariants as error
 use Rattle.plan_answers.specs.PlanAnswer.{plan_answer}
 use Rattle.plan_answers.proofs.OneChoice as orders
+use Rattle.tree_answers.specs.Promised.{IsPromised}
 use Rattle.tree_answers.specs.TreeAnswer.{tree_answer}
 use Rattle.tree_answers.proofs.OneChoice as trees
+use Rattle.tree_plans.specs.TreePlans.{IsTreePlan}
 use Rattle.tree_plans.specs.declared.bushy.BushyPlan.{BushyPlan}
 use Rattle.tree_rows.specs.Trees.{node_count}
 use Rattle.tree_rows.proofs.AllEntries.{root_all}
@@ -30,7 +33,7 @@ use Rattle.outcomes.specs.Reads.{seen}
 use Rattle.planning.specs.declared.known.Known.{Known}
 use Rattle.planning.specs.HasBounds.{HasBounds}
 use Rattle.planning.specs.Standing.{BoundLevels}
-use Rattle.planning.proofs.FromLists.{plan_over_lists, scan_kept}
+use Rattle.planning.proofs.FromLists.{is_plan_from, plan_over_lists, scan_kept}
 use Rattle.planning.proofs.ReducedPlans.{levels_of_scans}
 use Rattle.bushy_planning.proofs.Stages as stages
 use Rattle.prepared_runs.specs.Shapes.{IsPlanOver, IsShapedPlan, answer_of, joined_entries, part_bound, part_count, part_rows, planned_by, scan_bounds, whole_parts}
@@ -42,7 +45,7 @@ use Rattle.prepared_runs.specs.declared.shapes.AnyPlan.TheVariants as shaped
 use Rattle.safebound_words.specs.declared.command.Shape.{Shape}
 use Rattle.safebound_words.specs.declared.command.Shape.TheVariants as shapes
 
--- ---- an answer with its value seen as another
+-- ---- an answer whose value was changed by a function
 
 pub seen_ok : {A B E : Type 0} (f : A → B) (r : Result A E) (y : B) → seen f r ≡ Ok y → (x : A) × (r ≡ Ok x) × (f x ≡ y)
 seen_ok f (Ok x) y is = (x, refl, cc)
@@ -58,29 +61,51 @@ along plan = shaped.OrderPlan plan
 abbrev pub over : BushyPlan → AnyPlan
 over plan = shaped.TreePlan plan
 
+pub no_want : (shape : Shape) (sets scans : List ℕ) (budget : ℕ) → answer_of shape sets scans budget ≢ Err error.NoMemory
+no_want shapes.Order sets scans budget = never_seen along (plan_answer sets scans budget) error.NoMemory (orders.never_memory sets scans budget)
+no_want shapes.Tree sets scans budget = never_seen over (tree_answer sets scans budget) error.NoMemory (trees.never_memory sets scans budget)
+
 pub never_wants_memory : (shape : Shape) (given : Sourced) (accuracy budget : ℕ) → planned_by shape given accuracy budget ≢ Err error.NoMemory
 unfolding planned_by
-never_wants_memory shapes.Order given accuracy budget =
-    never_seen along (plan_answer (given.sets accuracy) (given.scans accuracy) budget) error.NoMemory
-    (orders.never_memory (given.sets accuracy) (given.scans accuracy) budget)
-never_wants_memory shapes.Tree given accuracy budget =
-    never_seen over (tree_answer (given.sets accuracy) (given.scans accuracy) budget) error.NoMemory
-    (trees.never_memory (given.sets accuracy) (given.scans accuracy) budget)
+never_wants_memory shape given accuracy budget = no_want shape (given.sets accuracy) (given.scans accuracy) budget
 
--- by bounds that are known the answer is the plan
 pub planned_known : (shape : Shape) (given : Sourced) (accuracy budget : ℕ) (known : Known) → HasBounds (given.sets accuracy) (given.scans accuracy) known
     → answer_of shape known.sets known.scans budget ≡ planned_by shape given accuracy budget
 unfolding planned_by
 planned_known shape given accuracy budget known gives =
     ap (λ (s : List ℕ). answer_of shape s known.scans budget) gives.sets ∙ ap (λ (s : List ℕ). answer_of shape (given.sets accuracy) s budget) gives.scans
 
--- ---- a plan by what a source gives
+-- an answered plan is for as many entries as there are bounds of scans
+pub answer_is_plan : (shape : Shape) (sets scans : List ℕ) (n budget : ℕ) → length scans ≡ n → 1 ≤ n → n ≤ 12 → (plan : AnyPlan)
+    → answer_of shape sets scans budget ≡ Ok plan → IsShapedPlan n plan
+answer_is_plan shapes.Order sets scans n budget long some few plan made =
+    let it = seen_ok along (plan_answer sets scans budget) plan made in
+    subst (IsShapedPlan n) it.2 (is_plan_from sets scans n budget long it.0 it.1)
+answer_is_plan shapes.Tree sets scans n budget long some few plan made =
+    let it = seen_ok over (tree_answer sets scans budget) plan made in
+    let P : Result BushyPlan PlanError → Type 0 = IsPromised sets scans budget in
+    let its : IsTreePlan (length scans) it.0 = (subst P it.1 (trees.allowed sets scans budget (omega (arith, some, long)) (omega (arith, few, long)))).plan in
+    subst (IsShapedPlan n) it.2 (subst (λ (m : ℕ). IsTreePlan m it.0) long its)
 
--- it is one for each entry, and no list and no part has more rows than it says
+-- ---- a plan by the bounds that a source gives
+
 pub record Fits (query : Query) (tables : Tables) (lists : List (List ℕ)) (made : AnyPlan) : Type 0 where
   pub plan : IsShapedPlan (length query.from) made
   pub scans : (entry : ℕ) → entry < length query.from → rows_listed lists entry ≤ get_or (scan_bounds made) entry 0
   pub parts : (k : ℕ) → k < part_count made → length (part_rows query tables lists made k) ≤ part_bound made k
+
+-- that holds of each plan over the lists
+pub over_so : (query : Query) (tables : Tables) (lists : List (List ℕ)) (plan : AnyPlan) → IsPlanOver query tables lists plan → Fits query tables lists plan
+over_so query tables lists (shaped.OrderPlan plan) of = record {
+  plan = of.for_each_entry;
+  scans = of.scans;
+  parts = λ k low. of.levels k (omega (arith, low, of.for_each_entry.order.all));
+}
+over_so query tables lists (shaped.TreePlan plan) of = record {
+  plan = of.for_each_entry;
+  scans = of.scans;
+  parts = λ k low. of.nodes (length plan.scans + k) (omega arith);
+}
 
 module _ (query : Query) (tables : Tables) (given : Sourced) (is : IsSource query tables given) (accuracy budget : ℕ) (some : 1 ≤ length query.from) (few : length query.from ≤ 12) where
   abbrev sets : List ℕ
@@ -94,13 +119,6 @@ module _ (query : Query) (tables : Tables) (given : Sourced) (is : IsSource quer
 
   order_over : (plan : Plan) → budget ≤ 20000000 → plan_answer sets scans budget ≡ Ok plan → IsPlanOf query tables given.lists plan
   order_over plan small made = plan_over_lists query tables given.lists sets scans levels (is.of_scans accuracy) budget plan few small made
-
-  order_fits : (plan : Plan) → IsPlanOf query tables given.lists plan → Fits query tables given.lists (shaped.OrderPlan plan)
-  order_fits plan of = record {
-    plan = of.for_each_entry;
-    scans = of.scans;
-    parts = λ k low. of.levels k (omega (arith, low, of.for_each_entry.order.all));
-  }
 
   tree_fits : (plan : BushyPlan) → budget ≤ 4000000 → tree_answer sets scans budget ≡ Ok plan → Fits query tables given.lists (shaped.TreePlan plan)
   tree_fits plan small made = record {
@@ -116,12 +134,12 @@ module _ (query : Query) (tables : Tables) (given : Sourced) (is : IsSource quer
   answer_fits : (shape : Shape) (plan : AnyPlan) → budget ≤ most_budget_of shape → answer_of shape sets scans budget ≡ Ok plan → Fits query tables given.lists plan
   answer_fits shapes.Order plan small made =
       let it = seen_ok along (plan_answer sets scans budget) plan made in
-      subst (Fits query tables given.lists) it.2 (order_fits it.0 (order_over it.0 small it.1))
+      subst (Fits query tables given.lists) it.2 (over_so query tables given.lists (shaped.OrderPlan it.0) (order_over it.0 small it.1))
   answer_fits shapes.Tree plan small made =
       let it = seen_ok over (tree_answer sets scans budget) plan made in
       subst (Fits query tables given.lists) it.2 (tree_fits it.0 small it.1)
 
-  answer_over : (shape : Shape) (plan : AnyPlan) → budget ≤ most_budget_of shape → HaveFewRows tables (length query.from) → answer_of shape sets scans budget ≡ Ok plan
+  pub answer_over : (shape : Shape) (plan : AnyPlan) → budget ≤ most_budget_of shape → HaveFewRows tables (length query.from) → answer_of shape sets scans budget ≡ Ok plan
       → IsPlanOver query tables given.lists plan
   answer_over shapes.Order plan small rows made =
       let it = seen_ok along (plan_answer sets scans budget) plan made in
@@ -154,14 +172,13 @@ module _ (query : Query) (tables : Tables) (given : Sourced) (is : IsSource quer
     unfolding planned_by
     scan_is_given entry = answer_keeps shape plan made entry
 
--- no bound of a plan over lists is too low for these
 pub over_fits : (query : Query) (tables : Tables) (lists : List (List ℕ)) (plan : AnyPlan) → IsPlanOver query tables lists plan
     → IsShapedPlan (length query.from) plan × (length (scan_bounds plan) ≡ length query.from)
     × ((entry : ℕ) → entry < length query.from → rows_listed lists entry ≤ get_or (scan_bounds plan) entry 0)
 over_fits query tables lists (shaped.OrderPlan plan) is = (is.for_each_entry, is.for_each_entry.scans, is.scans)
 over_fits query tables lists (shaped.TreePlan plan) is = (is.for_each_entry, is.for_each_entry.scans, is.scans)
 
--- ---- the entries that it joins
+-- ---- the entries that a plan joins: each of n entries once
 
 record HasAll (n : ℕ) (order : List ℕ) : Type 0 where
   entries : AllByRecursion (λ entry. entry < n) order
@@ -180,14 +197,14 @@ order_is query plan is = let its = has_all (length query.from) plan is in order_
 pub order_of : (query : Query) (plan : AnyPlan) → IsShapedPlan (length query.from) plan → IsOrderOf query (joined_entries plan)
 order_of query plan is = let its = has_all (length query.from) plan is in record { entries = its.entries; once = its.once; all = its.all }
 
--- ---- over whole scans
+-- ---- the parts of a plan over whole scans are those over whole tables
 
 pub whole_part : (query : Query) (tables : Tables) (plan : AnyPlan) → IsShapedPlan (length query.from) plan → (k : ℕ) → k < part_count plan
     → part_rows query tables (scans_of query tables) plan k ≡ whole_parts query tables plan k
 whole_part query tables (shaped.OrderPlan plan) is k low = levels_of_scans query tables plan.order (k + 1) (order_is query (shaped.OrderPlan plan) is)
 whole_part query tables (shaped.TreePlan plan) is k low = whole_is query tables plan (length plan.scans + k) is (omega arith)
 
--- ---- the last level
+-- ---- the last level over lists is the last level of the query
 
 pub last_level : (query : Query) (db : Database) (plan : Plan) (lists : List (List ℕ)) → IsDatabaseOf query db → LoseNoRow query (tables_of db) lists → IsPlan (length query.from) plan
     → (k : ℕ) → k + 1 ≡ length plan.order → list_levels query (tables_of db) lists plan.order (k + 1) ≡ query_level query db plan.order (k + 1)

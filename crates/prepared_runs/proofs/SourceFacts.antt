@@ -1,8 +1,9 @@
--- What each source gives stands for the rows of the query.
-use Rattle.std.proofs.Common.{◌≡◌, ℕ, ◌^◌, List, length, ap, sym, ◌∙◌}
+-- The lists that each source gives lose no row of the answer, and no bound that a source gives is too low.
+use Rattle.std.proofs.Common.{◌≡◌, ℕ, ◌^◌, List, length, None, ap, sym, ◌∙◌}
 use Rattle.std.proofs.lemmas.List.FromFn.{length-map-range_with_len}
 use Rattle.std.proofs.Math.Seq.{take-length}
 use Rattle.schema_types.specs.declared.types.Schema.{Schema}
+use Rattle.query_types.specs.Named.{NamesItsEntries}
 use Rattle.query_types.specs.declared.types.Query.{Query}
 use Rattle.join_graph.specs.Conjuncts.{equalities_of}
 use Rattle.sql_meaning.specs.Answers.{conjuncts_of}
@@ -29,12 +30,17 @@ use Rattle.counted_bounds.specs.Bounds.{counted_bound}
 use Rattle.counted_factors.specs.Limits.{counted_of}
 use Rattle.counted_planning.specs.Bounds.{set_bounds_by_counts}
 use Rattle.counted_planning.proofs.InSets.{bound_levels}
-use Rattle.prepared_runs.specs.Sources.{Needs, sets_by, lists_by, scans_by, sourced}
+use Rattle.stats_file.specs.declared.types.StatsFile.{StatsFile}
+use Rattle.stats_file_of_query.specs.Standing.{StandsFor}
+use Rattle.stats_file_bounds.specs.Entries.{IsFile}
+use Rattle.stats_file_bounds.specs.Found.{first_missing}
+use Rattle.stats_file_bounds.proofs.FromFiles.{all_sets as file_sets, levels_fit, scans_fit}
+use Rattle.prepared_runs.specs.Sources.{Needs, sets_by, lists_by, scans_by, sourced, sourced_of_file}
 use Rattle.prepared_runs.specs.Standing.{IsSource, LoseNoRow}
 use Rattle.safebound_words.specs.declared.command.ListSource.{ListSource}
 use Rattle.safebound_words.specs.declared.command.ListSource.TheVariants as sources
 
--- ---- an instance for each source
+-- ---- the facts for each source
 
 module _ (query : Query) (tables : Tables) where
   whole_rows : LoseNoRow query tables (scans_of query tables)
@@ -49,7 +55,6 @@ module _ (query : Query) (tables : Tables) where
         ∙ sym (ap (λ (placed : List ℕ). level_of (conjuncts_of query tables) (row_counts tables) placed) (take-length order));
   }
 
-  -- what is joined loses no row, whatever the tables
   pub rows_kept : (source : ListSource) → LoseNoRow query tables (lists_by source query tables)
   unfolding lists_by
   rows_kept sources.Columns = whole_rows
@@ -57,7 +62,6 @@ module _ (query : Query) (tables : Tables) where
   rows_kept sources.Reduced = reduced_rows
   rows_kept sources.Counted = reduced_rows
 
-  -- and no scan has more rows than its bound
   pub scans_bound : (source : ListSource) (accuracy : ℕ) → BoundLists query tables (lists_by source query tables) (scans_by source query tables accuracy)
   unfolding lists_by scans_by
   scans_bound sources.Columns accuracy = told_bound query tables accuracy
@@ -78,7 +82,6 @@ module _ (query : Query) (tables : Tables) where
       length-map-range_with_len (counted_bound (counted_of query tables (reduced_of query tables)) query tables (reduced_of query tables)) 0 (2 ^ length query.from)
 
   module _ (schema : Schema) where
-    -- nor any level, where the tables keep what the source needs
     levels_bound : (source : ListSource) → Needs source schema query tables → (accuracy : ℕ)
         → BoundLevels query tables (lists_by source query tables) (sets_by source schema query tables accuracy)
     unfolding sets_by lists_by
@@ -88,7 +91,6 @@ module _ (query : Query) (tables : Tables) where
         λ subset order fits o. level_never_under_over query tables (reduced_of query tables) accuracy subset order (reduced_of_scans query tables) fits o
     levels_bound sources.Counted needs accuracy = counted_levels
 
-    -- each set has its bound
     pub all_sets : (source : ListSource) (accuracy : ℕ) → length (sets_by source schema query tables accuracy) ≡ 2 ^ length query.from
     unfolding sets_by
     all_sets sources.Columns accuracy = many (in_every_set (entry_bounds query (statistics_of tables accuracy)))
@@ -98,3 +100,14 @@ module _ (query : Query) (tables : Tables) where
 
     pub stand : (source : ListSource) → Needs source schema query tables → IsSource query tables (sourced source schema query tables)
     stand source needs = record { rows = rows_kept source; of_scans = scans_bound source; of_sets = levels_bound source needs; of_all_sets = all_sets source }
+
+-- ---- what a statistics file gives, for tables for which it stands
+
+pub file_is_source : (query : Query) (file : StatsFile) → NamesItsEntries query → IsFile file → first_missing query file ≡ None → (tables : Tables) → StandsFor query file tables
+    → IsSource query tables (sourced_of_file query file tables)
+file_is_source query file own is none tables stands = record {
+  rows = whole_rows query tables;
+  of_scans = λ accuracy. scans_fit query file own is none tables stands;
+  of_sets = λ accuracy. levels_fit query file own is none tables stands;
+  of_all_sets = λ accuracy. file_sets query file;
+}

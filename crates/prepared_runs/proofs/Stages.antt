@@ -1,4 +1,4 @@
--- The stages of the verdict, step by step.
+-- Each function does what its stage of the verdict says.
 use Rattle.std.proofs.Common.{◌≡◌, ℕ, ◌⊎◌, inl, inr, List, Result, Ok, Err, ap, sym, ◌∙◌, subst}
 use Rattle.std.specs.Prelude.{IfOk, IfErr, IsOkAnd}
 use Rattle.base_io.specs.Files.{Files}
@@ -69,7 +69,7 @@ module _ {store : Reading} (name : List ℕ) (schema : Schema) where
       then_tells store (read file.Query 1048576 name) (query_of_text schema) (AtFile file.Query) (AtFile file.Query) text e
       (subst (λ (t : List ℕ). StopsBy (query_of_text schema t) e) same tells) h
 
--- ---- what a run is over, from its tables on
+-- ---- the stages from the tables on
 
 module _ {store : Reading} (task : PlanWork) (schema : Schema) (query : Query) (C : Files → FileId → Type 0) where
   pub tables_stop : (e : Ending) → Reads store (tables_stage schema query.from) C (Err e) → Reads store (work_run (works.Plan task) schema query) C (Err e)
@@ -81,14 +81,13 @@ module _ {store : Reading} (task : PlanWork) (schema : Schema) (query : Query) (
   tables_ran rows (Ok p) is tells h = then_gives store (tables_stage schema query.from) (plan_stage task schema query) C C rows (planned_outcome p) is h
   tables_ran rows (Err e) is tells h = then_tells store (tables_stage schema query.from) (plan_stage task schema query) C C rows e tells h
 
--- the work that is asked is done
 pub work_done : {store : Reading} (asked work : Work) (schema : Schema) (query : Query) (answer : Result RunOutcome Ending) → asked ≡ work
     → Reads store (work_run work schema query) (IsWorkFile work schema query) answer
     → Reads store (work_run asked schema query) (IsWorkFile asked schema query) answer
 work_done {store} asked work schema query answer is h =
     subst (λ (w : Work). Reads store (work_run w schema query) (IsWorkFile w schema query) answer) (sym is) h
 
--- ---- from the schema on
+-- ---- the stages after the schema
 
 module _ (name : List ℕ) (work : Work) (schema : Schema) where
   abbrev AtQueryOrFile : Files → FileId → Type 0
@@ -108,7 +107,6 @@ module _ (name : List ℕ) (work : Work) (schema : Schema) where
       AtQueryOrFile query answer meets
       (λ files id is at'. inr (subst (λ (r : Result Query Refusal). IsOkAnd r (λ q. IsWorkFile work schema q files id)) (sym is) at')) h k
 
--- what is asked of the schema is done
 pub aim_done : {store : Reading} (asked aim : Aim) (schema : Schema) (answer : Result RunOutcome Ending) → asked ≡ aim
     → Reads store (aim_run aim schema) (IsAimFile aim schema) answer → Reads store (aim_run asked schema) (IsAimFile asked schema) answer
 aim_done {store} asked aim schema answer is h =

@@ -1,24 +1,25 @@
--- What holds of a statistics file that the verdict makes, and of a plan that it makes from one.
-use Rattle.std.proofs.Common.{◌≡◌, ℕ, ◌<◌, ◌≤◌, List, [], Option, Result, Ok, Err, length, get_or, refl, ap, sym, ◌∙◌, subst}
+-- A statistics file that the verdict makes stands for its tables, and a plan that the verdict makes from a statistics file has no bound that
+-- is too low.
+use Rattle.std.proofs.Common.{◌≡◌, ℕ, ◌<◌, ◌≤◌, List, [], Option, None, Some, Result, Ok, Err, length, get_or, refl, ap, sym, ◌∙◌, subst, arith}
 use Rattle.std.specs.Prelude.{IfOk}
 use Rattle.std.proofs.lemmas.List.{get_or-map, length-map}
 use Rattle.base_io.specs.Files.{Files}
 use Rattle.csv_tables.specs.Rows.{Row}
 use Rattle.join_graph.proofs.FromEntries.{names_its_entries}
-use Rattle.stats_file_bounds.specs.Plans.{stats_file_plan}
-use Rattle.stats_file_bounds.specs.declared.errors.StatsFilePlanError.{StatsFilePlanError}
-use Rattle.stats_file_bounds.proofs.Answering.{never_under}
+use Rattle.order_search.specs.declared.refusal.PlanError.{PlanError}
+use Rattle.stats_file_bounds.specs.Entries.{IsFile}
+use Rattle.stats_file_bounds.specs.Found.{first_missing}
+use Rattle.stats_file_bounds.proofs.FromFiles.{few_rows}
 use Rattle.stats_file_of_query.specs.Standing.{ShareRows}
 use Rattle.stats_file_of_query.proofs.Standing.{file_stands}
 use Rattle.outcomes.specs.Reads.{◌>>=◌, told}
 use Rattle.outcomes.specs.Errors.{stats_refusal}
 use Rattle.outcomes.specs.declared.names.FileId.TheVariants as file
 use Rattle.outcomes.specs.declared.refusal.Refusal.{Refusal}
-use Rattle.plans.specs.declared.left_deep.Plan.{Plan}
+use Rattle.query_types.specs.Named.{NamesItsEntries}
 use Rattle.query_types.specs.Validity.{IsOf}
 use Rattle.query_types.specs.declared.types.Query.{Query}
 use Rattle.query_types.specs.declared.types.Source.{Source}
-use Rattle.reserve_plan.specs.Memory.{plan_bytes}
 use Rattle.schema_types.specs.Validity.{IsValid}
 use Rattle.schema_types.specs.declared.types.Schema.{Schema}
 use Rattle.stats_answers.specs.StatsTexts.{stats_answer}
@@ -29,14 +30,20 @@ use Rattle.stats_file.specs.declared.types.StatsFile.{StatsFile}
 use Rattle.table_files.specs.EntryTables.{tables_in}
 use Rattle.table_files.specs.Stage.{numbers_of, place_of, rows_by_entry, rows_of_each, tables_of_query, tables_stage}
 use Rattle.table_files.specs.TableFile.{read}
-use Rattle.prepared_runs.specs.StatsFiles.{stats_file_plan_stage, stats_file_refusal, stats_file_plan_within, stats_of_text, stats_stage, stats_file_of_tables}
+use Rattle.prepared_runs.specs.StatsFiles.{made_from_file, plan_from_file_asked, stats_file_plan_stage, stats_of_text, stats_stage, stats_file_of_tables, unless_missing}
 use Rattle.prepared_runs.specs.Limits.{IsWithinLimit}
 use Rattle.prepared_runs.specs.RunOutcome.{PlanFromStatsFile, HoldsWhereItStands, NoBoundIsTooLow, RunOutcome, PlannedFromStats}
+use Rattle.prepared_runs.specs.Shapes.{planned_within, shape_bytes}
+use Rattle.prepared_runs.specs.Sources.{sourced_of_file}
+use Rattle.prepared_runs.specs.declared.shapes.AnyPlan.{AnyPlan}
+use Rattle.safebound_words.specs.Commands.{most_budget_of}
+use Rattle.safebound_words.specs.declared.command.PlanTerms.{PlanTerms}
 use Rattle.prepared_runs.proofs.LimitFacts.{within_so}
+use Rattle.prepared_runs.proofs.ShapeFacts.{answer_over}
+use Rattle.prepared_runs.proofs.SourceFacts.{file_is_source}
 
 -- ---- a file of tables
 
--- the rows of an entry are those of its table
 row_of_entry : (from : List Source) (rows : List (List Row)) (entry : ℕ) → entry < length from
     → tables_in (rows_by_entry from rows) entry ≡ get_or rows (place_of (tables_of_query from) (get_or (numbers_of from) entry 0)) []
 row_of_entry from rows entry low =
@@ -74,23 +81,36 @@ pub stats_keep : (name : List ℕ) (schema : Schema) (files : Files) → IsValid
 unfolding stats_stage
 stats_keep name schema files valid = keeps_read schema valid (read file.Stats 67108864 name files)
 
--- ---- a plan from it
+-- ---- a plan from a statistics file
 
-module _ (schema : Schema) (query : Query) (of : IsOf schema query) (stats : StatsFile) (keeps : KeepsRules schema stats) (budget : ℕ) (small : budget ≤ 20000000)
-    (memory : Option ℕ) where
-  abbrev made_of : Plan → PlanFromStatsFile
-  made_of plan = record { query = query; file = stats; plan = plan; memory = memory }
+module _ (schema : Schema) (query : Query) (of : IsOf schema query) (stats : StatsFile) (keeps : KeepsRules schema stats) (terms : PlanTerms)
+    (small : terms.budget ≤ most_budget_of terms.shape) where
+  abbrev made_of : AnyPlan → PlanFromStatsFile
+  made_of plan = record { query = query; file = stats; plan = plan; memory = terms.memory }
 
-  abbrev bytes_of : Plan → ℕ
-  bytes_of plan = plan_bytes plan.order plan.scans plan.levels
+  own : NamesItsEntries query
+  own = names_its_entries schema query of
 
-  module _ (Q : RunOutcome → Type 0) (so : (plan : Plan) → HoldsWhereItStands (made_of plan) → IsWithinLimit memory (bytes_of plan) → Q (PlannedFromStats (made_of plan))) where
-    planned_so : (answer : Result Plan StatsFilePlanError) → stats_file_plan query stats budget ≡ answer → IfOk (told stats_file_refusal answer >>= λ plan. stats_file_plan_within query stats plan memory) Q
-    planned_so (Ok plan) made = within_so Q memory (bytes_of plan) (PlannedFromStats (made_of plan)) (so plan (λ tables stands.
-        never_under query stats tables budget plan (names_its_entries schema query of) of.few small (record { schema = schema; keeps = keeps }) stands made))
-    planned_so (Err e) made = tt
+  its : IsFile stats
+  its = record { schema = schema; keeps = keeps }
 
-    -- what follows from that no bound of it is too low, and that it is within its limit
-    pub filed_plan_holds : IfOk (stats_file_plan_stage query stats budget memory) Q
+  -- no bound of the plan is too low for tables for which the file stands
+  holds : first_missing query stats ≡ None → (plan : AnyPlan) → plan_from_file_asked terms query stats ≡ Ok plan → HoldsWhereItStands (made_of plan)
+  holds none plan made tables stands =
+      answer_over query tables (sourced_of_file query stats tables) (file_is_source query stats own its none tables stands) 1 terms.budget
+      (omega (arith, of.some)) of.few terms.shape plan small (few_rows query stats own its none tables stands) made
+
+  module _ (Q : RunOutcome → Type 0) (so : (plan : AnyPlan) → HoldsWhereItStands (made_of plan) → IsWithinLimit terms.memory (shape_bytes plan) → Q (PlannedFromStats (made_of plan))) where
+    planned_so : first_missing query stats ≡ None → (answer : Result AnyPlan PlanError) → plan_from_file_asked terms query stats ≡ answer
+        → IfOk (planned_within terms.memory (made_from_file terms query stats) answer) Q
+    planned_so none (Ok plan) made = within_so Q terms.memory (shape_bytes plan) (PlannedFromStats (made_of plan)) (so plan (holds none plan made))
+    planned_so none (Err e) made = tt
+
+    there_so : (missing : Option ℕ) → first_missing query stats ≡ missing
+        → IfOk (unless_missing missing >>= λ there. planned_within terms.memory (made_from_file terms query stats) (plan_from_file_asked terms query stats)) Q
+    there_so None none = planned_so none (plan_from_file_asked terms query stats) refl
+    there_so (Some from) is = tt
+
+    pub filed_plan_holds : IfOk (stats_file_plan_stage terms query stats) Q
     unfolding stats_file_plan_stage
-    filed_plan_holds = planned_so (stats_file_plan query stats budget) refl
+    filed_plan_holds = there_so (first_missing query stats) refl

@@ -1,13 +1,16 @@
--- The stages of statistics files, step by step.
-use Rattle.std.proofs.Common.{◌≡◌, ◌⊎◌, ℕ, inl, inr, List, Option, Result, Ok, Err, ap, sym, ◌∙◌, subst}
+-- Each function on statistics files does what its stage of the verdict says.
+use Rattle.std.proofs.Common.{◌≡◌, ◌⊎◌, ℕ, inl, inr, List, Option, None, Result, Ok, Err, ap, sym, ◌∙◌, subst}
 use Rattle.std.specs.Prelude.{IfErr, IfOk}
 use Rattle.base_io.specs.Files.{Files}
 use Rattle.csv_tables.specs.Rows.{Row}
 use Rattle.base_io.specs.Devices.{Reading}
-use Rattle.stats_file_bounds.specs.Plans.{stats_file_plan}
-use Rattle.stats_file_bounds.specs.declared.errors.StatsFilePlanError.{StatsFilePlanError}
-use Rattle.stats_file_bounds.specs.declared.errors.StatsFilePlanError.TheVariants as error
-use Rattle.order_search.specs.declared.refusal.PlanError.TheVariants as plan_error
+use Rattle.stats_file_bounds.specs.Bounds.{scan_bounds_of_file, set_bounds_of_file}
+use Rattle.stats_file_bounds.specs.Entries.{IsNeedCause}
+use Rattle.stats_file_bounds.specs.Found.{first_missing}
+use Rattle.stats_file_bounds.specs.declared.errors.NeedError.{NeedError}
+use Rattle.stats_file_bounds.specs.declared.errors.NeedError.TheVariants as need
+use Rattle.planning.specs.HasBounds.{HasBounds}
+use Rattle.planning.specs.declared.known.Known.{Known}
 use Rattle.outcomes.specs.Errors.{stats_ending, stats_refusal}
 use Rattle.outcomes.specs.Reads.{◌>>=◌, AtFile, Reads, StopsBy, seen, told}
 use Rattle.outcomes.specs.declared.ending.Ending.{Ending}
@@ -16,9 +19,7 @@ use Rattle.outcomes.specs.declared.names.FileId.{FileId}
 use Rattle.outcomes.specs.declared.names.FileId.TheVariants as file
 use Rattle.outcomes.proofs.ReadFacts.{then_gives, then_stops, then_tells}
 use Rattle.outcomes.specs.declared.refusal.Refusal.{Refusal}
-use Rattle.plans.specs.declared.left_deep.Plan.{Plan}
 use Rattle.query_types.specs.declared.types.Query.{Query}
-use Rattle.reserve_plan.specs.Memory.{plan_bytes}
 use Rattle.schema_types.specs.Validity.{IsValid}
 use Rattle.schema_types.specs.declared.types.Schema.{Schema}
 use Rattle.stats_answers.specs.StatsTexts.{stats_answer}
@@ -31,14 +32,14 @@ use Rattle.stats_reading.specs.Names.{HasByteColumns}
 use Rattle.table_files.specs.Stage.{tables_stage}
 use Rattle.table_files.specs.TableFile.{read}
 use Rattle.safebound_words.specs.declared.command.Work.TheVariants as works
-use Rattle.prepared_runs.specs.StatsFiles.{stats_file_ending, stats_file_plan_stage, stats_file_refusal, stats_file_plan_within, stats_of_text, stats_stage, stats_file_of_tables}
-use Rattle.prepared_runs.specs.Limits.{limit_test}
-use Rattle.prepared_runs.specs.RunOutcome.{RunOutcome, PlannedFromStats}
+use Rattle.prepared_runs.specs.StatsFiles.{made_from_file, need_ending, plan_from_file_asked, stats_file_plan_stage, stats_of_text, stats_stage, stats_file_of_tables, unless_missing}
+use Rattle.prepared_runs.specs.RunOutcome.{RunOutcome}
+use Rattle.prepared_runs.specs.Shapes.{answer_of, planned_within}
 use Rattle.prepared_runs.specs.PreparedRun.{plan_from}
 use Rattle.prepared_runs.specs.Verdict.{work_run}
 use Rattle.prepared_runs.specs.declared.stats_files.PreparedStatsFilePlan.{PreparedStatsFilePlan}
 use Rattle.prepared_runs.proofs.Answered.{same_value}
-use Rattle.prepared_runs.proofs.LimitFacts.{kept, stops}
+use Rattle.safebound_words.specs.declared.command.PlanTerms.{PlanTerms}
 
 -- ---- the file, from its bytes
 
@@ -61,7 +62,7 @@ module _ {store : Reading} (name : List ℕ) (schema : Schema) where
       then_tells store (read file.Stats 67108864 name) (stats_of_text schema) (AtFile file.Stats) (AtFile file.Stats) text e
       (subst (λ (t : List ℕ). StopsBy (stats_of_text schema t) e) same tells) h
 
--- ---- what the reader answers, as the one answer of the text
+-- ---- the reader returns the one answer that the text has, or NoMemory
 
 module _ (schema : Schema) (text : List ℕ) (is : IsValid schema) (bytes : HasByteColumns schema) where
   pub stats_read : (x : StatsFile) → Answers schema text (Ok x) → stats_answer schema text ≡ Ok x
@@ -80,43 +81,28 @@ module _ (schema : Schema) (text : List ℕ) (is : IsValid schema) (bytes : HasB
 
 -- ---- the plan from a file
 
--- a plan that is made is refused for its bytes alone
-module _ (query : Query) (stats : StatsFile) (plan : Plan) (memory : Option ℕ) where
-  abbrev made_of : RunOutcome
-  made_of = PlannedFromStats (record { query = query; file = stats; plan = plan; memory = memory })
+module _ (terms : PlanTerms) (query : Query) (stats : StatsFile) where
+  abbrev plan_of : Result RunOutcome Refusal
+  plan_of = planned_within terms.memory (made_from_file terms query stats) (plan_from_file_asked terms query stats)
 
-  pub filed_kept : limit_test memory (plan_bytes plan.order plan.scans plan.levels) ≡ Ok tt
-      → stats_file_plan_within query stats plan memory ≡ Ok (PlannedFromStats (record { query = query; file = stats; plan = plan; memory = memory }))
-  filed_kept fits = kept memory (plan_bytes plan.order plan.scans plan.levels) made_of fits
-
-  pub filed_stops : (r : Refusal) → limit_test memory (plan_bytes plan.order plan.scans plan.levels) ≡ Err r
-      → StopsBy (stats_file_plan_within query stats plan memory) (ending.Refused r)
-  filed_stops r above = stops memory (plan_bytes plan.order plan.scans plan.levels) made_of r above
-
-module _ (query : Query) (stats : StatsFile) (budget : ℕ) (memory : Option ℕ) where
-  abbrev within_of : Plan → Result RunOutcome Refusal
-  within_of plan = stats_file_plan_within query stats plan memory
-
-  pub filed_planned : (plan : Plan) → stats_file_plan query stats budget ≡ Ok plan → stats_file_plan_stage query stats budget memory ≡ stats_file_plan_within query stats plan memory
+  -- if nothing is missing, the stage is the plan within the limit of memory
+  pub all_there : first_missing query stats ≡ None
+      → stats_file_plan_stage terms query stats ≡ planned_within terms.memory (made_from_file terms query stats) (plan_from_file_asked terms query stats)
   unfolding stats_file_plan_stage
-  filed_planned plan is = ap (λ (r : Result Plan StatsFilePlanError). told stats_file_refusal r >>= within_of) is
+  all_there none = ap (λ (o : Option ℕ). unless_missing o >>= λ there. plan_of) none
 
-  filed_tells : (answer : Result Plan StatsFilePlanError) (e : StatsFilePlanError) → (e ≡ error.Plan plan_error.NoMemory) ⊎ (answer ≡ Err e)
-      → StopsBy (told stats_file_refusal answer >>= within_of) (stats_file_ending e)
-  filed_tells answer (error.Plan plan_error.NoMemory) h = tt
-  filed_tells answer (error.Plan (plan_error.Budget least)) (inl e) = absurd (cc)
-  filed_tells answer (error.Plan (plan_error.Budget least)) (inr e) =
-      (ap (λ (r : Result Plan StatsFilePlanError). told stats_file_refusal r >>= within_of) e, (λ file h. cc), (λ h. cc))
-  filed_tells answer (error.Plan plan_error.PastBits) (inl e) = absurd (cc)
-  filed_tells answer (error.Plan plan_error.PastBits) (inr e) =
-      (ap (λ (r : Result Plan StatsFilePlanError). told stats_file_refusal r >>= within_of) e, (λ file h. cc), (λ h. cc))
-  filed_tells answer (error.Missing from) (inl e) = absurd (cc)
-  filed_tells answer (error.Missing from) (inr e) =
-      (ap (λ (r : Result Plan StatsFilePlanError). told stats_file_refusal r >>= within_of) e, (λ file h. cc), (λ h. cc))
-
-  pub filed_told : (e : StatsFilePlanError) → (e ≡ error.Plan plan_error.NoMemory) ⊎ (stats_file_plan query stats budget ≡ Err e) → StopsBy (stats_file_plan_stage query stats budget memory) (stats_file_ending e)
+  -- if something is missing or memory runs out, the stage ends as the reading does
+  pub need_told : (e : NeedError) → IsNeedCause query stats e → StopsBy (stats_file_plan_stage terms query stats) (need_ending e)
   unfolding stats_file_plan_stage
-  filed_told e h = filed_tells (stats_file_plan query stats budget) e h
+  need_told (need.Missing from) is = (ap (λ (o : Option ℕ). unless_missing o >>= λ there. plan_of) is, (λ file h. cc), (λ h. cc))
+  need_told need.NoMemory is = tt
+
+  -- the plan by known bounds is the one that is asked for, if these are the file's bounds
+  pub asked_known : (known : Known) → HasBounds (set_bounds_of_file query stats) (scan_bounds_of_file query stats) known
+      → answer_of terms.shape known.sets known.scans terms.budget ≡ plan_from_file_asked terms query stats
+  asked_known known gives =
+      ap (λ (s : List ℕ). answer_of terms.shape s known.scans terms.budget) gives.sets
+      ∙ ap (λ (s : List ℕ). answer_of terms.shape (set_bounds_of_file query stats) s terms.budget) gives.scans
 
 -- ---- the file of a query's tables
 
@@ -134,12 +120,12 @@ module _ {store : Reading} (accuracy : ℕ) (schema : Schema) (query : Query) (C
 
 -- ---- a plan from a statistics file
 
-module _ {store : Reading} (name : List ℕ) (budget : ℕ) (memory : Option ℕ) (schema : Schema) (query : Query) (C : Files → FileId → Type 0) where
-  pub plan_stops : (e : Ending) → Reads store (stats_stage name schema) C (Err e) → Reads store (work_run (works.PlanFromStats name budget memory) schema query) C (Err e)
-  plan_stops e h = then_stops (stats_stage name schema) (λ stats files. stats_file_plan_stage query stats budget memory) store C C e (λ files id at. at) h
+module _ {store : Reading} (name : List ℕ) (terms : PlanTerms) (schema : Schema) (query : Query) (C : Files → FileId → Type 0) where
+  pub plan_stops : (e : Ending) → Reads store (stats_stage name schema) C (Err e) → Reads store (work_run (works.PlanFromStats name terms) schema query) C (Err e)
+  plan_stops e h = then_stops (stats_stage name schema) (λ stats files. stats_file_plan_stage terms query stats) store C C e (λ files id at. at) h
 
-  pub plan_ran : (stats : StatsFile) (result : Result PreparedStatsFilePlan Ending) → IfOk result (λ made. stats_file_plan_stage query stats budget memory ≡ Ok (plan_from made))
-      → IfErr result (StopsBy (stats_file_plan_stage query stats budget memory)) → Reads store (stats_stage name schema) C (Ok stats)
-      → Reads store (work_run (works.PlanFromStats name budget memory) schema query) C (seen plan_from result)
-  plan_ran stats (Ok made) is tells h = then_gives store (stats_stage name schema) (λ stats. stats_file_plan_stage query stats budget memory) C C stats (plan_from made) is h
-  plan_ran stats (Err e) is tells h = then_tells store (stats_stage name schema) (λ stats. stats_file_plan_stage query stats budget memory) C C stats e tells h
+  pub plan_ran : (stats : StatsFile) (result : Result PreparedStatsFilePlan Ending) → IfOk result (λ made. stats_file_plan_stage terms query stats ≡ Ok (plan_from made))
+      → IfErr result (StopsBy (stats_file_plan_stage terms query stats)) → Reads store (stats_stage name schema) C (Ok stats)
+      → Reads store (work_run (works.PlanFromStats name terms) schema query) C (seen plan_from result)
+  plan_ran stats (Ok made) is tells h = then_gives store (stats_stage name schema) (stats_file_plan_stage terms query) C C stats (plan_from made) is h
+  plan_ran stats (Err e) is tells h = then_tells store (stats_stage name schema) (stats_file_plan_stage terms query) C C stats e tells h

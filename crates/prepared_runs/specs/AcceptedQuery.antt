@@ -1,4 +1,4 @@
--- A planned query with its tables and scans, as the promises of a run speak of it.
+-- A planned query with its tables and scans. The promises of a run are about this record.
 use Rattle.std.specs.Prelude.{ℕ, ◌≡◌, ◌<◌, ◌≤◌, List, map, length, slice_index, IsPermutation, Option}
 use Rattle.csv_tables.specs.Rows.{Row}
 use Rattle.query_types.specs.declared.types.Query.{Query}
@@ -14,7 +14,7 @@ use Rattle.safebound_words.specs.declared.command.ListSource.{ListSource}
 use Rattle.safebound_words.specs.declared.command.ListSource.TheVariants as sources
 use Rattle.safebound_words.specs.declared.command.OutText.{OutText}
 
--- a query, the rows of each FROM entry's table, the plan, and what the plan is made from. `lists` has for each entry the numbers of the
+-- a query, the rows of each FROM entry's table, the plan, and the source of the plan's bounds. `lists` has for each entry the numbers of the
 -- rows that are joined. `memory` is the limit of memory, if there is one. `out` says which text goes to out
 pub record AcceptedQuery : Type 0 where
   pub query : Query
@@ -36,29 +36,30 @@ scan_rows run entry = list_at run.lists entry
 abbrev pub part_counts : AcceptedQuery → List ℕ
 part_counts run = part_sizes run.query (tables run) run.lists run.plan
 
--- the choices of one row of each scan for which every conjunct holds, in lexicographic order
+-- the choices that take one row of each scan and for which every conjunct holds, in lexicographic order
 abbrev pub joined_rows : AcceptedQuery → List (List ℕ)
 joined_rows run = list_levels run.query (tables run) run.lists (joined_entries run.plan) (length (joined_entries run.plan))
 
--- the rows that are printed: the outputs of each of these choices, in their order
+-- the rows that are printed: the outputs of each choice of `joined_rows`, in the order of `joined_rows`
 abbrev pub printed : AcceptedQuery → List Row
 printed run = map (λ choice. selected run.query (tables run) (row_in (joined_entries run.plan) choice)) (joined_rows run)
 
--- each scan has the rows for which every conjunct holds that names just its entry. The levels or nodes are those over whole tables
+-- each entry's list has the rows for which all conjuncts hold that name this entry alone. The levels or inner nodes over the lists are those
+-- over whole tables
 pub record IsOverWholeScans (run : AcceptedQuery) : Type 0 where
   pub scans : (entry : ℕ) → entry < length run.query.from
       → scan_rows run entry ≡ scan (conjuncts_of run.query (tables run)) (row_counts (tables run)) entry
   pub parts : (k : ℕ) → k < part_count run.plan
       → part_rows run.query (tables run) run.lists run.plan k ≡ whole_parts run.query (tables run) run.plan k
 
--- the scans are the reduced ones, which are the largest in which each row has its partners (law `reduced_scans_are_by_rounds` of
--- reduced_scans). Each has exactly as many rows as the plan says
+-- the lists are the reduced scans: the largest lists in which each row has its partners (law `reduced_scans_are_by_rounds` of reduced_scans).
+-- Each list has exactly as many rows as the plan says
 pub record IsOverReducedScans (run : AcceptedQuery) : Type 0 where
   pub scans : run.lists ≡ reduced_of run.query (tables run)
   pub exact : (entry : ℕ) → entry < length run.query.from → slice_index (scan_bounds run.plan) entry ≡ length (scan_rows run entry)
 
--- the plan has each FROM entry once. No scan and no level of its order, or inner node of its tree, has more rows than its bound. Which
--- scans these are depends on what the plan is made from
+-- the plan has each FROM entry once. No scan has more rows than its bound, and no level of the order, or inner node of the tree, has more
+-- rows than its bound. Whether the scans are whole or reduced depends on the source of the bounds
 pub record BoundsHold (run : AcceptedQuery) : Type 0 where
   pub plan : IsShapedPlan (length run.query.from) run.plan
   pub scans : (entry : ℕ) → entry < length run.query.from → length (scan_rows run entry) ≤ slice_index (scan_bounds run.plan) entry

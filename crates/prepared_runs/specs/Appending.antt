@@ -22,11 +22,12 @@ use Rattle.prepared_runs.specs.RunOutcome.{Appended, RunOutcome}
 
 -- ---- the section to which rows are appended
 
--- whether the section is of the table with this name, in any letter case
+-- whether the section is of the table `name`. Letter case makes no difference
 abbrev pub is_of_table : Schema → List ℕ → TableStats → Bool
 is_of_table schema name section = str_eq_ignore_ascii_case (table_at schema section.table).name name
 
--- the section, or Missing with 0 in place of a FROM entry where the schema has no such table or the file has no section of it
+-- the section, or the refusal Missing, with 0 for the FROM entry. The section is missing if the schema has no table of the name, or the file
+-- no section of the table
 abbrev pub or_missing : Option TableStats → Result TableStats Refusal
 or_missing None = Err (refusal.Stats cause.Missing 0)
 or_missing (Some section) = Ok section
@@ -36,20 +37,20 @@ section_stage name schema stats = or_missing (find (is_of_table schema name) sta
 
 -- ---- the file with new rows
 
--- the file has had `before` rows of the table. Together with the new rows they may be at most `most_rows`
+-- the statistics file with the new rows. The table had `before` rows; with the new rows it may have at most `most_rows`
 unfoldable pub grown_stage : Schema → StatsFile → ℕ → ℕ → List Row → Result RunOutcome Refusal
 grown_stage schema stats table before rows =
     if nat_le (before + length rows) most_rows
     then Ok (Appended (record { schema = schema; table = table; rows = rows; file = file_after stats table rows }))
     else Err (refusal.Limit limit.Rows (file.Table table) (most_rows + 1))
 
--- the new rows are in the file of this name, and are read and refused as the rows of any file of the table
+-- the new rows are read from the file `name`, with the same rules and refusals as any file of the table
 unfoldable pub rows_run : List ℕ → Schema → StatsFile → ℕ → ℕ → Files → Result RunOutcome Refusal
 rows_run name schema stats table before files = do
   rows ← rows_in table (table_at schema table) name files
   grown_stage schema stats table before rows
 
--- ---- the whole: the statistics file, its section of the table, and the new rows
+-- ---- all stages of `append`: the statistics file, its section of the table, and the new rows
 
 unfoldable pub stats_run : NewRows → Schema → StatsFile → Files → Result RunOutcome Refusal
 stats_run append schema stats files = do

@@ -1,4 +1,4 @@
--- How many rows a section has.
+-- The number of rows that a section of a statistics file counts.
 use Rattle.std.specs.Prelude.{◌≡◌}
 use Rattle.stats_file.specs.declared.types.TableStats.{TableStats}
 use Rattle.prepared_runs.specs.declared.append.Counted.{Counted}
@@ -6,6 +6,6 @@ use Rattle.prepared_runs.specs.declared.append.Counted.{Counted}
 abbrev pub counted : TableStats → Counted
 counted section = record { table = section.table; rows = section.rows }
 
--- a section of the table has this many
+-- if the section is of the table of `found`, then its number of rows is that of `found`
 abbrev pub HasAsMany : Counted → TableStats → Type 0
 HasAsMany found section = section.table ≡ found.table → section.rows ≡ found.rows

@@ -1,4 +1,4 @@
--- The buffers of a run, once its joins are done and its texts are written.
+-- The buffers of a run, after its joins are done and its texts are written.
 use Rattle.std.specs.Prelude.{ℕ, ◌≡◌, ◌+◌, ◌<◌, List, length, Option, None, Some, IsOkAnd, IsSomeAnd, Result}
 use Rattle.base_io.specs.Devices.{Reading}
 use Rattle.base_io.specs.Files.{Files}
@@ -33,9 +33,9 @@ use Rattle.prepared_runs.specs.declared.shapes.AnyPlan.TheVariants as shaped
 use Rattle.safebound_words.specs.declared.command.OutText.{OutText}
 use Rattle.safebound_words.specs.declared.command.OutText.TheVariants as out_text
 
--- ---- what is in them
+-- ---- what the buffers hold. A part of a plan is a level of its order, or an inner node of its tree
 
--- the plan that was joined
+-- the plan whose joins are done
 abbrev pub plan_joined : Joined → AnyPlan
 plan_joined (joined.Levels plan lists reserved) = shaped.OrderPlan plan
 plan_joined (joined.Nodes plan done) = shaped.TreePlan plan
@@ -50,7 +50,7 @@ abbrev pub counts_in : Joined → List ℕ
 counts_in (joined.Levels plan lists reserved) = level_counts reserved.levels
 counts_in (joined.Nodes plan done) = node_counts (length plan.scans) done.nodes
 
--- how many bytes the lists and all buffers hold: the capacity of each, times the size of an item
+-- how many bytes the lists and all buffers hold: each one's capacity, times the size of an item
 abbrev pub bytes_in : Joined → ℕ
 bytes_in (joined.Levels plan lists reserved) = buffers_bytes lists + reserved_bytes reserved
 bytes_in (joined.Nodes plan done) = done.bytes
@@ -62,14 +62,15 @@ HasParts n (joined.Nodes plan done) = IsTreePlan n plan × (length done.nodes �
 
 -- ---- joins over lists that lose no row of the answer
 
--- the lists lose no row of the answer, the plan is over them, and each level of the order has its choices
+-- no row of the answer is lost by the lists (`LoseNoRow`), the plan's bounds fit them (`IsPlanOf`), and each level of the order has its choices
 pub record AreLevelsOf (query : Query) (db : Database) (lists : List (List ℕ)) (plan : Plan) (levels : List Level) : Type 0 where
   pub rows : LoseNoRow query (tables_of db) lists
   pub plan_of : IsPlanOf query (tables_of db) lists plan
   pub count : length levels ≡ length plan.order
   pub choices : (k : ℕ) → k < length plan.order → rows_at levels k ≡ list_levels query (tables_of db) lists plan.order (k + 1)
 
--- the lists lose no row of the answer, the plan is over them, and each node of the tree has its entries and its choices
+-- no row of the answer is lost by the lists (`LoseNoRow`), the plan's bounds fit them (`IsTreePlanOf`), and each node of the tree has its
+-- entries and its choices
 pub record AreNodesOf (query : Query) (db : Database) (lists : List (List ℕ)) (plan : BushyPlan) (nodes : List Node) : Type 0 where
   pub rows : LoseNoRow query (tables_of db) lists
   pub plan_of : IsTreePlanOf query (tables_of db) lists plan
@@ -81,9 +82,9 @@ abbrev pub IsJoined : Query → Database → List (List ℕ) → Joined → Type
 IsJoined query db lists (joined.Levels plan own reserved) = AreLevelsOf query db lists plan reserved.levels
 IsJoined query db lists (joined.Nodes plan done) = AreNodesOf query db lists plan done.nodes
 
--- ---- what is kept of a run
+-- ---- the buffers that are still there after a run
 
--- the buffers that were prepared have the rows of each part now, and hold as many bytes as before
+-- the buffers that were prepared now have the rows of each part, and hold as many bytes as before
 pub record AreDone (query : Query) (db : Database) (joins : Joins) (kept : Joined) : Type 0 where
   pub plan : plan_joined kept ≡ plan_in joins.room
   pub parts : (k : ℕ) → k < part_count (plan_in joins.room)
@@ -114,6 +115,6 @@ IsKept (StatsMade made_stats) kept = kept ≡ None
 IsKept (PlannedFromStats made) kept = kept ≡ None
 IsKept (Appended made) kept = kept ≡ None
 
--- over files that the store tells, the stage has an outcome, and `kept` has the buffers of this outcome
+-- if the store says which files it has, the stage has an outcome over these files, and `kept` has the buffers of this outcome
 abbrev pub KeepsItsBuffers : Reading → (Files → Result RunOutcome Refusal) → Option Joined → Type 0
 KeepsItsBuffers store stage kept = (files : Files) → store.files ≡ Some files → IsOkAnd (stage files) (λ outcome. IsKept outcome kept)

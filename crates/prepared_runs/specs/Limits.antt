@@ -3,7 +3,7 @@ use Rattle.std.specs.Prelude.{ℕ, ◌≤◌, nat_le, if◌then◌else◌, Optio
 use Rattle.outcomes.specs.declared.refusal.Refusal.{Refusal}
 use Rattle.outcomes.specs.declared.refusal.Refusal.TheVariants as refusal
 
--- the value, if `bytes` is within the limit or there is no limit; else the refusal
+-- the value, if there is no limit or `bytes` is within it; otherwise the refusal
 abbrev pub within_limit : {A : Type 0} → Option ℕ → ℕ → A → Result A Refusal
 within_limit None bytes value = Ok value
 within_limit (Some limit) bytes value = if nat_le bytes limit then Ok value else Err (refusal.MemoryLimit bytes)

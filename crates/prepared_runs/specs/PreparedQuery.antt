@@ -1,4 +1,4 @@
--- What was read and planned for a query, as the `AcceptedQuery` that promises speak of.
+-- A `PreparedQuery` (all that was read, planned and reserved for a query): its `AcceptedQuery`, and the facts for which its joins can be run.
 use Rattle.std.specs.Prelude.{ℕ, ◌≡◌, ◌+◌, List, length, Option, None, Some, ⊤}
 use Rattle.query_types.specs.declared.types.Query.{Query}
 use Rattle.csv_tables.specs.declared.types.Database.{Database}
@@ -37,12 +37,12 @@ text_left (rest.Rows joins) = out_text.Rows
 text_left (rest.Audit joins) = out_text.Audit
 text_left (rest.Nothing plan) = out_text.Nothing
 
--- the rows of each entry that are joined: those of its whole scan, or those that are listed
+-- for each entry the rows that are joined: the rows of its whole scan, or the listed rows
 abbrev pub lists_in : Scans → Query → Tables → List (List ℕ)
 lists_in scans.Whole query ts = scans_of query ts
 lists_in (scans.Listed lists) query ts = lists_of lists.items
 
--- the plan for which there is room
+-- the plan for whose joins there are buffers
 abbrev pub plan_in : Room → AnyPlan
 plan_in (room.Levels plan reserved) = shaped.OrderPlan plan
 plan_in (room.Nodes plan reserved) = shaped.TreePlan plan
@@ -52,21 +52,21 @@ abbrev pub held_bytes : Room → ℕ
 held_bytes (room.Levels plan reserved) = reserved_bytes reserved
 held_bytes (room.Nodes plan reserved) = tree_reserved_bytes reserved
 
--- how many bytes these buffers and the lists that are joined hold
+-- how many bytes the buffers for the plan's parts and the lists that are joined hold
 abbrev pub bytes_held : Joins → ℕ
 bytes_held joins = buffers_bytes joins.lists + held_bytes joins.room
 
--- lists that were made before the plan hold exactly the bytes that lists with room by these bounds take
+-- if the lists were made before the plan, they hold exactly the bytes of lists that have room for as many rows as `bounds` says
 abbrev pub HoldExactly : Scans → List ℕ → Type 0
 HoldExactly scans.Whole bounds = ⊤
 HoldExactly (scans.Listed lists) bounds = buffers_bytes lists ≡ lists_bytes bounds
 
--- there is a plan over these lists, and buffers with room for each part of the plan over them
+-- the plan's bounds fit the lists, and there are buffers with room for each part of the plan over the lists
 abbrev pub IsRoomOver : Query → Tables → List (List ℕ) → Room → Type 0
 IsRoomOver query ts lists (room.Levels plan reserved) = IsPlanOf query ts lists plan × IsReadyFor query ts lists plan.order reserved
 IsRoomOver query ts lists (room.Nodes plan reserved) = IsTreePlanOf query ts lists plan × HasTreeRooms plan reserved
 
--- lists that lose no row of the answer, and room for a plan over them
+-- no row of the answer is lost by the lists, and there is room for the joins of a plan over them
 pub record CanJoin (query : Query) (db : Database) (joins : Joins) : Type 0 where
   pub rows : LoseNoRow query (tables_of db) (lists_of joins.lists.items)
   pub room : IsRoomOver query (tables_of db) (lists_of joins.lists.items) joins.room
@@ -77,25 +77,25 @@ HasRoom query db (rest.Rows joins) = CanJoin query db joins
 HasRoom query db (rest.Audit joins) = CanJoin query db joins
 HasRoom query db (rest.Nothing plan) = ⊤
 
--- the joins that are left to do are over these lists
+-- the joins that are left to do, if any, are over `lists`
 abbrev pub AreOverLists : List (List ℕ) → PendingOutput → Type 0
 AreOverLists lists (rest.Rows joins) = lists_of joins.lists.items ≡ lists
 AreOverLists lists (rest.Audit joins) = lists_of joins.lists.items ≡ lists
 AreOverLists lists (rest.Nothing plan) = ⊤
 
--- the lists and buffers of what is left to do hold exactly `bytes` bytes
+-- the lists and buffers for the joins that are left to do, if any, hold exactly `bytes` bytes
 abbrev pub HoldsBytes : ℕ → PendingOutput → Type 0
 HoldsBytes bytes (rest.Rows joins) = bytes_held joins ≡ bytes
 HoldsBytes bytes (rest.Audit joins) = bytes_held joins ≡ bytes
 HoldsBytes bytes (rest.Nothing plan) = ⊤
 
--- the plan of what is left to do
+-- the plan that is part of what is left to do
 abbrev pub plan_left : PendingOutput → AnyPlan
 plan_left (rest.Rows joins) = plan_in joins.room
 plan_left (rest.Audit joins) = plan_in joins.room
 plan_left (rest.Nothing plan) = plan
 
--- the two texts that joins can give: the rows, and the audit
+-- the two texts that can be written after the joins: the rows, and the audit
 abbrev pub rows_from : Joins → Query → Database → List ℕ
 rows_from joins query db = rows_lines query.select (printed_rows query db (joined_entries (plan_in joins.room)))
 
@@ -120,7 +120,8 @@ accepted_of prepared = record {
   out = text_left prepared.rest;
 }
 
--- a query, the database of its tables, a plan for its entries with its bytes, and the room for what is left to do, which holds these bytes
+-- the database has the query's tables, and the plan is for the query's entries. There is room for what is left to do, and this room takes
+-- exactly the bytes of the plan
 pub record IsPrepared (prepared : PreparedQuery) : Type 0 where
   pub database : IsDatabaseOf prepared.query prepared.db
   pub plan : IsShapedPlan (length prepared.query.from) (plan_left prepared.rest)

@@ -1,7 +1,5 @@
--- What was read and planned, as the outcome of the run.
+-- The outcome of a run, from what was read and planned for it.
 use Rattle.std.specs.Prelude.{◌≡◌, length}
-use Rattle.plans.specs.LeftDeep.{IsPlan}
-use Rattle.reserve_plan.specs.Memory.{plan_bytes}
 use Rattle.schema_types.specs.declared.types.Schema.{Schema}
 use Rattle.stats_file.specs.Rules.{KeepsRules}
 use Rattle.table_files.specs.EntryTables.{entry_rows, rows_of_read}
@@ -13,6 +11,7 @@ use Rattle.prepared_runs.specs.declared.prepare.PreparedRun.{PreparedRun}
 use Rattle.prepared_runs.specs.declared.prepare.PreparedRun.TheVariants as ready
 use Rattle.prepared_runs.specs.RunOutcome.{Appended, StatsMade, RunOutcome, Planned, PlannedFromStats}
 use Rattle.prepared_runs.specs.PreparedQuery.{IsPrepared, accepted_of}
+use Rattle.prepared_runs.specs.Shapes.{IsShapedPlan, shape_bytes}
 
 abbrev pub planned_outcome : PreparedQuery → RunOutcome
 planned_outcome prepared = Planned (accepted_of prepared)
@@ -32,13 +31,13 @@ outcome_of schema (ready.StatsMade made_stats) = file_from schema made_stats
 outcome_of schema (ready.PlannedFromStats made) = plan_from made
 outcome_of schema (ready.Appended made) = appended_from schema made
 
--- a plan for the query's entries, with its bytes
+-- the plan is for the query's entries, and `bytes` is how many bytes it takes
 pub record IsPlanned (made : PreparedStatsFilePlan) : Type 0 where
-  pub plan : IsPlan (length made.query.from) made.plan
-  pub bytes : made.bytes ≡ plan_bytes made.plan.order made.plan.scans made.plan.levels
+  pub plan : IsShapedPlan (length made.query.from) made.plan
+  pub bytes : made.bytes ≡ shape_bytes made.plan
 
--- all that is left to write can be written without memory. A planned query has its database, a plan for its entries, and the room for what
--- is left to do. A statistics file keeps the rules. A plan from a statistics file is one for the query's entries, with its bytes
+-- the rest of the run can be written without memory: for a planned query, `IsPrepared` holds; a statistics file keeps the rules of statistics
+-- files; and a plan from a statistics file is for the query's entries, with the number of bytes that it takes
 abbrev pub CanBeWritten : Schema → PreparedRun → Type 0
 CanBeWritten schema (ready.Planned prepared) = IsPrepared prepared
 CanBeWritten schema (ready.StatsMade made_stats) = KeepsRules schema made_stats.file

@@ -1,14 +1,11 @@
--- The outcome of a run that isn't refused, and what is proved of it. The words and the files determine the outcome.
+-- The outcome of a run that isn't refused, and what is proved about the outcome. The words and the files determine it.
 use Rattle.std.specs.Prelude.{ℕ, ◌≡◌, List, Option, ⊤}
 use Rattle.appended_stats.specs.Appended.{file_after}
 use Rattle.appended_stats.specs.Conditions.{HasNewRows}
 use Rattle.csv_tables.specs.Rows.{Row}
 use Rattle.stats_file_of_query.specs.Standing.{StandsFor}
 use Rattle.join_steps.specs.Lists.{scans_of}
-use Rattle.join_steps.specs.Plans.{IsPlanOf}
-use Rattle.plans.specs.declared.left_deep.Plan.{Plan}
 use Rattle.query_types.specs.declared.types.Query.{Query}
-use Rattle.reserve_plan.specs.Memory.{plan_bytes}
 use Rattle.schema_types.specs.declared.types.Schema.{Schema}
 use Rattle.sql_meaning.specs.Tables.{Tables}
 use Rattle.stats_file.specs.Rules.{KeepsRules}
@@ -16,7 +13,8 @@ use Rattle.stats_file.specs.declared.types.StatsFile.{StatsFile}
 use Rattle.table_files.specs.EntryTables.{tables_in}
 use Rattle.prepared_runs.specs.AcceptedQuery.{AcceptedQuery, BoundsHold, RowsAreTheAnswer}
 use Rattle.prepared_runs.specs.Limits.{IsWithinLimit}
-use Rattle.prepared_runs.specs.Shapes.{shape_bytes}
+use Rattle.prepared_runs.specs.Shapes.{IsPlanOver, shape_bytes}
+use Rattle.prepared_runs.specs.declared.shapes.AnyPlan.{AnyPlan}
 
 -- a statistics file for a query, and the rows of each FROM entry's table: the file is made from these rows
 pub record StatsFileOfTables : Type 0 where
@@ -29,7 +27,7 @@ pub record StatsFileOfTables : Type 0 where
 pub record PlanFromStatsFile : Type 0 where
   pub query : Query
   pub file : StatsFile
-  pub plan : Plan
+  pub plan : AnyPlan
   pub memory : Option ℕ
 
 -- a statistics file after an append: its schema, the place of one table in the schema, the rows that were added to this table, and the file
@@ -46,13 +44,14 @@ pub data RunOutcome : Type 0 where
   PlannedFromStats : PlanFromStatsFile → RunOutcome
   Appended : AppendedRows → RunOutcome
 
--- for all tables for which the file stands, no scan and no level of the plan's order has more rows than the plan says
+-- for all tables for which the statistics file stands, no scan has more rows than the plan says, and no level of its order, or inner node of
+-- its tree, has more rows than the plan says
 abbrev pub HoldsWhereItStands : PlanFromStatsFile → Type 0
 HoldsWhereItStands made = (tables : Tables) → StandsFor made.query made.file tables
-    → IsPlanOf made.query tables (scans_of made.query tables) made.plan
+    → IsPlanOver made.query tables (scans_of made.query tables) made.plan
 
--- The file is an earlier file with these rows added. If the earlier file stood for some tables, this one stands for the same tables with
--- these rows at the end of their table.
+-- The file is an earlier statistics file with the new rows added. If the earlier file stood for some tables, then the new file stands for
+-- these tables with the new rows at the end of their table.
 pub record StandsForMore (made : AppendedRows) : Type 0 where
   pub before : StatsFile
   pub keeps : KeepsRules made.schema before
@@ -60,8 +59,9 @@ pub record StandsForMore (made : AppendedRows) : Type 0 where
   pub stands : (query : Query) (tables after : Tables) → StandsFor query before tables → HasNewRows query made.table made.rows tables after
       → StandsFor query made.file after
 
--- No bound is too low. A plan from tables has bounds for these tables. A plan from a file has bounds for all tables for which the file stands. A
--- new file stands for the tables from which it is made. A file after an append stands for the tables of the earlier file with the rows added.
+-- No bound is too low. The bounds of a plan from tables hold for these tables. The bounds of a plan from a statistics file hold for all
+-- tables for which the file stands. A new statistics file stands for the tables from which it is made. A file after an append stands for the
+-- tables of the earlier file with the rows added.
 abbrev pub NoBoundIsTooLow : RunOutcome → Type 0
 NoBoundIsTooLow (Planned run) = BoundsHold run
 NoBoundIsTooLow (StatsMade made_stats) = StandsFor made_stats.query made_stats.file (tables_in made_stats.rows)
@@ -79,5 +79,5 @@ PrintsTheAnswer (Appended made) = ⊤
 abbrev pub KeepsItsLimit : RunOutcome → Type 0
 KeepsItsLimit (Planned run) = IsWithinLimit run.memory (shape_bytes run.plan)
 KeepsItsLimit (StatsMade made_stats) = ⊤
-KeepsItsLimit (PlannedFromStats made) = IsWithinLimit made.memory (plan_bytes made.plan.order made.plan.scans made.plan.levels)
+KeepsItsLimit (PlannedFromStats made) = IsWithinLimit made.memory (shape_bytes made.plan)
 KeepsItsLimit (Appended made) = ⊤

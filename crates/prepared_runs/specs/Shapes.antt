@@ -1,7 +1,7 @@
--- How a run joins its entries: along an order, or over a tree. The parts of a plan are the levels of its order, or the inner nodes of its
--- tree: each has a bound and a list of rows. Five other files tell one shape from the other: Allowed (costs), PreparedQuery (rooms), Kept
--- (joined rows), Commands of safebound_words (budgets) and Promise of safebound_top (plan texts).
-use Rattle.std.specs.Prelude.{ℕ, ◌+◌, ◌-◌, List, length, map, slice_index, Result}
+-- The two shapes of a plan: an order, or a join tree. The parts of a plan are the levels of its order, or the inner nodes of its tree. Each
+-- part has a bound and a list of rows. Six other files have a case for each shape: Allowed (costs), PreparedQuery (rooms), Kept (joined
+-- rows), Commands of safebound_words (budgets), Promise of safebound_top (plan texts) and FilePlans of safebound_laws (bounds that are near).
+use Rattle.std.specs.Prelude.{ℕ, ◌+◌, ◌-◌, List, length, map, slice_index, Option, Result}
 use Rattle.std.specs.List.{range_with_len}
 use Rattle.order_search.specs.declared.refusal.PlanError.{PlanError}
 use Rattle.plan_answers.specs.PlanAnswer.{plan_answer}
@@ -21,9 +21,12 @@ use Rattle.sql_meaning.specs.Tables.{Tables, row_counts}
 use Rattle.join_steps.specs.Lists.{list_levels}
 use Rattle.join_steps.specs.Plans.{IsPlanOf}
 use Rattle.bushy_join.specs.Trees.{node_rows, whole_rows, IsTreePlanOf}
-use Rattle.outcomes.specs.Reads.{seen}
+use Rattle.outcomes.specs.Errors.{plan_refusal}
+use Rattle.outcomes.specs.Reads.{◌>>=◌, seen, told}
+use Rattle.outcomes.specs.declared.refusal.Refusal.{Refusal}
 use Rattle.printed_texts.specs.Plans.{audit_lines, plan_lines}
 use Rattle.printed_texts.specs.TreePlans.{tree_audits, tree_lines}
+use Rattle.prepared_runs.specs.Limits.{within_limit}
 use Rattle.prepared_runs.specs.Sources.{Sourced}
 use Rattle.prepared_runs.specs.declared.shapes.AnyPlan.{AnyPlan}
 use Rattle.prepared_runs.specs.declared.shapes.AnyPlan.TheVariants as shaped
@@ -32,23 +35,23 @@ use Rattle.safebound_words.specs.declared.command.Shape.TheVariants as shapes
 
 -- ---- the choice of a plan
 
--- the best plan over a bound of each set of entries and one of each scan, or why no plan is within the budget
+-- the best plan by a bound for each set of entries and one for each scan, or why no plan is within the budget
 abbrev pub answer_of : Shape → List ℕ → List ℕ → ℕ → Result AnyPlan PlanError
 answer_of shapes.Order sets scans budget = seen (λ plan. shaped.OrderPlan plan) (plan_answer sets scans budget)
 answer_of shapes.Tree sets scans budget = seen (λ plan. shaped.TreePlan plan) (tree_answer sets scans budget)
 
--- the plan by what a source gives, at an accuracy and within a budget: the best of its shape, or PastBits, or Budget with the least cost
+-- the plan by the bounds that a source gives at an accuracy: the best plan of the shape, or PastBits, or Budget with the least cost
 unfoldable pub planned_by : Shape → Sourced → ℕ → ℕ → Result AnyPlan PlanError
 planned_by shape given accuracy budget = answer_of shape (given.sets accuracy) (given.scans accuracy) budget
 
--- ---- what a plan says
+-- ---- a plan's entries, bounds and bytes
 
 -- the plan is for n entries
 abbrev pub IsShapedPlan : ℕ → AnyPlan → Type 0
 IsShapedPlan n (shaped.OrderPlan plan) = IsPlan n plan
 IsShapedPlan n (shaped.TreePlan plan) = IsTreePlan n plan
 
--- the bound of each entry's scan
+-- the bounds of the entries' scans, in FROM order
 abbrev pub scan_bounds : AnyPlan → List ℕ
 scan_bounds (shaped.OrderPlan plan) = plan.scans
 scan_bounds (shaped.TreePlan plan) = plan.scans
@@ -76,19 +79,26 @@ abbrev pub parts_bytes : AnyPlan → ℕ
 parts_bytes (shaped.OrderPlan plan) = rooms_bytes (rooms plan.order plan.scans plan.levels)
 parts_bytes (shaped.TreePlan plan) = tree_rooms_bytes plan
 
--- no list and no part over these lists has more rows than its bound, and no bound is above what joins take
+-- what `made` makes of a plan, or a refusal: why there is no plan, or MemoryLimit with the bytes of the plan
+abbrev pub planned_within : {A : Type 0} → Option ℕ → (AnyPlan → A) → Result AnyPlan PlanError → Result A Refusal
+planned_within limit made answer = do
+  plan ← told plan_refusal answer
+  within_limit limit (shape_bytes plan) (made plan)
+
+-- no list has more rows than its bound, no part over these lists has more rows than its bound, and no bound is more than joins can take
 abbrev pub IsPlanOver : Query → Tables → List (List ℕ) → AnyPlan → Type 0
 IsPlanOver query tables lists (shaped.OrderPlan plan) = IsPlanOf query tables lists plan
 IsPlanOver query tables lists (shaped.TreePlan plan) = IsTreePlanOf query tables lists plan
 
--- ---- the rows of its parts
+-- ---- the rows of a plan's parts
 
--- the rows of part k over lists: the choices of a listed row of each of its entries for which every conjunct holds that names only these
+-- the rows of part k over lists: the choices that take a listed row of each entry of the part, and for which every conjunct holds that names
+-- only these entries
 abbrev pub part_rows : Query → Tables → List (List ℕ) → AnyPlan → ℕ → List (List ℕ)
 part_rows query tables lists (shaped.OrderPlan plan) k = list_levels query tables lists plan.order (k + 1)
 part_rows query tables lists (shaped.TreePlan plan) k = node_rows query tables lists plan (length plan.scans + k)
 
--- the same over whole tables
+-- the rows of part k over whole tables
 abbrev pub whole_parts : Query → Tables → AnyPlan → ℕ → List (List ℕ)
 whole_parts query tables (shaped.OrderPlan plan) k = level (conjuncts_of query tables) (row_counts tables) plan.order (k + 1)
 whole_parts query tables (shaped.TreePlan plan) k = whole_rows query tables plan (length plan.scans + k)
@@ -97,14 +107,14 @@ whole_parts query tables (shaped.TreePlan plan) k = whole_rows query tables plan
 abbrev pub part_sizes : Query → Tables → List (List ℕ) → AnyPlan → List ℕ
 part_sizes query tables lists plan = map (λ k. length (part_rows query tables lists plan k)) (range_with_len 0 (part_count plan))
 
--- ---- its texts
+-- ---- the texts of a plan
 
--- a line for each scan, and then one for each part, with their bounds
+-- the plan's text: a line for each scan with its bound, and then a line for each part with its bound
 abbrev pub shape_lines : List Source → AnyPlan → List ℕ
 shape_lines sources (shaped.OrderPlan plan) = plan_lines sources plan
 shape_lines sources (shaped.TreePlan plan) = tree_lines sources plan
 
--- a line for each part with its bound and its number of rows, which `counts` has
+-- the audit's text: a line for each part with its bound and its number of rows (from `counts`)
 abbrev pub shape_audits : List Source → AnyPlan → List ℕ → List ℕ
 shape_audits sources (shaped.OrderPlan plan) counts = audit_lines sources plan counts
 shape_audits sources (shaped.TreePlan plan) counts = tree_audits plan counts

@@ -1,4 +1,4 @@
--- The shop whose files a command makes in memory, and the store that a command reads.
+-- The shop (files that `demo` makes in memory), and the store that a command reads.
 use Rattle.std.specs.Prelude.{ℕ, List, Option, None, Some}
 use Rattle.demo_files.specs.Files.{demo_files}
 use Rattle.base_io.specs.Devices.{Reading}
@@ -14,7 +14,7 @@ shop_asked (Some command) = command.shop
 abbrev pub shop_of : List (List ℕ) → Option ℕ
 shop_of words = shop_asked (command_of words)
 
--- a store that tells exactly the files of this shop, and counts no fault and no miss
+-- a store with exactly the files of the shop, in which no read fails
 abbrev pub shop_store : ℕ → Reading
 shop_store number = record {
   files = Some (demo_files number);
@@ -25,7 +25,7 @@ shop_store number = record {
   misses_after = 0;
 }
 
--- the store that is read: the store of the shop, if there is a shop, or else the store that was handed in
+-- the store that is read: the store of the shop, if there is a shop, and otherwise the store that was handed in
 abbrev pub store_read : Option ℕ → Reading → Reading
 store_read None handed_in = handed_in
 store_read (Some number) handed_in = shop_store number

@@ -1,5 +1,6 @@
--- The source of a run's bounds, and the rows that it joins. Each function below has a line for each source. Two more places say which sources
--- join reduced scans: `BoundsHold` in AcceptedQuery, and `AreScans` of safebound_top, in the promise.
+-- The sources of bounds. A run has one source, which gives its bounds and the rows that are joined. Each function below has a line for each
+-- source. Two more places depend on the source, since they say which sources join reduced scans: `BoundsHold` in AcceptedQuery, and
+-- `AreScans` of safebound_top, in the promise.
 use Rattle.std.specs.Prelude.{ℕ, List, ⊤}
 use Rattle.schema_types.specs.declared.types.Schema.{Schema}
 use Rattle.query_types.specs.declared.types.Query.{Query}
@@ -11,33 +12,36 @@ use Rattle.planning.specs.ListedBounds.{set_bounds_over}
 use Rattle.key_carriers.specs.DeclaredKeys.{DeclaredKeysHold}
 use Rattle.key_bounds.specs.Bounds.{set_bounds_by_keys}
 use Rattle.counted_planning.specs.Bounds.{set_bounds_by_counts}
+use Rattle.stats_file.specs.declared.types.StatsFile.{StatsFile}
+use Rattle.stats_file_bounds.specs.Bounds.{scan_bounds_of_file, set_bounds_of_file}
 use Rattle.safebound_words.specs.declared.command.ListSource.{ListSource}
 use Rattle.safebound_words.specs.declared.command.ListSource.TheVariants as sources
 
--- the rows that are joined, for each entry: those of its scan, or of its reduced scan
+-- for each entry the rows that are joined: its scan, or its reduced scan
 unfoldable pub lists_by : ListSource → Query → Tables → List (List ℕ)
 lists_by sources.Columns query tables = scans_of query tables
 lists_by sources.Keyed query tables = scans_of query tables
 lists_by sources.Reduced query tables = reduced_of query tables
 lists_by sources.Counted query tables = reduced_of query tables
 
--- a bound of each entry's scan, at an accuracy: its row bound by the statistics of its table, or its number of rows
+-- for each entry the bound of its scan, at an accuracy: its row bound by the statistics of its table, or the number of rows of its reduced scan
 unfoldable pub scans_by : ListSource → Query → Tables → ℕ → List ℕ
 scans_by sources.Columns query tables accuracy = scan_bounds_of query tables accuracy
 scans_by sources.Keyed query tables accuracy = scan_bounds_of query tables accuracy
 scans_by sources.Reduced query tables accuracy = list_sizes query (reduced_of query tables)
 scans_by sources.Counted query tables accuracy = list_sizes query (reduced_of query tables)
 
--- the bound of each set of entries, at an accuracy. Columns: from statistics of whole columns. Keyed: from these, and conditions carried through
--- keys within the set. Reduced: from degree lists of reduced scans. Counted: by counting over these scans, uncompressed
+-- for each set of entries its bound, at an accuracy. Columns: by statistics of whole columns. Keyed: by statistics of whole columns, and of
+-- conditions that are carried along declared keys within the set. Reduced: by degree lists of reduced scans. Counted: by counting over
+-- reduced scans, without compression
 unfoldable pub sets_by : ListSource → Schema → Query → Tables → ℕ → List ℕ
 sets_by sources.Columns schema query tables accuracy = set_bounds_of query tables accuracy
 sets_by sources.Keyed schema query tables accuracy = set_bounds_by_keys schema query tables accuracy
 sets_by sources.Reduced schema query tables accuracy = set_bounds_over query tables (reduced_of query tables) accuracy
 sets_by sources.Counted schema query tables accuracy = set_bounds_by_counts query tables (reduced_of query tables)
 
--- what a source gives for a query of a schema over its tables. At each accuracy it bounds each set of entries and each scan, and for each
--- entry it gives the rows that are joined
+-- what a source gives for a query over tables: at each accuracy a bound for each set of entries and one for each scan, and for each entry the
+-- rows that are joined
 pub record Sourced : Type 0 where
   pub sets : ℕ → List ℕ
   pub scans : ℕ → List ℕ
@@ -50,7 +54,17 @@ sourced source schema query tables = record {
   lists = lists_by source query tables;
 }
 
--- what a source needs of the tables: if conditions are carried through declared keys, these must hold. In tables that were read they do
+-- the bounds that a statistics file gives for a query, and the lists of any tables. The bounds are the same at each accuracy, and the lists are
+-- the scans of the tables
+abbrev pub sourced_of_file : Query → StatsFile → Tables → Sourced
+sourced_of_file query file tables = record {
+  sets = λ accuracy. set_bounds_of_file query file;
+  scans = λ accuracy. scan_bounds_of_file query file;
+  lists = scans_of query tables;
+}
+
+-- what a source needs of the tables: the source Keyed carries conditions along declared keys, so the declared keys must hold. They hold in
+-- all tables that were read from files
 abbrev pub Needs : ListSource → Schema → Query → Tables → Type 0
 Needs sources.Columns schema query tables = ⊤
 Needs sources.Keyed schema query tables = DeclaredKeysHold schema query tables

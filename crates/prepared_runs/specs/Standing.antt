@@ -1,4 +1,4 @@
--- What is proved of each source's bounds and lists of rows (law `sources_stand` of safebound_laws).
+-- What is proved about the bounds and lists of each source (law `sources_stand` of safebound_laws).
 use Rattle.std.specs.Prelude.{◌≡◌, ℕ, ◌^◌, List, length}
 use Rattle.query_types.specs.Named.{NamesItsEntries}
 use Rattle.query_types.specs.declared.types.Query.{Query}
@@ -10,13 +10,15 @@ use Rattle.level_bounds.specs.Orders.{IsOrderOfSet}
 use Rattle.planning.specs.Standing.{BoundLevels, BoundLists}
 use Rattle.prepared_runs.specs.Sources.{Sourced}
 
--- lists of scanned rows that lose no row of the answer: the last level over them is that of the query
+-- no row of the answer is lost if only the listed rows are joined: the lists have scanned rows, and the last level over the lists is the last
+-- level of the query
 pub record LoseNoRow (query : Query) (tables : Tables) (lists : List (List ℕ)) : Type 0 where
   pub scanned : AreOfScans query tables lists
   pub last : NamesItsEntries query → (order : List ℕ) → IsOrderOfSet (entries_of query) order
       → list_levels query tables lists order (length order) ≡ level (conjuncts_of query tables) (row_counts tables) order (length order)
 
--- a source's lists lose no row of the answer, and at every accuracy its bounds of scans and of sets are never under the rows over these lists
+-- no row of the answer is lost by a source's lists. At every accuracy, no list has more rows than its bound, and no level over the lists has
+-- more rows than the bound of its set
 pub record IsSource (query : Query) (tables : Tables) (given : Sourced) : Type 0 where
   pub rows : LoseNoRow query tables given.lists
   pub of_scans : (accuracy : ℕ) → BoundLists query tables given.lists (given.scans accuracy)

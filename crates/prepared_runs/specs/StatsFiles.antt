@@ -1,13 +1,15 @@
 -- The stages of the verdict with statistics files: a file is read, a query is planned from it, or a file is made from tables.
-use Rattle.std.specs.Prelude.{ℕ, List, Option, Result, Ok}
+use Rattle.std.specs.Prelude.{ℕ, List, Option, None, Some, Result, Ok, Err}
 use Rattle.limits.specs.Profile.{most_file}
 use Rattle.base_io.specs.Files.{Files}
 use Rattle.csv_tables.specs.Rows.{Row}
-use Rattle.stats_file_bounds.specs.Plans.{stats_file_plan}
-use Rattle.stats_file_bounds.specs.declared.errors.StatsFilePlanError.{StatsFilePlanError}
-use Rattle.stats_file_bounds.specs.declared.errors.StatsFilePlanError.TheVariants as error
+use Rattle.order_search.specs.declared.refusal.PlanError.{PlanError}
+use Rattle.stats_file_bounds.specs.Bounds.{scan_bounds_of_file, set_bounds_of_file}
+use Rattle.stats_file_bounds.specs.Found.{first_missing}
+use Rattle.stats_file_bounds.specs.declared.errors.NeedError.{NeedError}
+use Rattle.stats_file_bounds.specs.declared.errors.NeedError.TheVariants as need
 use Rattle.stats_file_of_query.specs.Files.{file_of_query}
-use Rattle.outcomes.specs.Errors.{plan_ending, plan_refusal, stats_refusal}
+use Rattle.outcomes.specs.Errors.{stats_refusal}
 use Rattle.outcomes.specs.Reads.{◌>>=◌, told}
 use Rattle.outcomes.specs.declared.ending.Ending.{Ending}
 use Rattle.outcomes.specs.declared.ending.Ending.TheVariants as ending
@@ -15,18 +17,18 @@ use Rattle.outcomes.specs.declared.names.FileId.TheVariants as file
 use Rattle.outcomes.specs.declared.refusal.Refusal.{Refusal}
 use Rattle.outcomes.specs.declared.refusal.Refusal.TheVariants as refusal
 use Rattle.outcomes.specs.declared.refusal.StatsCause.TheVariants as cause
-use Rattle.plans.specs.declared.left_deep.Plan.{Plan}
 use Rattle.query_types.specs.declared.types.Query.{Query}
-use Rattle.reserve_plan.specs.Memory.{plan_bytes}
 use Rattle.schema_types.specs.declared.types.Schema.{Schema}
 use Rattle.stats_answers.specs.StatsTexts.{stats_answer}
 use Rattle.stats_file.specs.declared.types.StatsFile.{StatsFile}
 use Rattle.table_files.specs.EntryTables.{tables_in}
 use Rattle.table_files.specs.TableFile.{read}
-use Rattle.prepared_runs.specs.Limits.{within_limit}
 use Rattle.prepared_runs.specs.RunOutcome.{StatsMade, RunOutcome, PlannedFromStats}
+use Rattle.prepared_runs.specs.Shapes.{answer_of, planned_within}
+use Rattle.prepared_runs.specs.declared.shapes.AnyPlan.{AnyPlan}
+use Rattle.safebound_words.specs.declared.command.PlanTerms.{PlanTerms}
 
--- the statistics file that a text spells over a schema; below, that of the file of this name
+-- the statistics file that a text spells over a schema; `stats_stage` reads the text from the file `name`
 abbrev pub stats_of_text : Schema → List ℕ → Result StatsFile Refusal
 stats_of_text schema text = told stats_refusal (stats_answer schema text)
 
@@ -35,26 +37,31 @@ stats_stage name schema files = do
   text ← read file.Stats most_file name files
   stats_of_text schema text
 
--- why a file gives no plan
-abbrev pub stats_file_refusal : StatsFilePlanError → Refusal
-stats_file_refusal (error.Missing from) = refusal.Stats cause.Missing from
-stats_file_refusal (error.Plan e) = plan_refusal e
+-- the ending of a run for which a statistics file gives no bounds
+abbrev pub need_ending : NeedError → Ending
+need_ending (need.Missing from) = ending.Refused (refusal.Stats cause.Missing from)
+need_ending need.NoMemory = ending.NoMemory
 
-abbrev pub stats_file_ending : StatsFilePlanError → Ending
-stats_file_ending (error.Missing from) = ending.Refused (refusal.Stats cause.Missing from)
-stats_file_ending (error.Plan e) = plan_ending e
+-- the refusal Missing with the first entry for which the file has no statistics, if there is such an entry
+abbrev pub unless_missing : Option ℕ → Result (Unit {0}) Refusal
+unless_missing None = Ok tt
+unless_missing (Some from) = Err (refusal.Stats cause.Missing from)
 
--- the outcome of a plan from a file, or MemoryLimit with the bytes of the plan
-abbrev pub stats_file_plan_within : Query → StatsFile → Plan → Option ℕ → Result RunOutcome Refusal
-stats_file_plan_within query stats plan memory = within_limit memory (plan_bytes plan.order plan.scans plan.levels)
-    (PlannedFromStats (record { query = query; file = stats; plan = plan; memory = memory }))
+-- the plan of a query by the bounds that a statistics file gives, in the shape that the words ask for
+abbrev pub plan_from_file_asked : PlanTerms → Query → StatsFile → Result AnyPlan PlanError
+plan_from_file_asked terms query stats =
+    answer_of terms.shape (set_bounds_of_file query stats) (scan_bounds_of_file query stats) terms.budget
 
--- the plan of a query from a statistics file: the best order with its bounds. Or a refusal: Missing with the first entry for which something
--- is missing, PastBits, Budget with the least cost, or MemoryLimit with the bytes of the plan
-unfoldable pub stats_file_plan_stage : Query → StatsFile → ℕ → Option ℕ → Result RunOutcome Refusal
-stats_file_plan_stage query stats budget memory = do
-  plan ← told stats_file_refusal (stats_file_plan query stats budget)
-  stats_file_plan_within query stats plan memory
+-- the outcome of a plan from a statistics file
+abbrev pub made_from_file : PlanTerms → Query → StatsFile → AnyPlan → RunOutcome
+made_from_file terms query stats plan = PlannedFromStats (record { query = query; file = stats; plan = plan; memory = terms.memory })
+
+-- the plan of a query from a statistics file: the best order or tree with its bounds, or a refusal. The refusals are Missing with the first
+-- entry for which the file has no statistics, PastBits, Budget with the least cost, and MemoryLimit with the bytes of the plan
+unfoldable pub stats_file_plan_stage : PlanTerms → Query → StatsFile → Result RunOutcome Refusal
+stats_file_plan_stage terms query stats = do
+  there ← unless_missing (first_missing query stats)
+  planned_within terms.memory (made_from_file terms query stats) (plan_from_file_asked terms query stats)
 
 -- the statistics file of a query, made at an accuracy from the rows of its entries' tables
 abbrev pub stats_file_of_tables : Schema → Query → List (List Row) → ℕ → RunOutcome

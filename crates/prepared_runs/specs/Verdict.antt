@@ -1,5 +1,5 @@
--- What the words and the files determine, in stages. The stages are the words, the schema, the query, the tables or the statistics file, and
--- the plan. For `append` the stages after the schema are the statistics file and the new rows of one of its tables.
+-- The verdict: what the words and the files determine. It is computed in stages: the words, the schema, the query, the tables or the
+-- statistics file, and the plan. For `append` the stages after the schema are the statistics file and the new rows of one of its tables.
 use Rattle.std.specs.Prelude.{ℕ, ◌≡◌, ◌⊎◌, List, Option, None, Some, Result, Ok, Err, IsOkAnd}
 use Rattle.limits.specs.Profile.{most_text}
 use Rattle.base_io.specs.Files.{Files}
@@ -10,7 +10,7 @@ use Rattle.text_answers.specs.QueryTexts.{query_answer}
 use Rattle.query_types.specs.declared.types.Query.{Query}
 use Rattle.sql_meaning.specs.Tables.{Tables}
 use Rattle.order_search.specs.declared.refusal.PlanError.{PlanError}
-use Rattle.outcomes.specs.Errors.{plan_refusal, query_refusal, schema_refusal}
+use Rattle.outcomes.specs.Errors.{query_refusal, schema_refusal}
 use Rattle.outcomes.specs.Reads.{◌>>=◌, told}
 use Rattle.outcomes.specs.declared.names.FileId.{FileId}
 use Rattle.outcomes.specs.declared.names.FileId.TheVariants as file
@@ -29,14 +29,13 @@ use Rattle.safebound_words.specs.declared.command.Work.{Work}
 use Rattle.safebound_words.specs.declared.command.Aim.TheVariants as aims
 use Rattle.safebound_words.specs.declared.command.Work.TheVariants as works
 use Rattle.prepared_runs.specs.StatsFiles.{stats_file_plan_stage, stats_stage, stats_file_of_tables}
-use Rattle.prepared_runs.specs.Limits.{within_limit}
 use Rattle.prepared_runs.specs.RunOutcome.{RunOutcome, Planned}
-use Rattle.prepared_runs.specs.Shapes.{planned_by, shape_bytes}
+use Rattle.prepared_runs.specs.Shapes.{planned_by, planned_within}
 use Rattle.prepared_runs.specs.Sources.{lists_by, sourced}
 use Rattle.prepared_runs.specs.declared.shapes.AnyPlan.{AnyPlan}
 use Rattle.safebound_words.specs.declared.command.PlanWork.{PlanWork}
 
--- the command that the words ask for, or Usage if they are no command
+-- the command that the words ask for, or Usage if they ask for no command
 abbrev pub or_usage : Option Command → Result Command Refusal
 or_usage None = Err refusal.Usage
 or_usage (Some command) = Ok command
@@ -44,7 +43,7 @@ or_usage (Some command) = Ok command
 abbrev pub command_stage : List (List ℕ) → Result Command Refusal
 command_stage words = or_usage (command_of words)
 
--- the schema that a text declares; below, that of the file of this name
+-- the schema that a text declares; `schema_stage` reads the text from the file `name`
 abbrev pub schema_of_text : List ℕ → Result Schema Refusal
 schema_of_text text = told schema_refusal (schema_answer text)
 
@@ -53,7 +52,7 @@ schema_stage name files = do
   text ← read file.Schema most_text name files
   schema_of_text text
 
--- the query that a text asks; below, that of the file of this name
+-- the query that a text asks; `query_stage` reads the text from the file `name`
 abbrev pub query_of_text : Schema → List ℕ → Result Query Refusal
 query_of_text schema text = told query_refusal (query_answer schema text)
 
@@ -62,11 +61,11 @@ query_stage name schema files = do
   text ← read file.Query most_text name files
   query_of_text schema text
 
--- the plan of a query over its tables, in the shape that is asked for, from the bounds that the source gives
+-- the plan of a query over its tables, in the shape that the task asks for, by the bounds that its source gives
 abbrev pub plan_asked : PlanWork → Schema → Query → Tables → Result AnyPlan PlanError
-plan_asked task schema query ts = planned_by task.shape (sourced task.source schema query ts) task.accuracy task.budget
+plan_asked task schema query ts = planned_by task.terms.shape (sourced task.source schema query ts) task.accuracy task.terms.budget
 
--- the run of a plan, over the rows that the source gives
+-- the accepted query for a plan, with the rows that the source gives
 abbrev pub run_asked : PlanWork → Query → List (List Row) → AnyPlan → AcceptedQuery
 run_asked task query rows plan = record {
   query = query;
@@ -74,16 +73,15 @@ run_asked task query rows plan = record {
   plan = plan;
   source = task.source;
   lists = lists_by task.source query (tables_in rows);
-  memory = task.memory;
+  memory = task.terms.memory;
   out = task.out;
 }
 
--- the plan of a query over its entries' rows: the best order or tree with its bounds. Or a refusal: PastBits, Budget with the least cost, or
--- MemoryLimit with the bytes of the plan
+-- the plan of a query over its entries' rows: the best order or tree with its bounds, or a refusal. The refusals are PastBits, Budget with
+-- the least cost, and MemoryLimit with the bytes of the plan
 unfoldable pub plan_stage : PlanWork → Schema → Query → List (List Row) → Result RunOutcome Refusal
-plan_stage task schema query rows = do
-  plan ← told plan_refusal (plan_asked task schema query (tables_in rows))
-  within_limit task.memory (shape_bytes plan) (Planned (run_asked task query rows plan))
+plan_stage task schema query rows =
+    planned_within task.terms.memory (λ plan. Planned (run_asked task query rows plan)) (plan_asked task schema query (tables_in rows))
 
 -- the outcome of the work on a query, or the first refusal
 abbrev pub work_run : Work → Schema → Query → Files → Result RunOutcome Refusal
@@ -93,11 +91,11 @@ work_run (works.Plan task) schema query files = do
 work_run (works.WriteStats accuracy) schema query files = do
   rows ← tables_stage schema query.from files
   Ok (stats_file_of_tables schema query rows accuracy)
-work_run (works.PlanFromStats name budget memory) schema query files = do
+work_run (works.PlanFromStats name terms) schema query files = do
   stats ← stats_stage name schema files
-  stats_file_plan_stage query stats budget memory
+  stats_file_plan_stage terms query stats
 
--- the outcome of an aim over a schema, or the first refusal: work on a query, or new rows that are appended
+-- the outcome of an aim over a schema, or the first refusal. The aim is work on a query, or new rows to append
 abbrev pub aim_run : Aim → Schema → Files → Result RunOutcome Refusal
 aim_run (aims.Query name work) schema files = do
   query ← query_stage name schema files
@@ -123,22 +121,22 @@ schema_read words files = do
 
 -- ---- which files the verdict reads
 
--- The file is read for the query: it is one of the query's tables, and no table before it is refused; or it is the statistics file.
+-- The file `id` is read for the query: it is the file of one of the query's tables, and no table before is refused; or it is the statistics file.
 abbrev pub IsWorkFile : Work → Schema → Query → Files → FileId → Type 0
 IsWorkFile (works.Plan task) schema query files id = IsTableReached schema (tables_of_query query.from) files id
 IsWorkFile (works.WriteStats accuracy) schema query files id = IsTableReached schema (tables_of_query query.from) files id
-IsWorkFile (works.PlanFromStats name budget memory) schema query files id = id ≡ file.Stats
+IsWorkFile (works.PlanFromStats name terms) schema query files id = id ≡ file.Stats
 
--- The file is read after the schema. It is the file of the query, or one that is read for the query. For `append` it is the statistics file,
--- or, if that file has a section of the table, the file of new rows.
+-- The file `id` is read after the schema. It is the file of the query, or it is read for the query. For `append` it is the statistics file,
+-- or, if the statistics file has a section of the table, the file of new rows.
 abbrev pub IsAimFile : Aim → Schema → Files → FileId → Type 0
 IsAimFile (aims.Query name work) schema files id =
     (id ≡ file.Query) ⊎ IsOkAnd (query_stage name schema files) (λ query. IsWorkFile work schema query files id)
 IsAimFile (aims.Append append) schema files id =
     (id ≡ file.Stats) ⊎ IsOkAnd (section_read append schema files) (λ section. id ≡ file.Table section.table)
 
--- The verdict reads this file, and nothing before it is refused. It is the schema's file, or, if that declares a schema, one that is read
--- after it. If the words are no command, no file is read.
+-- The verdict reads the file `id`, and no file before is refused. It is the schema's file; or the schema's file declares a schema, and the
+-- file `id` is read after it. If the words ask for no command, no file is read.
 abbrev pub IsReached : List (List ℕ) → Files → FileId → Type 0
 IsReached words files id = IsOkAnd (command_stage words)
     (λ command. (id ≡ file.Schema) ⊎ IsOkAnd (schema_stage command.schema_file files) (λ schema. IsAimFile command.aim schema files id))

@@ -1,4 +1,4 @@
-//! `append`: reads a statistics file and new rows of one of its tables, and makes the file that counts these rows too.
+//! `append`: reads a statistics file and new rows of one of its tables, and makes a statistics file that also counts the new rows.
 ghost use Rattle.std.specs.Prelude.{◌≡◌, ◌+◌, ◌<◌, All, IfErr, IfOk, IsOkAnd, Ok, find, length, nat_le, option_map};
 ghost use Rattle.std.specs.Str.{str_eq_ignore_ascii_case};
 ghost use Rattle.limits.specs.Profile.{most_rows};
@@ -28,7 +28,7 @@ use stats_file::{StatsFile, TableStats};
 use std::alloc::Global;
 use table_files::{TableRows, read_rows};
 
-/// The table that has new rows, by its place in the schema, these rows, and the statistics file that counts them too.
+/// What `append` has made: the place of the table in the schema, the table's new rows, and the statistics file that also counts them.
 #[derive(Drop)]
 pub struct PreparedAppend {
     pub table: u32,
@@ -36,7 +36,7 @@ pub struct PreparedAppend {
     pub file: StatsFile,
 }
 
-/// A table, by its place in the schema, and the number of rows that its section of a statistics file counts.
+/// The place of a table in the schema, and the number of rows that the table's section of a statistics file counts.
 #[derive(Clone, Copy)]
 pub struct Counted {
     pub table: u32,
@@ -50,7 +50,7 @@ fn are_alike(one: &str, other: &str) -> bool
     one.eq_ignore_ascii_case(other)
 }
 
-// Whether a section is that of the table of this name, apart from letter case.
+// Whether `section` is the section of the table `name`. Letter case makes no difference.
 fn is_named(name: &Word, schema: &Schema, section: &TableStats) -> bool
     requires { section.now.table < length schema.now.tables }
     ensures { result ≡ is_of_table schema.now name.now section.now }
@@ -59,7 +59,7 @@ fn is_named(name: &Word, schema: &Schema, section: &TableStats) -> bool
     are_alike(table.name.as_str(), name.get())
 }
 
-// The section of the table of this name, apart from letter case, if the file has one.
+// The section of the table `name`, if the file has one. Letter case makes no difference.
 fn section_named<'a>(name: &Word, schema: &Schema, stats: &'a StatsFile) -> Option<&'a TableStats>
     requires { KeepsRules schema.now stats.now }
     ensures { option_map (λ section. section.now) result ≡ find (is_of_table schema.now name.now) stats.now.tables }
@@ -72,7 +72,7 @@ fn section_named<'a>(name: &Word, schema: &Schema, stats: &'a StatsFile) -> Opti
     None
 }
 
-// The table of this name and the number of rows in its section, or Missing if the file has no section of it.
+// The table `name` and the number of rows in its section, or Missing if the file has no section of this table.
 fn count_section(name: &Word, schema: &Schema, stats: &StatsFile) -> Result<Counted, Refusal>
     requires { KeepsRules schema.now stats.now }
     ensures counted { seen counted (section_stage name.now schema.now stats.now) ≡ result }
@@ -91,14 +91,14 @@ fn count_section(name: &Word, schema: &Schema, stats: &StatsFile) -> Result<Coun
     }
 }
 
-// Whether a table may have `before` rows and `more` new ones.
+// Whether a table may have `before` rows and `more` further rows.
 fn are_few(before: u32, more: u32) -> bool
     ensures { result ≡ nat_le (before + more) most_rows }
 {
     u64::from(before) + u64::from(more) <= u64::from(MOST_ROWS)
 }
 
-// Makes the file that counts a table's new rows, unless the table then has too many rows.
+// Makes the statistics file that also counts a table's new rows, unless the table has too many rows with them.
 fn grow(
     alloc: Global,
     schema: &Schema,
@@ -120,7 +120,7 @@ fn grow(
             found: u64::from(MOST_ROWS) + 1,
         }));
     }
-    // These two calls are for the proof: their contracts say what a pool's texts are.
+    // These two calls are for the proof: their contracts say which texts a pool has, and that the texts differ.
     let _texts = rows.pool.len();
     characters_differ(&rows.pool);
     let file = append_rows(alloc, schema, stats, found.table, &rows.cells, &rows.pool)?;
@@ -131,7 +131,7 @@ fn grow(
     })
 }
 
-// Reads the new rows of a table, and makes the file that counts them.
+// Reads the new rows of a table, and makes the statistics file that also counts them.
 fn append_read<S: Store>(
     alloc: Global,
     store: &mut S,
@@ -152,7 +152,7 @@ fn append_read<S: Store>(
     grow(alloc, schema, stats, found, rows)
 }
 
-// Finds the section of the table, reads its new rows, and makes the file that counts them.
+// Finds the section of the table, reads the table's new rows, and makes the statistics file that also counts them.
 fn append_to<S: Store>(
     alloc: Global,
     store: &mut S,
@@ -171,8 +171,8 @@ fn append_to<S: Store>(
     append_read(alloc, store, &append.rows_file, schema, stats, found)
 }
 
-/// Reads a statistics file and new rows of one of its tables, and makes the file that counts these rows too. It doesn't read the rows that the
-/// table had before.
+/// Reads a statistics file and new rows of one of its tables, and makes a statistics file that also counts the new rows. The rows that the
+/// table had before aren't read.
 pub fn prepare_append<S: Store>(
     alloc: Global,
     store: &mut S,

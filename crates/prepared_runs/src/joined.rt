@@ -1,4 +1,4 @@
-//! Runs the joins of a plan, in the memory that was taken for them.
+//! Runs the joins of a plan, in memory that was taken before.
 ghost use Rattle.std.specs.Prelude.{◌≡◌, ◌+◌};
 ghost use Rattle.planned_joins.specs.PlansOf.{IsReadyFor};
 ghost use Rattle.reserve_plan.specs.Memory.{buffers_bytes, reserved_bytes};
@@ -26,10 +26,10 @@ use row_buf::RowBuf;
 use tree_plans::BushyPlan;
 use tree_rows::{BushyDone, BushyReserved};
 
-/// A plan that was joined, with the rows of its parts in the buffers that were taken for them.
+/// A plan whose joins are done, with the rows of its levels or nodes.
 #[derive(Drop)]
 pub enum Joined {
-    /// An order, the rows of each entry, and the rows of each level.
+    /// An order, the scanned rows of each entry, and the rows of each level.
     Levels(Plan, Vec<RowBuf<u32>>, Reserved),
     /// A join tree, and the rows of each node.
     Nodes(BushyPlan, BushyDone),
@@ -75,7 +75,8 @@ fn join_nodes(
     Joined::Nodes(plan, done)
 }
 
-/// Lists the rows of each part of a plan. It takes no memory and can't fail. Afterwards the buffers hold as many bytes as before.
+/// Lists the rows of each level of an order, or of each node of a join tree. `join` takes no memory and can't fail. Afterwards the buffers
+/// hold as many bytes as before.
 pub fn join(joins: Joins, query: &Query, db: &Database) -> Joined
     requires database { IsDatabaseOf query.now db.now }
     requires joins { CanJoin query.now db.now joins }

@@ -1,12 +1,12 @@
-//! A run up to its first byte: what the words and the files determine, and all that is read, planned and reserved for it.
+//! A run up to its first written byte: the outcome that words and files determine, and everything that is read, planned and reserved before.
 //!
-//! It is for the top call, which writes what this crate prepares. `load_schema` and `prepare_run` read every file, plan, and take all memory
-//! of the run. They write nothing. `join` lists the rows of a plan in the memory that was taken for them. `open_shop` makes the files that
-//! `demo` reads.
+//! The top call (in `safebound_top`) uses this crate, and writes what the crate prepares. `load_schema` and `prepare_run` read every file,
+//! plan, and take all memory of the run. They write nothing. `join` lists the rows of a plan in the memory that was taken. `open_shop` makes
+//! the files that `demo` reads.
 //!
-//! Callers cite `verdict` (in `specs/Verdict.antt`). It is computed in stages, from the words to the plan, and is a `RunOutcome` or a refusal.
-//! Each step that reads has the clause `Reads` over its stage of the verdict. What `prepare_run` answers can be written without further memory
-//! (`CanBeWritten` in `specs/PreparedRun.antt`).
+//! Callers cite `verdict` (in `specs/Verdict.antt`). The verdict is computed in stages, from the words to the plan, and is a `RunOutcome` or
+//! a refusal. Each function that reads has the clause `Reads` over its stage of the verdict. What `prepare_run` returns can be written
+//! without further memory (`CanBeWritten` in `specs/PreparedRun.antt`).
 //!
 //! ```text
 //! let schema = load_schema(alloc, store, &command.schema_file)?;

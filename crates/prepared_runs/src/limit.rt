@@ -12,8 +12,8 @@ use plans::Plan;
 use reserve_plan::plan_memory;
 use tree_rows::tree_memory;
 
-/// The bytes that the buffers of an order take.
-pub fn order_memory(plan: &Plan) -> u128
+// The bytes that the buffers of an order take.
+fn order_memory(plan: &Plan) -> u128
     requires { (n : ℕ) × (1 ≤ n) × (n ≤ most_entries) × IsPlan n plan.now }
     ensures { result ≡ plan_bytes plan.now.order plan.now.scans plan.now.levels }
 {
@@ -35,7 +35,7 @@ pub fn memory_of(plan: &AnyPlan) -> u128
     }
 }
 
-/// Refuses this number of bytes if there is a limit and they are above it.
+/// Refuses a plan of `bytes` bytes if there is a limit and `bytes` is above it.
 pub fn keep_limit(limit: Option<u64>, bytes: u128) -> Result<(), Refusal>
     ensures { result ≡ limit_test limit bytes }
 {

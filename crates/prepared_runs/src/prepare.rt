@@ -39,19 +39,19 @@ use schema_types::Schema;
 use std::alloc::Global;
 use table_files::read_tables;
 
-/// What is left to do after the plan text is written, with all memory that it takes.
+/// What is left to do after the plan text is written. All memory that is needed for it is here.
 #[derive(Drop)]
 pub enum PendingOutput {
-    /// To join, and to write the rows of the answer.
+    /// The joins are left, and then the rows of the answer are written.
     Rows(Joins),
-    /// To join, and to write how many rows each level or inner node has.
+    /// The joins are left, and then the number of rows of each level or inner node is written.
     Audit(Joins),
-    /// Nothing: this plan's text is all that the run writes.
+    /// Nothing is left: the run writes the plan's text alone.
     Nothing(AnyPlan),
 }
 
 /// A query that is ready to be joined: its tables, the source of its bounds, and what is left to do, with the plan. `memory` is the limit of
-/// memory, if there is one, and `bytes` is what the plan takes.
+/// memory, if there is one, and `bytes` is how many bytes the plan takes.
 #[derive(Drop)]
 pub struct PreparedQuery {
     pub query: Query,
@@ -62,14 +62,14 @@ pub struct PreparedQuery {
     pub rest: PendingOutput,
 }
 
-// What is left to do if nothing is joined. It is the plan alone, and no memory is taken.
+// What is left to do if nothing is joined: nothing but the plan's text. No memory is taken.
 fn without_joins(planned: PlanWithScans) -> PendingOutput
     ensures { result ≡ PendingOutput.Nothing planned.plan }
 {
     PendingOutput::Nothing(planned.plan)
 }
 
-// Takes the memory for what is left to do. The plan is within the budget and the limit of memory.
+// Takes the memory for what is left to do. `planned` is within the budget and the limit of memory.
 fn make_room(
     alloc: Global,
     task: &PlanWork,
@@ -77,8 +77,8 @@ fn make_room(
     query: &Query,
     db: &Database,
 ) -> Result<PendingOutput, NoMemory>
-    requires affordable { shape_cost planned.plan ≤ task.now.budget }
-    requires within { IsWithinLimit task.now.memory (shape_bytes planned.plan) }
+    requires affordable { shape_cost planned.plan ≤ task.now.terms.budget }
+    requires within { IsWithinLimit task.now.terms.memory (shape_bytes planned.plan) }
     requires database { IsDatabaseOf query.now db.now }
     requires plan { IsPlanOver query.now (tables_of db.now) (lists_in planned.scans query.now (tables_of db.now)) planned.plan }
     requires rows { LoseNoRow query.now (tables_of db.now) (lists_in planned.scans query.now (tables_of db.now)) }
@@ -127,19 +127,19 @@ fn prepare_plan(
 {
     let planned = plan_task(alloc, task, schema, &query, &db)?;
     let bytes = memory_of(&planned.plan);
-    keep_limit(task.memory, bytes)?;
+    keep_limit(task.terms.memory, bytes)?;
     let rest = make_room(alloc, task, planned, &query, &db)?;
     Ok(PreparedQuery {
         query,
         db,
         source: task.source,
-        memory: task.memory,
+        memory: task.terms.memory,
         bytes,
         rest,
     })
 }
 
-// Reads the tables of a query and plans it over them.
+// Reads the tables of a query, and plans the query over them.
 fn prepare_tables<S: Store>(
     alloc: Global,
     store: &mut S,
@@ -158,7 +158,7 @@ fn prepare_tables<S: Store>(
     prepare_plan(alloc, task, schema, query, db)
 }
 
-// Reads what the work needs, and does everything but the writing.
+// Reads the files that `work` needs, and does everything of the work but the writing.
 fn prepare_query<S: Store>(
     alloc: Global,
     store: &mut S,
@@ -189,20 +189,14 @@ fn prepare_query<S: Store>(
             )?;
             Ok(PreparedRun::StatsMade(made_stats))
         }
-        Work::PlanFromStats {
-            file,
-            budget,
-            memory,
-        } => {
-            let made = prepare_stats_file_plan(
-                alloc, store, schema, query, file, *budget, *memory,
-            )?;
+        Work::PlanFromStats { file, terms } => {
+            let made = prepare_stats_file_plan(alloc, store, schema, query, file, terms)?;
             Ok(PreparedRun::PlannedFromStats(made))
         }
     }
 }
 
-// Reads a query, and then what its work needs.
+// Reads a query, and then the files that `work` needs.
 fn prepare_work<S: Store>(
     alloc: Global,
     store: &mut S,
@@ -221,8 +215,8 @@ fn prepare_work<S: Store>(
     prepare_query(alloc, store, work, schema, query)
 }
 
-/// Does everything of a command but the writing. For a query it reads the query and then its tables or the statistics file, plans, and takes
-/// all memory of the run. For `append` it reads a statistics file and new rows, and makes the file that counts them too.
+/// Does everything of a command but the writing. For a query, reads the query and then its tables or the statistics file, plans, and takes
+/// all memory of the run. For `append`, reads a statistics file and new rows, and makes a statistics file that also counts the new rows.
 pub fn prepare_run<S: Store>(
     alloc: Global,
     store: &mut S,

@@ -1,4 +1,4 @@
-//! Gets the bounds and rows of a run from its source, and takes the memory of the joins.
+//! Gets the bounds of a run and the rows to be joined from the run's source (`ListSource`), and takes the memory of the joins.
 ghost use Rattle.std.specs.Prelude.{◌≡◌, ◌⊎◌, ◌<◌, ◌≤◌, ℕ, Err, IfErr, IfOk, Ok, length, slice_index};
 ghost use Rattle.order_search.specs.declared.refusal.PlanError.TheVariants as error;
 ghost use Rattle.reserve_plan.specs.Memory.{buffers_bytes, lists_bytes};
@@ -33,7 +33,7 @@ use std::alloc::Global;
 /// The rows that are joined.
 #[derive(Drop)]
 pub enum Scans {
-    /// Each entry's whole scan. Its rows aren't listed yet.
+    /// Each entry's whole scan. The row numbers aren't listed yet.
     Whole,
     /// For each entry a list of row numbers, in file order.
     Listed(Vec<RowBuf<u32>>),
@@ -60,7 +60,7 @@ pub struct Joins {
     pub room: Room,
 }
 
-// What a source gives for a query over its database. Only this function tells one source from another.
+// What the source gives for a query over its database. This is the only function whose code depends on the source.
 fn given_by(
     alloc: Global,
     source: ListSource,
@@ -119,7 +119,7 @@ pub fn plan_task(
     requires database { IsDatabaseOf query.now db.now }
     requires ranges { IsInRange task.now }
     ensures planned { IfOk result (λ p. plan_asked task.now schema.now query.now (tables_of db.now) ≡ Ok p.plan) }
-    ensures affordable { IfOk result (λ p. shape_cost p.plan ≤ task.now.budget) }
+    ensures affordable { IfOk result (λ p. shape_cost p.plan ≤ task.now.terms.budget) }
     ensures lists { IfOk result (λ p. lists_in p.scans query.now (tables_of db.now)
         ≡ lists_by task.now.source query.now (tables_of db.now)) }
     ensures exact { IfOk result (λ p. HoldExactly p.scans (scan_bounds p.plan)) }
@@ -133,7 +133,7 @@ pub fn plan_task(
         query,
         db,
     )?;
-    let plan = plan_by(alloc, task.shape, &known, task.budget)?;
+    let plan = plan_by(alloc, task.terms.shape, &known, task.terms.budget)?;
     Ok(PlanWithScans { plan, scans })
 }
 
@@ -158,7 +158,7 @@ fn list_scans(
     Ok(lists)
 }
 
-// The list of each entry's rows. Whole scans are listed now; other lists are there already.
+// The list of each entry's rows. If the scans are whole, their rows are listed now; otherwise the lists are in `scans`.
 fn list_rows(
     alloc: Global,
     task: &PlanWork,
@@ -183,7 +183,7 @@ fn list_rows(
 }
 
 /// Takes all memory that the joins of a plan need, and lists the rows that are joined. The lists and buffers hold exactly the bytes of the
-/// plan. The caller has to know that the task asks for a join, and that the plan is within the task's budget and limit of memory.
+/// plan. The caller must know that the task asks for a join, and that the plan is within the task's budget and limit of memory.
 pub fn prepare_joins(
     alloc: Global,
     task: &PlanWork,

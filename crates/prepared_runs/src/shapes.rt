@@ -1,4 +1,4 @@
-//! The shapes of a plan, an order or a join tree, and the memory of the rows that its joins list.
+//! The two shapes of a plan (an order, or a join tree), and the memory for the rows that its joins list.
 ghost use Rattle.std.specs.Prelude.{◌≡◌, ◌⊎◌, ◌^◌, ◌≤◌, ℕ, List, Err, IfOk, length};
 ghost use Rattle.limits.specs.Profile.{most_entries};
 ghost use Rattle.order_search.specs.declared.refusal.PlanError.TheVariants as error;
@@ -41,7 +41,7 @@ pub enum Room {
     Nodes(BushyPlan, BushyReserved),
 }
 
-/// The best plan of a shape for these bounds; or why no plan is within the budget.
+/// The best plan of a shape by the bounds `known`, or why no plan is within the budget.
 pub fn plan_by(
     alloc: Global,
     shape: Shape,
@@ -76,7 +76,8 @@ pub fn bounds_of_scans(plan: &AnyPlan) -> &[u64]
     }
 }
 
-/// Takes all memory of the joins of a plan, except for the lists that are joined. The caller has to know that the plan may take it.
+/// Takes all memory of the joins of a plan, except for the lists that are joined. The caller must know that memory may be taken for this plan
+/// (`MayJoin`).
 pub fn reserve_room(
     alloc: Global,
     _task: &PlanWork,

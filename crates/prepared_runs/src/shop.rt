@@ -1,4 +1,4 @@
-//! The files that `demo` makes and reads.
+//! The shop: files that the command `demo` makes in memory and reads.
 ghost use Rattle.std.specs.Prelude.{◌≡◌, IfOk, Some};
 ghost use Rattle.demo_files.specs.Files.{demo_files};
 
@@ -7,7 +7,7 @@ use demo_files::demo_store;
 use std::alloc::Global;
 use std::marker::Model;
 
-/// Files in memory; no read of them fails.
+/// Files in memory. Reading them never fails.
 #[derive(Drop)]
 pub struct Shop {
     store: MemStore,

@@ -1,10 +1,10 @@
 //! Reads statistics files, plans queries from them, and makes them from a query's tables.
 ghost use Rattle.std.specs.Prelude.{◌≡◌, ◌≤◌, IfErr, IfOk, Ok, length};
-ghost use Rattle.limits.specs.Profile.{most_budget, most_entries};
+ghost use Rattle.limits.specs.Profile.{most_entries};
 ghost use Rattle.base_io.specs.Devices.{reading};
 ghost use Rattle.stats_file_of_query.specs.Databases.{IsReadOver};
 ghost use Rattle.outcomes.specs.Reads.{AtFile, Reads, StopsBy, seen};
-ghost use Rattle.plans.specs.LeftDeep.{IsPlan};
+ghost use Rattle.planning.specs.HasBounds.{HasBounds};
 ghost use Rattle.query_types.specs.Validity.{IsOf};
 ghost use Rattle.schema_types.specs.Validity.{IsValid};
 ghost use Rattle.stats_file.specs.Rules.{KeepsRules};
@@ -13,21 +13,25 @@ ghost use Rattle.sql_meaning.specs.Tables.{tables_of};
 ghost use Rattle.table_files.specs.EntryTables.{entry_rows, tables_in};
 ghost use Rattle.table_files.specs.Stage.{IsReached, tables_of_query};
 ghost use Rattle.safebound_words.specs.declared.command.Work.TheVariants as works;
-ghost use Rattle.prepared_runs.specs.StatsFiles.{stats_file_ending, stats_file_plan_stage, stats_file_plan_within, stats_stage, stats_file_of_tables};
+ghost use Rattle.stats_file_bounds.specs.Bounds.{scan_bounds_of_file, set_bounds_of_file};
+ghost use Rattle.safebound_words.specs.Commands.{most_budget_of};
+ghost use Rattle.prepared_runs.specs.Shapes.{planned_within};
+ghost use Rattle.prepared_runs.specs.StatsFiles.{made_from_file, need_ending, plan_from_file_asked, stats_file_plan_stage, stats_stage, stats_file_of_tables};
 ghost use Rattle.prepared_runs.specs.PreparedRun.{IsPlanned, file_from, plan_from};
 ghost use Rattle.prepared_runs.specs.Verdict.{work_run};
 
-use crate::limit::{keep_limit, order_memory};
+use crate::limit::{keep_limit, memory_of};
+use crate::shapes::{AnyPlan, plan_by};
 use base_io::{NoMemory, Store};
 use csv_tables::Database;
 use limits::{Accuracy, MOST_FILE};
 use outcomes::{Ending, FileId, Refusal, StatsCause};
-use plans::Plan;
+use planning::Known;
 use query_types::Query;
-use safebound_words::Word;
+use safebound_words::{PlanTerms, Word};
 use schema_types::Schema;
 use stats_file::StatsFile;
-use stats_file_bounds::{StatsFilePlanError, plan_from_file};
+use stats_file_bounds::{NeedError, from_file};
 use stats_file_of_query::stats_of;
 use stats_reading::read_stats;
 use std::alloc::Global;
@@ -46,7 +50,7 @@ pub struct PreparedStatsFile {
 pub struct PreparedStatsFilePlan {
     pub query: Query,
     pub file: StatsFile,
-    pub plan: Plan,
+    pub plan: AnyPlan,
     pub memory: Option<u64>,
     pub bytes: u128,
 }
@@ -69,62 +73,66 @@ pub(crate) fn load_stats<S: Store>(
     Ok(file)
 }
 
-// The ending of a run whose planning from a file failed.
-fn ending_of(error: StatsFilePlanError) -> Ending
-    ensures { result ≡ stats_file_ending error }
+// The ending of a run for which the statistics file gives no bounds.
+fn ending_of(error: NeedError) -> Ending
+    ensures { result ≡ need_ending error }
 {
     match error {
-        StatsFilePlanError::Missing { from } => Ending::Refused(Refusal::Stats {
+        NeedError::Missing { from } => Ending::Refused(Refusal::Stats {
             cause: StatsCause::Missing,
             at: u32::from(from),
         }),
-        StatsFilePlanError::Plan(error) => Ending::from(error),
+        NeedError::NoMemory => Ending::NoMemory,
     }
 }
 
-// Answers the plan, unless it takes more bytes than the limit of memory.
-fn limited(
+// Plans a query by the bounds that the statistics file gives, unless the plan takes more bytes than the limit of memory.
+fn plan_known(
+    alloc: Global,
     query: Query,
     file: StatsFile,
-    plan: Plan,
-    memory: Option<u64>,
+    known: &Known,
+    terms: &PlanTerms,
 ) -> Result<PreparedStatsFilePlan, Ending>
     requires some { 1 ≤ length query.from }
     requires few { length query.from ≤ most_entries }
-    requires plan { IsPlan (length query.from) plan }
+    requires known { HasBounds (set_bounds_of_file query file) (scan_bounds_of_file query file) known.now }
+    requires budget { terms.now.budget ≤ most_budget_of terms.now.shape }
     ensures plan { IfOk result IsPlanned }
-    ensures within { IfOk result (λ made. stats_file_plan_within query file plan memory ≡ Ok (plan_from made)) }
-    ensures refused { IfErr result (StopsBy (stats_file_plan_within query file plan memory)) }
+    ensures within { IfOk result (λ made. planned_within terms.now.memory (made_from_file terms.now query file)
+        (plan_from_file_asked terms.now query file) ≡ Ok (plan_from made)) }
+    ensures refused { IfErr result (StopsBy (planned_within terms.now.memory (made_from_file terms.now query file)
+        (plan_from_file_asked terms.now query file))) }
 {
-    let bytes = order_memory(&plan);
-    keep_limit(memory, bytes)?;
+    let plan = plan_by(alloc, terms.shape, known, terms.budget)?;
+    let bytes = memory_of(&plan);
+    keep_limit(terms.memory, bytes)?;
     Ok(PreparedStatsFilePlan {
         query,
         file,
         plan,
-        memory,
+        memory: terms.memory,
         bytes,
     })
 }
 
-// Plans a query from a statistics file, within a budget and a limit of memory. It reads no table.
+// Plans a query from a statistics file, within a budget and a limit of memory. No table is read.
 fn plan_from_stats_file(
     alloc: Global,
     schema: &Schema,
     query: Query,
     file: StatsFile,
-    budget: u64,
-    memory: Option<u64>,
+    terms: &PlanTerms,
 ) -> Result<PreparedStatsFilePlan, Ending>
     requires query { IsOf schema.now query }
     requires file { KeepsRules schema.now file }
-    requires budget { budget ≤ most_budget }
+    requires budget { terms.now.budget ≤ most_budget_of terms.now.shape }
     ensures plan { IfOk result IsPlanned }
-    ensures planned { IfOk result (λ made. stats_file_plan_stage query file budget memory ≡ Ok (plan_from made)) }
-    ensures refused { IfErr result (StopsBy (stats_file_plan_stage query file budget memory)) }
+    ensures planned { IfOk result (λ made. stats_file_plan_stage terms.now query file ≡ Ok (plan_from made)) }
+    ensures refused { IfErr result (StopsBy (stats_file_plan_stage terms.now query file)) }
 {
-    match plan_from_file(alloc, &query, &file, budget) {
-        Ok(plan) => limited(query, file, plan, memory),
+    match from_file(alloc, &query, &file) {
+        Ok(known) => plan_known(alloc, query, file, &known, terms),
         Err(error) => Err(ending_of(error)),
     }
 }
@@ -165,24 +173,23 @@ pub fn prepare_stats_file<S: Store>(
     Ok(made_stats)
 }
 
-/// Reads a statistics file, and plans a query from it, within a budget and a limit of memory.
+/// Reads a statistics file, and plans a query from it.
 pub fn prepare_stats_file_plan<S: Store>(
     alloc: Global,
     store: &mut S,
     schema: &Schema,
     query: Query,
     file: &Word,
-    budget: u64,
-    memory: Option<u64>,
+    terms: &PlanTerms,
 ) -> Result<PreparedStatsFilePlan, Ending>
     requires schema { IsValid schema.now }
     requires bytes { HasByteColumns schema.now }
     requires query { IsOf schema.now query }
-    requires budget { budget ≤ most_budget }
+    requires budget { terms.now.budget ≤ most_budget_of terms.now.shape }
     ensures plan { IfOk result IsPlanned }
-    ensures reads { Reads (reading S.files S.faults S.misses store.old store.new) (work_run (works.PlanFromStats file.now budget memory) schema.now query)
+    ensures reads { Reads (reading S.files S.faults S.misses store.old store.new) (work_run (works.PlanFromStats file.now terms.now) schema.now query)
         (AtFile FileId.Stats) (seen plan_from result) }
 {
     let stats = load_stats(alloc, store, file, schema)?;
-    plan_from_stats_file(alloc, schema, query, stats, budget, memory)
+    plan_from_stats_file(alloc, schema, query, stats, terms)
 }

@@ -1,4 +1,4 @@
--- A line of words.
+-- The line of an error is put part by part: `error`, words with a blank before each, and the line end.
 use Rattle.std.proofs.Common.{◌≡◌, ℕ, List, [], ◌∷◌, ◌++◌, map, refl, ap, sym, ◌∙◌}
 use Rattle.std.specs.Prelude.{codes}
 use Rattle.std.specs.List.{flat_map}
@@ -21,7 +21,6 @@ word_parts words = flat_map (λ w. behind_blank w.now) words
 pub words_are : (words : List (Bor (List ℕ))) → word_parts words ≡ flat_map behind_blank (seen_words words)
 words_are words = sym (flat_map-map behind_blank (λ (w : Bor (List ℕ)). w.now) words)
 
--- words, a file, and words
 pub about_are : (words more : List (Bor (List ℕ))) (file : List ℕ)
     → word_parts words ++ (behind_blank file ++ word_parts more) ≡ flat_map behind_blank (seen_words words ++ (file ∷ seen_words more))
 about_are words more file =

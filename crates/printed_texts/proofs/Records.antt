@@ -1,4 +1,4 @@
--- The fields of a record, one after the other.
+-- The fields of a record are put one after another, with a comma before each but the first.
 use Rattle.std.proofs.Common.{◌≡◌, ℕ, ◌≤◌, ◌-◌, List, [], ◌∷◌, ◌++◌, take, drop, length, map, get_or, ap, sym, ◌∙◌, append-nil, arith}
 use Rattle.std.specs.List.{flat_map, join_with_byte}
 use Rattle.std.proofs.lemmas.Grind.{common_steps}
@@ -9,7 +9,6 @@ use Rattle.query_types.specs.declared.types.Out.{Out}
 use Rattle.printed_texts.specs.Lines.{field_at, fields_at, next_field}
 use Rattle.printed_texts.specs.declared.rows.Line.{Line}
 
--- `&xs[1..]` is all but the first
 to_the_end : {X : Type 0} (a : ℕ) (xs : List X) → take (length xs - a) (drop a xs) ≡ drop a xs
 to_the_end a xs = grind (arith, common_steps)
 
@@ -21,7 +20,6 @@ tails : (field : Out → List ℕ) (b : Out) (rest : List Out)
 tails field b [] = sym (flat_map-cons (behind_comma field) b [] ∙ append-nil (44 ∷ field_text (field b)))
 tails field b (c ∷ rest) = ap (λ x. (44 ∷ field_text (field b)) ++ x) (tails field c rest) ∙ sym (flat_map-cons (behind_comma field) b (c ∷ rest))
 
--- two or more fields: the first, and each other one behind a comma
 pub several : (outs : List Out) (x : Out) (tables : Tables) (l : Line) → 2 ≤ length outs → x ≡ get_or outs 0 x
     → field_text (field_at tables l x) ++ flat_map (next_field tables l) (take (length outs - 1) (drop 1 outs)) ≡ fields_at outs tables l
 several [] x tables l many first = absurd (omega arith)

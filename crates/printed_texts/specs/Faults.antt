@@ -1,4 +1,4 @@
--- The line that tells each status but Done: `error`, and then words with a blank before each.
+-- The line for each status but Done: `error`, and then words with a blank before each.
 use Rattle.std.specs.Prelude.{ℕ, Bool, true, false, List, [], ◌∷◌, ◌++◌, map, codes, decimal, Option, None, Some, slice_get, if◌then◌else◌}
 use Rattle.std.specs.Char.{to_ascii_lowercase}
 use Rattle.std.specs.List.{flat_map}
@@ -24,8 +24,8 @@ use Rattle.outcomes.specs.declared.refusal.TableCause.TheVariants as table
 use Rattle.outcomes.specs.declared.status.Status.{Status}
 use Rattle.outcomes.specs.declared.status.Status.TheVariants as status
 
--- what a line may name: the command's words for the schema file, the query file, the statistics file and, if there is one, the file of new
--- rows. It may also name tables of the schema, if the schema was read
+-- the names that a line may need: the command's words for the schema file, the query file, the statistics file and, if there is one, the file
+-- of new rows. If the schema was read, the line may also name the schema's tables
 pub record Names : Type 0 where
   pub schema_file : List ℕ
   pub query_file : List ℕ
@@ -33,7 +33,7 @@ pub record Names : Type 0 where
   pub rows_file : Option (List ℕ)
   pub schema : Option Schema
 
--- the name of a table's file: the table's in lower case, and `.csv`
+-- the name of a table's own file: the table's name in lower case, and `.csv`
 abbrev pub table_file : Table → List ℕ
 table_file table = map to_ascii_lowercase table.name ++ codes ".csv"
 
@@ -46,7 +46,7 @@ abbrev pub file_of_table : Option Table → List ℕ
 file_of_table None = []
 file_of_table (Some table) = table_file table
 
--- the file of a table's rows: the one that the command names, or else the table's own
+-- the file of a table's rows: the file that the command names, or otherwise the table's own file
 abbrev pub file_of_rows : Option (List ℕ) → Option Table → List ℕ
 file_of_rows None table = file_of_table table
 file_of_rows (Some name) table = name
@@ -59,7 +59,7 @@ abbrev pub column_in : Option Table → ℕ → List ℕ
 column_in None number = []
 column_in (Some table) number = name_of_column (slice_get table.columns number)
 
--- a file as the line names it: by the command's word, or by the name of a table's own file
+-- the name of a file in a line: the command's word, or the name of a table's own file
 abbrev pub file_name : FileId → Names → List ℕ
 file_name file.Schema names = names.schema_file
 file_name file.Query names = names.query_file
@@ -81,7 +81,7 @@ stats_cause stats.Syntax = codes "syntax"
 stats_cause stats.Rule = codes "rule"
 stats_cause stats.Missing = codes "missing"
 
--- what is wrong with this table's file. A column is given by its name
+-- the words for what is wrong with a table's file. A column is given by its name
 abbrev pub table_cause : TableCause → Option Table → List (List ℕ)
 table_cause (table.Utf8 at) t = codes "utf8" ∷ (decimal at ∷ [])
 table_cause (table.Header number) t = codes "header" ∷ (column_in t number ∷ [])
@@ -104,7 +104,7 @@ limit_word limit.InValues = codes "in-values"
 limit_word limit.Conjuncts = codes "conjuncts"
 limit_word limit.Outputs = codes "outputs"
 
--- the limit is for a whole file, whose name is then in the line
+-- whether the limit is for a whole file; if so, the line has the file's name
 abbrev pub is_of_file : LimitKind → Bool
 is_of_file limit.FileBytes = true
 is_of_file limit.Rows = true
@@ -125,11 +125,11 @@ abbrev pub sink_name : SinkId → List ℕ
 sink_name sink.Out = codes "out"
 sink_name sink.Notes = codes "notes"
 
--- a file that isn't there has the line of a read that failed
+-- the words for a read that failed, and also for a file that isn't there
 abbrev pub read_words : FileId → Names → List (List ℕ)
 read_words id names = codes "read" ∷ (file_name id names ∷ [])
 
--- why the words or the files are refused, word by word
+-- the words for a refusal
 abbrev pub refusal_words : Refusal → Names → List (List ℕ)
 refusal_words refusal.Usage names = codes "usage" ∷ []
 refusal_words (refusal.Missing id) names = read_words id names
@@ -142,7 +142,7 @@ refusal_words (refusal.Budget least) names = codes "budget" ∷ (decimal least �
 refusal_words (refusal.MemoryLimit bytes) names = codes "memory-limit" ∷ (decimal bytes ∷ [])
 refusal_words refusal.PastBits names = codes "past-bits" ∷ []
 
--- what is wrong, word by word
+-- the words for a status
 abbrev pub fault : Status → Names → List (List ℕ)
 fault status.Done names = []
 fault (status.Refused r) names = refusal_words r names

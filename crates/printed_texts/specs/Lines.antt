@@ -1,4 +1,4 @@
--- The records of the rows text: the header, and one for each choice of rows.
+-- The records of the rows text: the header, and a record for each choice of rows.
 use Rattle.std.specs.Prelude.{◌≡◌, ℕ, ◌<◌, List, ◌∷◌, length, map, slice_index, ⊤}
 use Rattle.csv_tables.specs.declared.types.Database.{Database}
 use Rattle.row_printer.specs.Fields.{field_text, fields_text, record_text}
@@ -9,12 +9,12 @@ use Rattle.printed_texts.specs.Texts.{value_text}
 use Rattle.printed_texts.specs.declared.rows.Line.{Line}
 use Rattle.printed_texts.specs.declared.rows.Line.TheVariants as line
 
--- a choice: for each FROM entry, in FROM order, the number of a row that its table has
+-- a choice has for each FROM entry, in FROM order, the number of a row of its table
 pub record IsChoice (db : Database) (rows : List ℕ) : Type 0 where
   pub one_each : length rows ≡ length db.slots
   pub exists : (entry : ℕ) → entry < length db.slots → slice_index rows entry < (cells_of db entry).rows
 
--- the rows of the line are a choice. The header has no rows
+-- the line is the header, or its rows are a choice
 abbrev pub IsLineOf : Database → Line → Type 0
 IsLineOf db line.Header = ⊤
 IsLineOf db (line.Rows rows) = IsChoice db rows.now
@@ -23,7 +23,7 @@ IsLineOf db (line.Rows rows) = IsChoice db rows.now
 abbrev pub field_of : Tables → List ℕ → Out → List ℕ
 field_of tables rows out = value_text (column_value tables (slice_index rows) out.column)
 
--- an output's field in a line: in the header its name, else its value
+-- an output's field in a line: its name in the header, otherwise its value
 abbrev pub field_at : Tables → Line → Out → List ℕ
 field_at tables line.Header out = out.name
 field_at tables (line.Rows rows) out = field_of tables rows.now out

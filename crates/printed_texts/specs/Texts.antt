@@ -1,4 +1,4 @@
--- The rows text.
+-- The rows text: a CSV text with the rows of an answer.
 use Rattle.std.specs.Prelude.{ℕ, List, ◌++◌, map}
 use Rattle.std.specs.Fmt.{signed_decimal}
 use Rattle.std.specs.List.{flat_map}
@@ -16,11 +16,11 @@ value_text (Text text) = text
 abbrev pub row_text : Row → List ℕ
 row_text row = record_text (map value_text row)
 
--- the header: the record of the outputs' names after folding, in upper case where they aren't delimited; two may be equal. A first name that
--- begins with U+FEFF isn't quoted. So a reader that drops a byte order mark, as this program does, reads the name without it
+-- the header: the record of the outputs' names after folding (in upper case, unless they are delimited). Two names may be equal. If the first
+-- name begins with U+FEFF, it isn't quoted, so a reader that drops a byte order mark, as this program does, reads the name without U+FEFF
 abbrev pub header_text : List Out → List ℕ
 header_text outs = record_text (map (λ (out : Out). out.name) outs)
 
--- a header, and then a record for each of these rows
+-- the header, and then a record for each row
 abbrev pub rows_lines : List Out → List Row → List ℕ
 rows_lines outs rows = header_text outs ++ flat_map row_text rows

@@ -1,12 +1,12 @@
--- The plan text of a join tree, and the audit text. A node is named by its number: first the leaves, by their places in FROM from 0 on, and
--- then the inner nodes.
+-- The plan text of a join tree, and the audit text. A node is named by its number. The leaves come first, numbered from 0 by their places in
+-- FROM, and then the inner nodes.
 use Rattle.std.specs.Prelude.{ℕ, ◌+◌, List, [], ◌∷◌, ◌++◌, length, codes, decimal}
 use Rattle.query_types.specs.declared.types.Source.{Source}
 use Rattle.tree_plans.specs.declared.bushy.BushyPlan.{BushyPlan}
 use Rattle.tree_plans.specs.declared.bushy.Join.{Join}
 use Rattle.printed_texts.specs.Plans.{rows_and_line_end, scan_lines}
 
--- `node K LEFT RIGHT BOUND`, and below the same with a line end
+-- `node K LEFT RIGHT BOUND`, without a line end
 abbrev pub node_bound : ℕ → Join → List ℕ
 node_bound k join =
     codes "node " ++ (decimal k ++ (codes " " ++ (decimal join.left ++ (codes " " ++ (decimal join.right ++ (codes " " ++ decimal join.bound))))))
@@ -14,12 +14,12 @@ node_bound k join =
 abbrev pub node_line : ℕ → Join → List ℕ
 node_line k join = node_bound k join ++ codes "\n"
 
--- a line for each inner node; the first one has number k
+-- a line for each inner node; the first node has number k
 abbrev pub node_lines : ℕ → List Join → List ℕ
 node_lines k [] = []
 node_lines k (join ∷ joins) = node_line k join ++ node_lines (k + 1) joins
 
--- a line for each FROM entry's scan, and then one for each inner node
+-- the plan text: a line for each FROM entry's scan, and then a line for each inner node
 abbrev pub tree_lines : List Source → BushyPlan → List ℕ
 tree_lines sources plan = scan_lines sources plan.scans ++ node_lines (length plan.scans) plan.joins
 
@@ -33,6 +33,6 @@ node_audits k [] counts = []
 node_audits k (join ∷ joins) [] = []
 node_audits k (join ∷ joins) (rows ∷ counts) = node_audit k join rows ++ node_audits (k + 1) joins counts
 
--- a line for each inner node; `counts` are their numbers of rows. The tree of one entry has no inner node, and so no line
+-- the audit text: a line for each inner node, with its number of rows from `counts`. A tree of one entry has no inner node, and so no line
 abbrev pub tree_audits : BushyPlan → List ℕ → List ℕ
 tree_audits plan counts = node_audits (length plan.scans) plan.joins counts

@@ -1,4 +1,4 @@
--- The name of a file in a line, and the names that a line is given.
+-- The texts of a `FileWord` and of `Named`, which a line is made of.
 use Rattle.std.specs.Prelude.{ℕ, List, option_copied, option_map}
 use Rattle.printed_texts.specs.Faults.{Names, table_file}
 use Rattle.printed_texts.specs.declared.fault_lines.Named.{Named}

@@ -1,4 +1,4 @@
-//! Writes the line that tells a status. No function here allocates memory.
+//! Writes the line that says how a run ended, if its status isn't `Done`. No function here allocates memory.
 ghost use Rattle.std.specs.Prelude.{◌≡◌, ◌≢◌, ◌∷◌, [], codes, decimal, option_copied, option_map};
 ghost use Rattle.base_io.specs.Devices.{growth};
 ghost use Rattle.base_io.specs.Writes.{Wrote};
@@ -10,8 +10,8 @@ use base_io::{Failed, Sink};
 use outcomes::{FileId, QueryCause, Refusal, SchemaCause, SinkId, StatsCause, Status, TableCause};
 use schema_types::{LimitKind, Schema, Table};
 
-/// What a line may name: the command's words for the schema file, the query file, the statistics file and, if there is one, the file of new
-/// rows. It may also name tables of the schema, if the schema was read.
+/// The names that a line may need: the command's words for the schema file, the query file, the statistics file and, if there is one, the
+/// file of new rows. If the schema was read, the line may also name the schema's tables.
 #[derive(Clone, Copy)]
 pub struct Named<'a> {
     pub schema_file: &'a str,
@@ -39,7 +39,7 @@ fn table_word<'a>(table: Option<&'a Table>) -> FileWord<'a>
     }
 }
 
-// The file of a table's rows: the file that the command names, or else the table's own.
+// The file of a table's rows: the file that the command names, or otherwise the table's own file.
 fn rows_word<'a>(rows_file: Option<&'a str>, table: Option<&'a Table>) -> FileWord<'a>
     ensures { file_text result ≡ file_of_rows (option_map (λ name. name.now) rows_file.entry) (option_copied table.entry) }
 {
@@ -67,7 +67,7 @@ fn column_name<'a>(table: Option<&'a Table>, number: u32) -> &'a [u8]
     }
 }
 
-// A file's name in a line.
+// The name of `file` in a line.
 fn file_word<'a>(file: FileId, names: Named<'a>) -> FileWord<'a>
     ensures { file_text result ≡ file_name file (named names.entry) }
 {
@@ -175,7 +175,8 @@ const FIELD: &[u8] = b"field";
 
 const KEY: &[u8] = b"key";
 
-// Writes the line of a refused text: the word for the text, the cause, and the place.
+// Writes the line of a refused schema, query or statistics text: the word for the text, the cause, and a number that says where. The number
+// is a place in the text, a line, or a FROM entry.
 fn write_place<N: Sink>(text: &[u8], cause: &[u8], at: u32, sink: &mut N) -> Result<(), Failed>
     ensures { Wrote (growth N.taken N.faults sink.old sink.new) (error_line (text.now ∷ (cause.now ∷ (decimal at ∷ [])))) result }
 {
@@ -183,7 +184,7 @@ fn write_place<N: Sink>(text: &[u8], cause: &[u8], at: u32, sink: &mut N) -> Res
     write_error_line(&[text, cause, digits.format(at).as_bytes()], sink)
 }
 
-// Writes the line of a table's refused file, with the cause and two numbers.
+// Writes the line of a table whose file is refused, with the cause and two numbers.
 fn write_numbers<N: Sink>(
     file: FileWord,
     cause: &[u8],
@@ -200,7 +201,7 @@ fn write_numbers<N: Sink>(
     write_words_about(&[TABLE], file, &[cause, one, other], sink)
 }
 
-// Writes the line of a table's refused file.
+// Writes the line of a table whose file is refused.
 fn write_table_fault<N: Sink>(
     file: FileWord,
     table: Option<&Table>,
@@ -227,7 +228,7 @@ fn write_table_fault<N: Sink>(
     }
 }
 
-// Writes the line of a limit that is passed.
+// Writes the line of a limit that is exceeded.
 fn write_limit<N: Sink>(
     which: LimitKind,
     file: FileWord,
@@ -259,7 +260,7 @@ fn write_memory_limit<N: Sink>(bytes: u128, sink: &mut N) -> Result<(), Failed>
     write_error_line(&[MEMORY_LIMIT, digits.format(bytes).as_bytes()], sink)
 }
 
-// Writes the line of a file that isn't there or whose read failed.
+// Writes the line of a file that isn't there, or that couldn't be read.
 fn write_read<N: Sink>(file: FileId, names: Named, sink: &mut N) -> Result<(), Failed>
     ensures { Wrote (growth N.taken N.faults sink.old sink.new) (error_line (read_words file (named names.entry))) result }
 {
@@ -289,7 +290,7 @@ fn write_refusal<N: Sink>(refusal: Refusal, names: Named, sink: &mut N) -> Resul
     }
 }
 
-/// Writes the line of a status that is not `Done`. A table is named by its file, a column by its name.
+/// Writes the line of a status that is not `Done`. The line names a table by its file, and a column by its name.
 pub fn write_line<N: Sink>(status: Status, names: Named, sink: &mut N) -> Result<(), Failed>
     requires { status ≢ Status.Done }
     ensures { Wrote (growth N.taken N.faults sink.old sink.new) (fault_line status (named names.entry)) result }

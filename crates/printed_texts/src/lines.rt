@@ -1,5 +1,5 @@
-//! Writes the line of a fault: `error`, words with a blank before each, and LF. One of the words may be the name of a file. Nothing here takes
-//! memory.
+//! Writes the line of a fault: `error`, then words with a blank before each, and LF. One of the words may be the name of a file. No function
+//! here takes memory.
 ghost use Rattle.std.specs.Prelude.{◌≡◌, ◌≤◌, ◌++◌, ◌∷◌, map};
 ghost use Rattle.std.specs.Char.{to_ascii_lowercase};
 ghost use Rattle.std.specs.List.{flat_map};
@@ -19,7 +19,7 @@ const CSV: &[u8] = b".csv";
 
 const LINE_END: &[u8] = b"\n";
 
-/// A file that a line names: by a given name, or as a table's own file, whose name is that of the table in lower case and `.csv`.
+/// The name of a file in a line: a name that was given, or the name of a table's own file, which is the table's name in lower case and `.csv`.
 #[derive(Clone, Copy)]
 pub enum FileWord<'a> {
     Given(&'a [u8]),
@@ -76,7 +76,7 @@ fn put_words<N: Sink>(words: &[&[u8]], buffer: &mut Buffer, sink: &mut N) -> Res
     Ok(())
 }
 
-// Puts words, the name of a file, and more words, each behind a blank.
+// Puts words, the name of a file, and more words, with a blank before each.
 fn put_words_about<N: Sink>(
     words: &[&[u8]],
     file: FileWord,
@@ -92,7 +92,7 @@ fn put_words_about<N: Sink>(
     put_words(more, buffer, sink)
 }
 
-/// Writes the line `error` with these words. Fails where the sink does; then a prefix of the line is written.
+/// Writes the line `error` with these words. If the sink fails, the call fails, and a prefix of the line is written.
 pub fn write_error_line<N: Sink>(words: &[&[u8]], sink: &mut N) -> Result<(), Failed>
     ensures { Wrote (growth N.taken N.faults sink.old sink.new) (error_line (map (λ w. w.now) words.now)) result }
 {
@@ -103,8 +103,8 @@ pub fn write_error_line<N: Sink>(words: &[&[u8]], sink: &mut N) -> Result<(), Fa
     buffer.flush(sink)
 }
 
-/// Writes the line `error` with these words, the name of a file, and more words. Fails where the sink does; then a prefix of the line is
-/// written.
+/// Writes the line `error` with these words, the name of a file, and more words. If the sink fails, the call fails, and a prefix of the line
+/// is written.
 pub fn write_words_about<N: Sink>(
     words: &[&[u8]],
     file: FileWord,

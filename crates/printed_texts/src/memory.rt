@@ -1,4 +1,4 @@
-//! Writes the line `memory BYTES`, which tells how many bytes a plan takes. Nothing here allocates.
+//! Writes the line `memory BYTES`, which says how many bytes a plan takes. No function here allocates memory.
 ghost use Rattle.std.specs.Prelude.{◌≡◌};
 ghost use Rattle.base_io.specs.Devices.{growth};
 ghost use Rattle.base_io.specs.Writes.{Put, Wrote};
@@ -26,7 +26,7 @@ fn write_bytes<N: Sink>(bytes: u128, sink: &mut N) -> Result<(), Failed>
     buffer.flush(sink)
 }
 
-/// Writes how many bytes the plan takes, if the command gave a limit of memory, and else nothing. The line follows the plan text.
+/// Writes how many bytes the plan takes, if the command gave a limit of memory; otherwise nothing is written. The line follows the plan text.
 pub fn write_memory<N: Sink>(limit: Option<u64>, bytes: u128, sink: &mut N) -> Result<(), Failed>
     ensures { Wrote (growth N.taken N.faults sink.old sink.new) (memory_text limit bytes) result }
 {

@@ -47,7 +47,7 @@ pub(crate) fn write_scans<N: Sink>(
     Ok(())
 }
 
-/// Writes the start of a level's line: its number, its entry's name in the query, and its bound in rows. It writes no line end.
+/// Writes the start of a level's line, without a line end: the level's number, the alias of its entry, and its bound in rows.
 pub fn put_level_bound<N: Sink>(
     k: u64,
     alias: &str,
@@ -76,7 +76,7 @@ fn write_level<N: Sink>(
     buffer.put(sink, LINE_END)
 }
 
-/// The name in the query of the FROM entry with this number.
+/// The alias of the FROM entry with this number.
 pub fn alias_at(sources: &[Source], entry: u8) -> &str
     requires { entry < length sources.now }
     ensures { result.now ≡ alias_of (slice_get sources.now entry) }
@@ -104,8 +104,8 @@ fn write_levels<N: Sink>(
     Ok(())
 }
 
-/// Writes the plan text: a line for each entry's scan in FROM order, and then one for each level of the plan's
-/// order, with its bound in rows.
+/// Writes the plan text: a line for each entry's scan in FROM order, and then a line for each level along the plan's order. Each line ends
+/// with a bound in rows.
 pub fn write_plan<N: Sink>(plan: &Plan, sources: &[Source], sink: &mut N) -> Result<(), Failed>
     requires { IsPlan (length sources.now) plan.now }
     ensures { Wrote (growth N.taken N.faults sink.old sink.new) (plan_lines sources.now plan.now) result }

@@ -16,14 +16,14 @@ use query_types::Out;
 use row_printer::{put_comma, put_field, put_lone_field, put_record_end};
 use sql_meaning::{ValueRef, value_of_column};
 
-/// A record of the rows text: the header, or that of a choice of one row for each FROM entry, in FROM order.
+/// A record of the rows text: the header, or the record of a choice. A choice has one row number for each FROM entry, in FROM order.
 #[derive(Clone, Copy, Debug)]
 pub enum Line<'a> {
     Header,
     Rows(&'a [u32]),
 }
 
-// An output's field in a line: in the header its name, else its value.
+// An output's field in a record: its name in the header, otherwise its value.
 fn field<'a>(out: &'a Out, line: Line, db: &'a Database) -> ValueRef<'a>
     requires tables { AreTables db.now }
     requires column { IsColumnOf db.now out.now.column }
@@ -49,7 +49,7 @@ fn put_value<N: Sink>(value: ValueRef, buffer: &mut Buffer, sink: &mut N) -> Res
     }
 }
 
-// Puts the only field of a record.
+// Puts the field of a record that has one field.
 fn put_lone_value<N: Sink>(value: ValueRef, buffer: &mut Buffer, sink: &mut N) -> Result<(), Failed>
     ensures { Put (growth N.taken N.faults sink.old sink.new) buffer.old buffer.new
         (lone_field_text (value_text (value_of_ref value.entry))) result }

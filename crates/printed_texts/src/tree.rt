@@ -16,8 +16,7 @@ const SPACE: &[u8] = b" ";
 
 const LINE_END: &[u8] = b"\n";
 
-/// Writes the start of an inner node's line: the node's number, the numbers of the two nodes that it joins, and its bound in rows. It writes no
-/// line end.
+/// Writes the start of an inner node's line, without a line end: the node's number, the numbers of its left and right child, and its bound in rows.
 pub fn put_node_bound<N: Sink>(
     k: u64,
     join: Join,

@@ -1,4 +1,4 @@
--- From what statistics tell to the row bounds and lists of entries, one after another.
+-- The row bounds and lists that the code takes from statistics, one after another, are those of the definitions.
 use Rattle.std.proofs.Common.{◌≡◌, ◌≢◌, ◌⊎◌, inl, inr, ℕ, zero, suc, ◌+◌, ◌<◌, ◌≤◌, Bool, true, false, ◌||◌, eqb, ltb, List, [], ◌∷◌, ◌++◌, length, take, get_or, Option, Some, None, option_map, find, refl, ap, sym, ◌∙◌, subst, arith}
 use Rattle.std.specs.Prelude.{IsSome, if◌then◌else◌, unwrap_or}
 use Rattle.std.proofs.Math.Path.{fun_ext}
@@ -29,7 +29,7 @@ use Rattle.query_bounds.specs.Statistics.{Statistics, Tells, TellsColumn, TellsE
 pub is_some_of : {X : Type 0} (o : Option X) (x : X) → o ≡ Some x → IsSome o
 is_some_of o x e = rw e refl
 
--- ---- an entry that is told
+-- ---- an entry that the statistics have
 
 pub no_more : {X : Type 0} (o : Option X) (x : X) → o ≡ None → o ≡ Some x → ⊥
 no_more o x e f = cc
@@ -79,7 +79,6 @@ rows_more query known i rows old new held is set others lists = record {
         ap (rows_of new) same ∙ set ∙ ap Some (is ∙ ap (scan_rows query known) (sym same))
         ∙ choose true (ltb entry (i + 1)) (scan_rows query known entry) (sym (lt-ltb entry (i + 1) (omega arith)))
 
--- the row bound that a call answers, and that it may be called
 pub rows_told : (query : Query) (stats : QueryStats) (known : Statistics) (entry rows : ℕ) → Tells query stats known → entry < length query.from
     → ((q : Query) (lists : ColumnLists) (counts : RowCounts) → HasRowLists q stats entry lists → SumTo lists counts → rows ≡ row_bound counts entry q.conjuncts)
     → rows ≡ scan_rows query known entry
@@ -92,9 +91,8 @@ has_first query stats known entry tells low =
     let here : TellsEntry query stats known entry = tells.entries entry low in
     is_some_of (first_steps stats entry) (asked_lists query entry (known.lists entry here.column)) here.lists
 
--- ---- lists
+-- ---- adding the list of one column
 
--- one more column
 among_more : (places : List Place) (place : Place) (entry column : ℕ) → is_among (places ++ place ∷ []) entry column ≡ (is_among places entry column || (is_at entry column place || false))
 among_more places place entry column = list_any-append (is_at entry column) places (place ∷ [])
 
@@ -176,7 +174,6 @@ pub pair_told : (query : Query) (stats : QueryStats) (known : Statistics) (items
 pair_told query stats known items tells is i d low =
     pair_at (TellsColumn query stats known) items (subst (EachNamedColumn (TellsColumn query stats known)) (sym is) tells.columns) i d low
 
--- what one call adds
 pub added : (query : Query) (stats : QueryStats) (known : Statistics) (n : ℕ) (places : List Place) (place : Place) (old new : EntryLists) → TellsColumn query stats known place.entry place.column
     → HoldsKnown query known n places old
     → ((q : Query) (lists : ColumnLists) → HasLists q stats place.entry place.column lists
@@ -186,7 +183,7 @@ pub added : (query : Query) (stats : QueryStats) (known : Statistics) (n : ℕ) 
 added query stats known n places place old new told held set others rows =
     list_more query known n places place old new held (set query (known.lists place.entry place.column) told.lists) others rows
 
--- no equality stands past the end
+-- `no_edge` is the default for reading past the last equality
 abbrev pub no_edge : Edge
 no_edge = record { left = record { entry = 0; column = 0 }; right = record { entry = 0; column = 0 } }
 
@@ -205,7 +202,7 @@ may_add query stats known n places place lists tells whole told held = record {
     there : place.entry < length stats.entries
     there = known_entry query stats place.entry place.column (known.lists place.entry place.column) told.lists
 
--- ---- as bounds of entries
+-- ---- the row bounds and lists as one `EntryBounds`
 
 pub bounds_told : (query : Query) (known : Statistics) (lists : EntryLists) → HoldsKnown query known (length query.from) (places_of (equalities_of query)) lists → bounds_of lists ≡ entry_bounds query known
 bounds_told query known lists held =

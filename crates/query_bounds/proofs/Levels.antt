@@ -1,4 +1,4 @@
--- No scan passes its bound.
+-- No scan has more rows than its bound.
 use Rattle.std.proofs.Common.{◌≡◌, ℕ, ◌<◌, ◌≤◌, List, map, length, get_or, sym, subst}
 use Rattle.std.specs.List.{range_with_len}
 use Rattle.query_types.specs.declared.types.Query.{Query}

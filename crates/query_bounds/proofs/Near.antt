@@ -1,4 +1,4 @@
--- Compressed lists of whole columns, where no conjunct names just one entry: the bounds are near those of the degree lists.
+-- If no conjunct names just one entry, the bounds from compressed lists of whole columns are near those from the degree lists.
 use Rattle.std.proofs.Common.{◌≡◌, ℕ, zero, suc, ◌+◌, ◌-◌, ◌*◌, ◌<◌, ◌≤◌, ◌^◌, Bool, true, ltb, min, List, [], ◌∷◌, length, get_or, sum, refl, ap, sym, ◌∙◌, subst, arith}
 use Rattle.std.specs.Prelude.{All, if◌then◌else◌}
 use Rattle.std.specs.List.{AllByRecursion}
@@ -30,7 +30,6 @@ use Rattle.query_bounds.specs.Statistics.{AreWhole, Statistics}
 use Rattle.query_bounds.proofs.Holding.{pair_at}
 use Rattle.query_bounds.proofs.Sets.{both_among}
 
--- elements of a compressed list are above 0
 from_positive : (k : ℕ) (f : List ℕ) → IsFalling f → All (λ x. 0 < x) f → (n m : ℕ) → AllByRecursion (λ x. 0 < x) (compressed_from k f n m)
 from_positive k f falls positive zero m = tt
 from_positive k f falls positive (suc n) m =

@@ -1,4 +1,4 @@
--- The bounds of scans and of sets, as what statistics tell.
+-- The bounds of scans and of sets that the code makes are those of the definitions.
 use Rattle.std.proofs.Common.{◌≡◌, ℕ, zero, suc, ◌-◌, ◌<◌, ◌^◌, Bool, true, false, ◌||◌, eqb, List, [], ◌∷◌, map, length, get_or, Some, None, refl, ap, ◌∙◌, arith}
 use Rattle.std.specs.Prelude.{IsSome, if◌then◌else◌}
 use Rattle.std.specs.List.{range_with_len}
@@ -24,7 +24,7 @@ use Rattle.query_bounds.specs.Bounds.{HoldsKnown, is_among, is_at, scan_list, sc
 use Rattle.query_bounds.specs.Statistics.{Statistics}
 use Rattle.query_bounds.proofs.Holding.{is_some_of}
 
--- ---- which entries and columns are there
+-- ---- entries and columns that have a row bound and a list
 
 pub row_there : (query : Query) (known : Statistics) (n : ℕ) (places : List Place) (lists : EntryLists) → HoldsKnown query known n places lists → (entry : ℕ) → entry < n → rows_of lists entry ≡ Some (scan_rows query known entry)
 row_there query known n places lists held entry low = held.rows entry ∙ ap (λ (t : Bool). if t then Some (scan_rows query known entry) else None) (lt-ltb entry n low)
@@ -45,7 +45,6 @@ next_or : (a b c : Bool) → b ≡ true → (a || (b || c)) ≡ true
 next_or true b c h = refl
 next_or false b c h = rw h refl
 
--- both columns of an equality are among those that equalities join
 pub both_among : (es : List Edge) (k : ℕ) (d : Edge) → k < length es
     → (is_among (places_of es) (get_or es k d).left.entry (get_or es k d).left.column ≡ true) × (is_among (places_of es) (get_or es k d).right.entry (get_or es k d).right.column ≡ true)
 both_among [] k d low = absurd (omega arith)
@@ -61,7 +60,6 @@ both_among (e ∷ es) (suc k) d low =
       or_more (is_at r.entry r.column e.left) (is_at r.entry r.column e.right) (is_among (places_of es) r.entry r.column) later.1,
     )
 
--- so every set has what its bound needs
 pub all_listed : (query : Query) (known : Statistics) (n : ℕ) (es : List Edge) (lists : EntryLists) → HoldsKnown query known n (places_of es) lists → SetIsListed lists es (2 ^ n - 1)
 all_listed query known n es lists held = record {
   rows = each_in_set (λ k. IsSome (rows_of lists k)) (2 ^ n - 1) (λ k low has. is_some_of (rows_of lists k) (scan_rows query known k)
@@ -75,12 +73,12 @@ all_listed query known n es lists held = record {
       ));
 }
 
--- ---- scans
+-- ---- the bound of an entry's scan
 
 pub scan_at : (query : Query) (known : Statistics) (n entry : ℕ) (scans : List ℕ) → scans ≡ map (scan_rows query known) (range_with_len 0 n) → entry < n → get_or scans entry 0 ≡ scan_rows query known entry
 scan_at query known n entry scans is low = ap (λ (s : List ℕ). get_or s entry 0) is ∙ get_or-map-range_with_len (scan_rows query known) 0 n entry entry 0 low (omega arith)
 
--- ---- sets
+-- ---- the bounds of sets
 
 pub set_count : (b : EntryBounds) (es : List Edge) (n : ℕ) → length (bounds_of_sets b es n) ≡ 2 ^ n
 set_count b es n = length-map (range_with_len 0 (2 ^ n)) (bound_told b es) ∙ length-range_with_len 0 (2 ^ n)

@@ -1,4 +1,4 @@
--- Two tables joined by one column, by computation.
+-- The bounds of the worked example are computed here.
 use Rattle.std.proofs.Common.{◌≡◌, [], ◌∷◌, refl, arith}
 use Rattle.entry_sets.specs.Sets.{entries_of_set}
 use Rattle.query_grammar.specs.declared.tree.Op.TheVariants as op

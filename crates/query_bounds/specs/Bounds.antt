@@ -1,4 +1,4 @@
--- The bounds that statistics give: a row bound and lists for each entry, a bound for each scan, and one for each set of entries.
+-- The bounds that statistics give: a row bound and lists for each entry, a bound for each scan, and a bound for each set of entries.
 use Rattle.std.specs.Prelude.{◌≡◌, ℕ, Bool, ◌&&◌, ◌==◌, nat_lt, if◌then◌else◌, List, [], length, map, None, Some}
 use Rattle.std.specs.List.{list_any, range_with_len}
 use Rattle.berge_tree.specs.declared.edges.Place.{Place}
@@ -12,14 +12,14 @@ use Rattle.set_bounds.specs.AllSets.{bounds_of_sets}
 use Rattle.filtered_lists.specs.Lists.{filtered_list, row_bound}
 use Rattle.query_bounds.specs.Statistics.{Statistics}
 
--- the row bound of an entry's scan, and the list of one of its columns over the scan
+-- the row bound of an entry's scan, and the list of one of the entry's columns, filtered by the entry's own conjuncts
 abbrev pub scan_rows : Query → Statistics → ℕ → ℕ
 scan_rows query known entry = row_bound (known.counts entry) entry query.conjuncts
 
 abbrev pub scan_list : Query → Statistics → ℕ → ℕ → List ℕ
 scan_list query known entry column = filtered_list (known.lists entry column) entry query.conjuncts
 
--- the column of the entry is at this place; below, at one of these places
+-- whether the entry and the column are those of a place; `is_among` asks this for a list of places
 abbrev pub is_at : ℕ → ℕ → Place → Bool
 is_at entry column place = place.entry == entry && place.column == column
 
@@ -30,25 +30,25 @@ is_among places entry column = list_any (is_at entry column) places
 abbrev pub joined_columns : Query → List Place
 joined_columns query = places_of (equalities_of query)
 
--- the row bound of each FROM entry, and the list of each joined column; 0 and the empty list for all others
+-- the row bound of each FROM entry, and the list of each joined column. Other entries have 0, and other columns the empty list
 abbrev pub entry_bounds : Query → Statistics → EntryBounds
 entry_bounds query known = record {
   rows = λ entry. if nat_lt entry (length query.from) then scan_rows query known entry else 0;
   list = λ entry column. if is_among (joined_columns query) entry column then scan_list query known entry column else [];
 }
 
--- `lists` has the row bounds of the first n entries, the lists of the columns at these places, and nothing else
+-- `lists` has exactly the row bounds of the first n entries and the lists of the columns at these places
 pub record HoldsKnown (query : Query) (known : Statistics) (n : ℕ) (places : List Place) (lists : EntryLists) : Type 0 where
   pub rows : (entry : ℕ) → rows_of lists entry ≡ (if nat_lt entry n then Some (scan_rows query known entry) else None)
   pub columns : (entry column : ℕ) → list_of lists entry column
       ≡ (if is_among places entry column then Some (scan_list query known entry column) else None)
 
--- ---- of scans and of sets
+-- ---- the bounds of scans and of sets
 
 -- the bound of each entry's scan, in FROM order
 abbrev pub scan_bounds : Query → Statistics → List ℕ
 scan_bounds query known = map (scan_rows query known) (range_with_len 0 (length query.from))
 
--- the bound of each set of entries, at the number whose bits are the set
+-- the bound of each set of entries. The bound of a set stands at the index whose bits are the set's entries
 abbrev pub set_bounds : Query → Statistics → List ℕ
 set_bounds query known = bounds_of_sets (entry_bounds query known) (equalities_of query) (length query.from)

@@ -18,7 +18,7 @@ pair = record {
 abbrev pub pair_rows : ℕ → ℕ
 pair_rows entry = if entry == 0 then 6 else 5
 
--- their degree lists 3, 2, 1 and 2, 1, 1, 1, compressed at accuracy 1
+-- the degree lists of R(X) and S(X) are 3, 2, 1 and 2, 1, 1, 1. Compressed at accuracy 1 they are these lists
 abbrev pub pair_list : ℕ → List ℕ
 pair_list entry = if entry == 0 then 3 ∷ 3 ∷ [] else 2 ∷ 2 ∷ 1 ∷ []
 

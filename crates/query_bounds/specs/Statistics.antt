@@ -1,4 +1,4 @@
--- What is known of a query's entries (`Statistics`), when a `QueryStats` tells it, and when it bounds tables.
+-- What is known about a query's entries (`Statistics`), when a `QueryStats` has it, and when it holds for tables.
 use Rattle.std.specs.Prelude.{◌≡◌, ℕ, ◌<◌, ◌≤◌, ◌^◌, [], length}
 use Rattle.degree_sequences.specs.Compression.{compressed}
 use Rattle.degree_sequences.specs.Degrees.{degree_list}
@@ -19,32 +19,33 @@ pub record Statistics : Type 0 where
   pub counts : ℕ → RowCounts
   pub lists : ℕ → ℕ → ColumnLists
 
--- ---- when a `QueryStats` tells it
+-- ---- when a `QueryStats` has the known counts and lists
 
--- for an entry's row bound `stats` tells the lists of one of its columns. They sum to its row counts; that of all rows is at most 2^32
+-- for an entry's row bound `stats` has the lists of one of the entry's columns. The sum of each list is the entry's row count for the same
+-- filter, and the count of all rows is at most 2^32
 pub record TellsEntry (query : Query) (stats : QueryStats) (known : Statistics) (entry : ℕ) : Type 0 where
   pub column : ℕ
   pub lists : HasRowLists query stats entry (known.lists entry column)
   pub sums : SumTo (known.lists entry column) (known.counts entry)
   pub small : (known.counts entry).whole ≤ 2 ^ 32
 
--- `stats` tells the lists of this column of an entry, and they sum to the entry's row counts
+-- `stats` has the lists of a column of an entry, and the sum of each list is the entry's row count for the same filter
 pub record TellsColumn (query : Query) (stats : QueryStats) (known : Statistics) (entry column : ℕ) : Type 0 where
   pub lists : HasLists query stats entry column (known.lists entry column)
   pub sums : SumTo (known.lists entry column) (known.counts entry)
 
--- `stats` tells what is known of all FROM entries, and of all columns that an equality joins
+-- `stats` has what is known about all FROM entries, and about all columns that an equality joins
 pub record Tells (query : Query) (stats : QueryStats) (known : Statistics) : Type 0 where
   pub one_each : length stats.entries ≡ length query.from
   pub entries : (entry : ℕ) → entry < length query.from → TellsEntry query stats known entry
   pub columns : EachNamedColumn (TellsColumn query stats known) (equalities_of query)
 
--- `stats` tells some `Statistics`; the field `known` says which
+-- `stats` has what some `Statistics` say; the field `known` has those
 pub record StatsAreTold (query : Query) (stats : QueryStats) : Type 0 where
   pub known : Statistics
   pub tells : Tells query stats known
 
--- ---- when it bounds tables
+-- ---- when the known counts and lists bound tables
 
 -- the known counts bound the rows of each entry's table, and the known lists dominate the keys of each column that an equality joins
 pub record StandFor (query : Query) (known : Statistics) (tables : Tables) (key : Keys) : Type 0 where
@@ -54,8 +55,8 @@ pub record StandFor (query : Query) (known : Statistics) (tables : Tables) (key 
 
 -- ---- whole columns
 
--- no entry has own conjuncts, and whole tables are known: each entry's number of rows and, for each column that an equality joins,
--- its degree list, compressed at this accuracy
+-- no entry has own conjuncts, and whole tables are known: each entry's number of rows, and the degree list of each column that an equality
+-- joins, compressed at this accuracy
 pub record AreWhole (query : Query) (known : Statistics) (tables : Tables) (key : Keys) (accuracy : ℕ) : Type 0 where
   pub unfiltered : (entry : ℕ) → own_conjuncts entry query.conjuncts ≡ []
   pub counts : (entry : ℕ) → entry < length query.from → (known.counts entry).whole ≡ row_counts tables entry

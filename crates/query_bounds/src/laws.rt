@@ -10,8 +10,9 @@ ghost use Rattle.level_bounds.specs.Whole.{uncompressed};
 ghost use Rattle.query_bounds.specs.Bounds.{set_bounds};
 ghost use Rattle.query_bounds.specs.Statistics.{AreWhole, Statistics};
 
-/// Bounds from compressed lists are near those from degree lists, if no conjunct names just one entry. At accuracy K, a set of n entries has a
-/// bound from compressed lists of whole columns, and one from their degree lists. K^n times the first is at most (K + 1)^n times the second.
+/// Bounds from compressed lists are near those from degree lists, if no conjunct names just one entry. Take the bound of a set of n entries
+/// from compressed lists of whole columns, at accuracy K, and the bound of the set from the columns' degree lists. Then K^n times the first
+/// bound is at most (K + 1)^n times the second.
 pub fn unfiltered_bounds_are_near()
     ensures { (query : Query) (known : Statistics) (tables : Tables) (key : Keys) (accuracy subset : ℕ)
         → AreWhole query known tables key accuracy → subset < 2 ^ length query.from

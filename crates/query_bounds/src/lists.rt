@@ -33,7 +33,7 @@ fn with_rows(alloc: Global, query: &Query, stats: &QueryStats) -> Result<EntryLi
     Ok(lists)
 }
 
-// Adds the list of a joined column, if it isn't there yet.
+// Adds the list of the joined column at `place` to `lists`, if `lists` doesn't have it yet.
 fn add_list(
     alloc: Global,
     stats: &QueryStats,
@@ -55,8 +55,8 @@ fn add_list(
     Ok(())
 }
 
-/// The row bound of each FROM entry, and the list of each column that an equality of the query joins, once each. `parts` is what `split` makes
-/// of the query.
+/// The row bound of each FROM entry, and the list of each column that an equality of the query joins. A column that several equalities join
+/// has one list. `parts` is what `split` makes of the query.
 pub fn entry_lists(
     alloc: Global,
     query: &Query,

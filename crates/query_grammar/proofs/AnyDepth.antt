@@ -1,4 +1,4 @@
--- The reader of conditions reads the language of conditions with any number of parentheses.
+-- The reader of conditions reads the language of conditions with parentheses nested to any depth.
 use Rattle.std.proofs.Common.{◌≡◌, ℕ, zero, suc, ◌+◌, ◌≤◌, Option, Some, None, List, ◌++◌, sym, ap, ◌∙◌, arith}
 use Rattle.ll_grammars.specs.declared.lexeme.Lexeme.{Lexeme}
 use Rattle.ll_grammars.specs.declared.terminal.Terminal.TheVariants as terminal
@@ -12,7 +12,7 @@ use Rattle.query_grammar.specs.Readers.{read_within, read_condition}
 use Rattle.query_grammar.proofs.ConditionRules.{cond_shape, reads_within}
 use Rattle.query_grammar.proofs.EnoughDepth.{within_alike}
 
--- ---- what is spelled with some parentheses is spelled with more
+-- ---- a text of conditions nested at most n deep is also one of conditions nested at most m deep, if n ≤ m
 
 conds_grow : (T T' : Language CondNode) → IsIn T T' → IsIn (ConditionOf T) (ConditionOf T')
 conds_grow T T' h = made_grows _ _ _ (listed_grows terminal.Or _ _ (made_grows _ _ _ (listed_grows terminal.And _ _ (made_grows _ _ _ (then_grows _ _ _ _ (itself_grows _) h)))))
@@ -32,7 +32,7 @@ tests_grow (suc n) (suc m) le = tests_of_grow (ConditionOf (TestWithin n)) (Cond
 grows : (n m : ℕ) → n ≤ m → IsIn (ConditionOf (TestWithin n)) (ConditionOf (TestWithin m))
 grows n m le = conds_grow (TestWithin n) (TestWithin m) (tests_grow n m le)
 
--- ---- the reader
+-- ---- the reader reads each text with as much depth as the text is nested
 
 enough : (n : ℕ) (text : List Lexeme) → nesting text ≤ n → read_condition text ≡ read_within n text
 unfolding read_condition

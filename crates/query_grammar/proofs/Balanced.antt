@@ -1,5 +1,5 @@
--- What follows a text of a condition's rules is nested no deeper than text and follow-up together: each text closes what it
--- opens.
+-- Each text of a condition's rules closes the parentheses that it opens: so the tokens after the text are nested no deeper than the text and
+-- these tokens together.
 use Rattle.std.proofs.Common.{◌≡◌, ℕ, zero, suc, ◌≤◌, true, Option, Some, None, List, [], ◌∷◌, ◌++◌, inl, inr, refl, sym, subst, append_assoc, arith}
 use Rattle.ll_grammars.specs.declared.lexeme.Lexeme.{Lexeme}
 use Rattle.ll_grammars.specs.declared.terminal.Terminal.{Terminal}
@@ -18,7 +18,7 @@ use Rattle.query_grammar.proofs.Counting.{nesting-behind, keeps_open, opens_one,
 pub record IsBalanced {A : Type 0} (L : Language A) : Type 0 where
   pub closes : (front : List Lexeme) (value : A) → L front value → (n : ℕ) (rest : List Lexeme) → nesting_from n rest ≤ nesting_from n (front ++ rest)
 
--- ---- languages put together
+-- ---- languages that are put together from languages whose texts close what they open
 
 one_balanced : (terminals : List Terminal) → apart (terminal.Close ∷ []) terminals ≡ true → IsBalanced (one terminals)
 one_balanced terminals h = record {

@@ -1,4 +1,4 @@
--- The readers of FROM, WHERE and whole queries read their rules, where conditions are the texts of C, and c reads them.
+-- The readers of FROM, WHERE and whole queries read their rules. C is the language of conditions, and the parser c reads it.
 use Rattle.std.proofs.Common.{refl}
 use Rattle.ll_grammars.specs.declared.terminal.Terminal.TheVariants as terminal
 use Rattle.ll_grammars.specs.Language.{Language, ◌▸◌, made, many}

@@ -1,4 +1,4 @@
--- The tokens of a condition are those of its members.
+-- The tokens of a condition have P if the tokens of its members have P.
 use Rattle.std.proofs.Common.{◌≡◌, All, List, [], ◌∷◌, map, refl, sym, ap, subst, ◌∙◌}
 use Rattle.std.proofs.lemmas.List.Elements.{All-nil, All-cons, All-head, All-tail}
 use Rattle.ll_grammars.specs.declared.lexeme.Lexeme.{Lexeme}
@@ -10,7 +10,7 @@ use Rattle.query_grammar.specs.declared.tree.CondNode.TheOpen.{CondNode-F}
 use Rattle.query_grammar.specs.declared.tree.CondNode.TheOpen as layer
 use Rattle.query_grammar.specs.Lexemes.{IsTestOf, IsLayerOf, IsCondOf}
 
--- members and the facts of them, in pairs
+-- the lemmas go over conditions in pairs: a condition, and the fact that its tokens have P
 abbrev Held : (Lexeme → Type 0) → Type 0
 Held P = (c : CondNode) × IsCondOf P c
 
@@ -37,7 +37,7 @@ module _ (P : Lexeme → Type 0) where
       let pairs = paired P cs h in
       subst (IsCondOf P) (rolls-Or cs) (every_made-CondNode (IsLayerOf P) (layer.Or cs) (layer.Or pairs.0) (ap (λ (x : List CondNode). layer.Or x) pairs.1) tt)
 
--- ---- and back
+-- ---- the conditions in a list of these pairs have tokens with P
 
 unpaired : (P : Lexeme → Type 0) (held : List (Held P)) → All (IsCondOf P) (map (λ (e : Held P). e.0) held)
 unpaired P [] = All-nil (IsCondOf P)

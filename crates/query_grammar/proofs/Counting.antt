@@ -1,4 +1,4 @@
--- Facts of how many parentheses are open.
+-- These lemmas are about the number of open parentheses, and about how deep they are nested.
 use Rattle.std.proofs.Common.{◌≡◌, ℕ, suc, ◌-◌, ◌≤◌, Bool, true, false, cond, List, [], ◌∷◌, ◌++◌, refl, subst, arith}
 use Rattle.ll_grammars.specs.declared.lexeme.Lexeme.{Lexeme}
 use Rattle.ll_grammars.specs.declared.terminal.Terminal.TheVariants as terminal
@@ -11,12 +11,10 @@ step_more a b le true y = omega arith
 step_more a b le false true = omega arith
 step_more a b le false false = le
 
--- what is open now counts
 pub nesting-here : (n : ℕ) (text : List Lexeme) → n ≤ nesting_from n text
 nesting-here n [] = omega arith
 nesting-here n (t ∷ rest) = omega arith
 
--- what comes behind a token counts
 pub nesting-behind : (n : ℕ) (t : Lexeme) (rest : List Lexeme) → nesting_from (behind n t) rest ≤ nesting_from n (t ∷ rest)
 nesting-behind n t rest = omega arith
 
@@ -26,7 +24,6 @@ nesting-more (t ∷ rest) a b le =
     let ih : nesting_from (behind a t) rest ≤ nesting_from (behind b t) rest = nesting-more rest (behind a t) (behind b t) (step_more a b le (among (terminal.Open ∷ []) t.terminal) (among (terminal.Close ∷ []) t.terminal)) in
     omega arith
 
--- what follows is nested no deeper, where none was open before
 pub nesting-rest : (front rest : List Lexeme) → nesting_from 0 rest ≤ nesting_from 0 (front ++ rest)
 nesting-rest [] rest = omega arith
 nesting-rest (t ∷ front) rest =
@@ -35,7 +32,6 @@ nesting-rest (t ∷ front) rest =
     let behind = nesting-behind 0 t (front ++ rest) in
     omega arith
 
--- a token that closes none
 pub keeps_open : (n : ℕ) (t : Lexeme) (rest : List Lexeme) → among (terminal.Close ∷ []) t.terminal ≡ false → nesting_from n rest ≤ nesting_from n (t ∷ rest)
 keeps_open n t rest h =
     let more = nesting-more rest n (behind n t) (at (among (terminal.Open ∷ []) t.terminal) (among (terminal.Close ∷ []) t.terminal) h) in
@@ -46,7 +42,6 @@ keeps_open n t rest h =
       at false true h = absurd cc
       at false false h = omega arith
 
--- a token that opens one, and one that closes one
 pub opens_one : (n : ℕ) (t : Lexeme) → among (terminal.Open ∷ []) t.terminal ≡ true → behind n t ≡ suc n
 opens_one n t h = rw h refl
 
@@ -60,7 +55,6 @@ closes_one n t rest =
       at false true = omega arith
       at false false = omega arith
 
--- where all that may be open are, no more is opened
 pub none_opens : (n limit : ℕ) (text : List Lexeme) → limit ≤ n → nesting_from n text ≤ limit → starts (terminal.Open ∷ []) text ≡ false
 none_opens n limit [] le within = refl
 none_opens n limit (t ∷ rest) le within = at (among (terminal.Open ∷ []) t.terminal) refl where

@@ -1,4 +1,4 @@
--- A loop that counts open parentheses from left to right finds how deep they are nested.
+-- A loop that counts open parentheses from left to right finds how deep parentheses are nested.
 use Rattle.std.proofs.Common.{nat_cmp, rules, ◌≡◌, ℕ, suc, ◌+◌, ◌-◌, ◌≤◌, ◌<◌, max, Bool, true, false, cond, List, [], ◌∷◌, length, drop, get_or, sym, ap, ◌∙◌, add-one, arith}
 use Rattle.std.specs.Ordering.{ord_max}
 use Rattle.std.proofs.Math.Seq.{drop-cons}

@@ -1,4 +1,4 @@
--- From the depth on that the tokens open at one place, more depth makes no difference.
+-- A reader with enough depth for the nesting of the tokens reads the same as a reader with more depth.
 use Rattle.std.proofs.Common.{◌≡◌, ℕ, zero, suc, ◌+◌, ◌-◌, ◌≤◌, ◌<◌, Bool, true, false, List, [], ◌∷◌, refl, sym, ap, subst, ◌∙◌, arith}
 use Rattle.ll_grammars.specs.declared.lexeme.Lexeme.{Lexeme}
 use Rattle.ll_grammars.specs.declared.terminal.Terminal.TheVariants as terminal
@@ -18,7 +18,7 @@ use Rattle.query_grammar.proofs.ConditionRules.{test_shape, reads_factor, reads_
 use Rattle.query_grammar.proofs.Counting.{nesting-behind, opens_one, none_opens}
 use Rattle.query_grammar.proofs.Balanced.{IsBalanced, word_balanced, negations_balanced, next_balanced, factors_balanced, terms_balanced, conds_balanced, tests_balanced}
 
--- ---- how a test is read at a depth
+-- ---- how a test is read with a given depth
 
 pub test_zero : (n : ℕ) (text : List Lexeme) → n ≡ 0 → read_test n text ≡ read_flat text
 unfolding read_test
@@ -38,7 +38,7 @@ opened : (n : ℕ) (x : Lexeme) (rest : List Lexeme) → among (terminal.Open �
 unfolding read_test read_inside
 opened n x rest h = rw h refl
 
--- ---- on lists that are nested so deep at most
+-- ---- readers on token lists whose nesting, with n open parentheses before them, is at most `limit`
 
 abbrev pub Within : ℕ → ℕ → List Lexeme → Type 0
 Within n limit text = nesting_from n text ≤ limit
@@ -89,7 +89,6 @@ inside_alike n limit c c' stay same x rest h within =
     then_alike (Within (suc n) limit) c c' (read_word terminal.Close) (read_word terminal.Close) stay same (itself_alike (Within (suc n) limit) (read_word terminal.Close)) rest deeper in
     rw h (ap (λ (y : Answer (CondNode × Lexeme)). (y >>= λ b. give (x, b)) >>= λ parts. give (middle parts)) e)
 
--- a test one parenthesis deeper
 deeper_alike : (a b n limit : ℕ) → AreAlikeOn (Within (suc n) limit) (read_test a) (read_test b) → (text : List Lexeme) → Within n limit text → (opens : Bool) → starts (terminal.Open ∷ []) text ≡ opens → read_test (suc a) text ≡ read_test (suc b) text
 deeper_alike a b n limit same text within false e = test_flat (suc a) text e ∙ sym (test_flat (suc b) text e)
 deeper_alike a b n limit same [] within true e = absurd cc
@@ -98,7 +97,6 @@ deeper_alike a b n limit same (x ∷ rest) within true e =
     let stay = stays_within (suc n) limit (reads_cond (reads_test a)) (conds_balanced (tests_balanced a)) in
     opened a x rest e ∙ inside_alike n limit (read_cond (read_test a)) (read_cond (read_test b)) stay alike x rest e within ∙ sym (opened b x rest e)
 
--- where n are open, and the limit is passed at neither depth
 pub test_alike : (a b n limit : ℕ) → limit ≤ n + a → limit ≤ n + b → AreAlikeOn (Within n limit) (read_test a) (read_test b)
 test_alike zero b n limit le le' text within = let h = none_opens n limit text (omega arith) within in test_flat zero text h ∙ sym (test_flat b text h)
 test_alike (suc a) zero n limit le le' text within = let h = none_opens n limit text (omega arith) within in test_flat (suc a) text h ∙ sym (test_flat zero text h)

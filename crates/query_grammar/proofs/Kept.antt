@@ -1,4 +1,4 @@
--- The tokens of a query's syntax tree are those of the text.
+-- The tokens of a query's syntax tree are tokens of its text.
 use Rattle.std.proofs.Common.{Bool, true, false, All, Contains, IfSome, Option, Some, None, List, [], ◌∷◌, ℕ, zero, suc}
 use Rattle.std.proofs.lemmas.List.Elements.{All-head}
 use Rattle.ll_grammars.specs.declared.lexeme.Lexeme.{Lexeme}
@@ -101,7 +101,6 @@ module _ (P : Lexeme → Type 0) where
       keeps_union (keeps_made everything (IsOutListOf P) (keeps_word P terminal.Star) (λ star q. tt))
       (keeps_made these_outs (IsOutListOf P) (keeps_listed terminal.Comma out_of) (λ list q. q))
 
-  -- where every token of the text has P, so has every token of its tree
   pub query_of : Keeps P QuerySpecification (IsQueryOf P)
   unfolding QuerySpecification IsQueryOf
   query_of =

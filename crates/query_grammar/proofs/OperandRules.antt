@@ -1,4 +1,4 @@
--- Each reader reads its rule: names, columns, literals, operands and operators.
+-- The readers of names, columns, literals, operands and operators read their rules.
 use Rattle.std.proofs.Common.{refl}
 use Rattle.ll_grammars.specs.declared.terminal.Terminal.TheVariants as terminal
 use Rattle.ll_grammars.specs.Language.{one, ◌▸◌, made, maybe}

@@ -1,4 +1,4 @@
--- The readers of outputs read their rules. A name is read before it is known whether it is an alias or a column's.
+-- The readers of outputs read their rules. A name is read before it is known whether it is an alias or the name of a column.
 use Rattle.std.proofs.Common.{◌≡◌, Option, Some, None, List, [], ◌++◌, inl, inr, refl, sym, ap, ◌∙◌, append_assoc}
 use Rattle.std.proofs.lemmas.List.{append-nil}
 use Rattle.ll_grammars.specs.declared.lexeme.Lexeme.{Lexeme}
@@ -68,7 +68,6 @@ to_outs text v l = at l.2.second where
     },
   )
 
--- a column and its new name
 from_column : (text front rest : List Lexeme) (c : ColumnNode) (new : Option Lexeme) (v : OutNode) → one_column (c, new) ≡ v → text ≡ front ++ rest → NewName rest new
     → (name : Lexeme) (other : Option Lexeme) → column (name, other) ≡ c → Then Name (maybe (made second (word terminal.Dot ▸ Name))) front (name, other) → Factored text v
 from_column text front rest c new v e whole l name None made_ t = (

@@ -1,4 +1,4 @@
--- What the reader gives for small texts, by computation.
+-- These examples compute what the reader gives for small texts.
 use Rattle.std.proofs.Common.{◌≡◌, ◌≤◌, Some, None, List, [], ◌∷◌, refl, arith}
 use Rattle.ll_grammars.specs.declared.lexeme.Lexeme.{Lexeme}
 use Rattle.ll_grammars.specs.declared.terminal.Terminal.TheVariants as terminal

@@ -1,4 +1,4 @@
--- What the parser answers for a whole list of tokens that is nested no deeper than the limit.
+-- These lemmas say what the parser returns for a whole list of tokens that is nested no deeper than the limit.
 use Rattle.std.proofs.Common.{◌≡◌, ℕ, ◌≤◌, true, false, List, [], ◌∷◌, Some, None, refl, sym, ◌∙◌, arith}
 use Rattle.ll_grammars.specs.declared.lexeme.Lexeme.{Lexeme}
 use Rattle.ll_grammars.specs.declared.terminal.Terminal.TheVariants as terminal
@@ -27,7 +27,7 @@ pub reads_queries : Reads QuerySpecification query_shape (read_query read_condit
 unfolding QuerySpecification
 reads_queries = reads_query reads_condition
 
--- ---- with a depth that the tokens don't pass, the reader does the same
+-- ---- a reader whose depth is at least the nesting of the tokens reads the same as the reader without a limit
 
 abbrev Shallow : ℕ → List Lexeme → Type 0
 Shallow n text = nesting text ≤ n
@@ -91,7 +91,7 @@ module _ (n : ℕ) where
       (then_alike P _ _ _ _ (stays_shallow n (reads_parts (reads_within n))) parts_alike
       (then_alike P _ _ _ _ (stays_shallow n (reads_filter (reads_within n))) filter_alike (itself_alike P _))))))
 
--- ---- the answers
+-- ---- the results of the parser
 
 pub spelled : (n : ℕ) (tokens : List Lexeme) (q : QueryNode) (rest : List Lexeme) → nesting tokens ≤ n → read_query (read_within n) tokens ≡ (Some q, rest) → is_empty rest ≡ true → QuerySpecification tokens q
 spelled n tokens q rest shallow e h = ends.spelled reads_queries tokens q rest (sym (query_alike n tokens shallow) ∙ e) h

@@ -20,7 +20,7 @@ use Rattle.query_grammar.specs.declared.tree.OutsNode.{OutsNode}
 use Rattle.query_grammar.specs.declared.tree.QueryNode.{QueryNode}
 use Rattle.query_grammar.specs.Values.{stands, meaning, column, number, text, of_column, of_literal, comparison, between, among_values, tested, negate, all_of, any_of, source, join, part, all_columns, one_column, everything, these_outs, query}
 
--- KEY, NO, ACTION and CASCADE are names here
+-- the terminals of a name. KEY, NO, ACTION and CASCADE are names in a query
 abbrev pub name_terminals : List Terminal
 name_terminals = terminal.Name ∷ terminal.Key ∷ terminal.No ∷ terminal.Action ∷ terminal.Cascade ∷ []
 
@@ -78,12 +78,12 @@ Predicate = made comparison (Operand ▸ ComparisonOperator ▸ Operand)
     ∪ made between (Operand ▸ Negation ▸ word terminal.Between ▸ Operand ▸ word terminal.And ▸ Operand)
     ∪ made among_values (Operand ▸ Negation ▸ word terminal.In ▸ InValueList)
 
--- "(" cond ")" or a predicate, where conditions are the texts of C
+-- "(" cond ")" or a predicate. C is the language of conditions
 abbrev pub BooleanTest : Language CondNode → Language CondNode
 BooleanTest C = in_parentheses C
     ∪ made tested Predicate
 
--- ---- conditions, where tests are the texts of T
+-- ---- conditions. T is the language of tests
 
 -- [ NOT ] test
 abbrev pub BooleanFactor : Language CondNode → Language CondNode
@@ -101,7 +101,7 @@ ConditionOf T = made any_of (listed terminal.Or (BooleanTerm T))
 abbrev pub Nothing : {A : Type 0} → Language A
 Nothing text value = ⊥
 
--- the tests in which parentheses around conditions are nested at most so deep
+-- the tests in which parentheses around conditions are nested at most n deep
 abbrev pub TestWithin : ℕ → Language CondNode
 TestWithin zero = BooleanTest Nothing
 TestWithin (suc n) = BooleanTest (ConditionOf (TestWithin n))
@@ -110,7 +110,7 @@ TestWithin (suc n) = BooleanTest (ConditionOf (TestWithin n))
 unfoldable pub SearchCondition : Language CondNode
 SearchCondition text value = (n : ℕ) × ConditionOf (TestWithin n) text value
 
--- ---- queries, where conditions are the texts of C
+-- ---- queries. C is the language of conditions
 
 -- name [ [ AS ] name ]
 abbrev pub TableReference : Language SourceNode

@@ -1,5 +1,5 @@
--- Each token of a query's syntax tree has a property P, and is of the kind that its place asks. For example, a name has one of the terminals
--- of names, and the digits of a number are a number.
+-- Each token of a query's syntax tree has a property P, and has a terminal that its place asks for. For example, a name has one of the
+-- terminals of names, and the digits of a number have a number's terminal.
 use Rattle.std.specs.Prelude.{All, IfSome, ⊤, [], ◌∷◌}
 use Rattle.ll_grammars.specs.declared.lexeme.Lexeme.{Lexeme}
 use Rattle.ll_grammars.specs.declared.terminal.Terminal.TheVariants as terminal
@@ -43,14 +43,14 @@ IsTestOf P (test.Compare left op right) = IsOperandOf P left × IsOperandOf P ri
 IsTestOf P (test.Between left negated low high) = IsOperandOf P left × IsOperandOf P low × IsOperandOf P high
 IsTestOf P (test.In left negated values) = IsOperandOf P left × All (IsLiteralOf P) values
 
--- one layer of a condition: a test's tokens have P. AND, OR and NOT have no tokens of their own
+-- a condition without its members: a test's tokens have P, and AND, OR and NOT have no tokens of their own
 abbrev pub IsLayerOf : (Lexeme → Type 0) → CondNode-F CondNode → Type 0
 IsLayerOf P (layer.And members) = ⊤
 IsLayerOf P (layer.Or members) = ⊤
 IsLayerOf P (layer.Not inner) = ⊤
 IsLayerOf P (layer.Test t) = IsTestOf P t
 
--- every layer of the condition
+-- the tokens of all tests in the condition have P
 abbrev pub IsCondOf : (Lexeme → Type 0) → CondNode → Type 0
 IsCondOf P c = every-CondNode (IsLayerOf P) c
 

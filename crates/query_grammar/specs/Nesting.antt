@@ -4,13 +4,13 @@ use Rattle.ll_grammars.specs.declared.lexeme.Lexeme.{Lexeme}
 use Rattle.ll_grammars.specs.declared.terminal.Terminal.TheVariants as terminal
 use Rattle.ll_grammars.specs.Terminals.{among}
 
--- how many parentheses are open after a token, if `open_` are open before it. A ")" without an open parenthesis closes nothing
+-- how many parentheses are open after a token, if `open_` parentheses are open before it. A ")" without an open parenthesis closes nothing
 abbrev pub behind : ℕ → Lexeme → ℕ
 behind open_ token =
     if among (terminal.Open ∷ []) token.terminal then suc open_
     else (if among (terminal.Close ∷ []) token.terminal then open_ - 1 else open_)
 
--- how many parentheses are open before the first token and after each token
+-- how many parentheses are open before the first token (`open_`) and after each token
 abbrev pub open_counts : ℕ → List Lexeme → List ℕ
 open_counts open_ [] = open_ ∷ []
 open_counts open_ (token ∷ rest) = open_ ∷ open_counts (behind open_ token) rest
@@ -19,7 +19,7 @@ abbrev pub greatest : List ℕ → ℕ
 greatest [] = 0
 greatest (n ∷ ns) = max n (greatest ns)
 
--- how deep parentheses are nested in the tokens, if `open_` are open before them; below, if 0 are
+-- how deep parentheses are nested in the tokens, if `open_` parentheses are open before them; for `nesting`, no parenthesis is open before them
 abbrev pub nesting_from : ℕ → List Lexeme → ℕ
 nesting_from open_ tokens = greatest (open_counts open_ tokens)
 

@@ -1,5 +1,5 @@
--- The rules of the grammar as parsers from left to right, with one token of look-ahead. Where a rule's alternatives begin alike, this
--- beginning is read first, and each alternative gives a function of it.
+-- The rules of the grammar as parsers from left to right, with one token of look-ahead. If the alternatives of a rule begin alike, this
+-- beginning is read first. What each alternative then reads is a function of the beginning.
 use Rattle.std.specs.Prelude.{ℕ, zero, suc, Bool, Option, Some, None, List, [], ◌∷◌}
 use Rattle.ll_grammars.specs.declared.lexeme.Lexeme.{Lexeme}
 use Rattle.ll_grammars.specs.declared.terminal.Terminal.{Terminal}
@@ -25,36 +25,36 @@ use Rattle.query_grammar.specs.Values.{stands, meaning, column, number, text, of
 use Rattle.query_grammar.specs.Nesting.{nesting}
 use Rattle.query_grammar.specs.Grammar.{name_terminals, sign_terminals, digit_terminals}
 
--- ---- what follows a first part, as a function of that part
+-- ---- what an alternative reads after the common beginning, as a function of the beginning
 
 abbrev pub applied : {A B : Type 0} → A × (A → B) → B
 applied parts = parts.1 parts.0
 
--- operator, operand
+-- an operator and the right operand are read after the left operand
 abbrev pub compare : Op × OperandNode → OperandNode → TestNode
 compare parts left = test.Compare left parts.0 parts.1
 
--- BETWEEN, the lower end, AND, the upper end
+-- BETWEEN, the lower end, AND and the upper end are read after the operand and an optional NOT
 abbrev pub ranged : Lexeme × (OperandNode × (Lexeme × OperandNode)) → Bool → OperandNode → TestNode
 ranged parts negated operand = test.Between operand negated parts.1.0 parts.1.1.1
 
--- IN, the values
+-- IN and the values are read after the operand and an optional NOT
 abbrev pub listed_in : Lexeme × List LiteralNode → Bool → OperandNode → TestNode
 listed_in parts negated operand = test.In operand negated parts.1
 
--- the star after the dot
+-- the star is read after the table's name and the dot
 abbrev pub star_of : Lexeme → Lexeme → OutNode
 star_of star table = out.All table
 
--- the column's name, the new name
+-- the column's name and an optional new name are read after the table's name and the dot
 abbrev pub qualified : Lexeme × Option Lexeme → Lexeme → OutNode
 qualified parts table = out.Column (record { table = Some table; column = parts.0 }) parts.1
 
--- the new name
+-- an optional new name is read after the column's name
 abbrev pub plain : Option Lexeme → Lexeme → OutNode
 plain name column = out.Column (record { table = None; column = column }) name
 
--- ---- first terminals
+-- ---- terminals with which a rule may begin
 
 abbrev pub new_name_first : List Terminal
 new_name_first = terminal.As ∷ name_terminals
@@ -132,7 +132,7 @@ read_predicate =
 unfoldable pub read_flat : Parser CondNode
 read_flat = read_made tested read_predicate
 
--- ---- conditions, where t reads a test
+-- ---- conditions. The parser `t` reads a test
 
 unfoldable pub read_factor : Parser CondNode → Parser CondNode
 read_factor t = read_made negate (read_then read_negation t)
@@ -158,7 +158,7 @@ read_cond t = read_made any_of (read_terms t)
 unfoldable pub read_inside : Parser CondNode → Parser CondNode
 read_inside t = read_in_parentheses (read_cond t)
 
--- a test in which parentheses are nested at most so deep
+-- a test in which parentheses are nested at most n deep
 unfoldable pub read_test : ℕ → Parser CondNode
 read_test zero = read_flat
 read_test (suc n) = read_either (terminal.Open ∷ []) (read_inside (read_test n)) read_flat
@@ -170,7 +170,7 @@ read_within n = read_cond (read_test n)
 unfoldable pub read_condition : Parser CondNode
 read_condition text = read_within (nesting text) text
 
--- ---- queries, where c reads a condition
+-- ---- queries. The parser `c` reads a condition
 
 unfoldable pub read_source : Parser SourceNode
 read_source = read_made source (read_then read_name read_new_name)

@@ -1,4 +1,4 @@
--- What a rule makes of its parts: the value of a text from the values of the texts that it is put together from.
+-- The value of a text from the values of its parts, for each rule of the grammar. A comment lists the parts in the order of the text.
 use Rattle.std.specs.Prelude.{Bool, true, false, Option, Some, None, List, [], ◌∷◌}
 use Rattle.ll_grammars.specs.declared.lexeme.Lexeme.{Lexeme}
 use Rattle.query_grammar.specs.declared.tree.ColumnNode.{ColumnNode}
@@ -20,7 +20,7 @@ use Rattle.query_grammar.specs.declared.tree.OutsNode.{OutsNode}
 use Rattle.query_grammar.specs.declared.tree.OutsNode.TheVariants as outs
 use Rattle.query_grammar.specs.declared.tree.QueryNode.{QueryNode}
 
--- whether an optional word stands there
+-- whether an optional word is written
 abbrev pub stands : Option Lexeme → Bool
 stands None = false
 stands (Some word) = true
@@ -70,7 +70,7 @@ abbrev pub negate : Bool × CondNode → CondNode
 negate (false, c) = c
 negate (true, c) = cond.Not c
 
--- a chain of ANDs, or below of ORs, that has one member is that member
+-- conditions that are connected by AND, and in `any_of` by OR. A single condition stays as it is
 abbrev pub all_of : List CondNode → CondNode
 all_of (c ∷ []) = c
 all_of [] = cond.And []

@@ -10,7 +10,7 @@ use crate::tree::CondNode;
 use base_io::{Boxed, Seq};
 use ll_grammars::{Reader, Stop};
 
-/// The AND of these conditions. One alone stays as it is.
+/// The AND of these conditions. A single condition stays as it is.
 fn every(mut conditions: Seq<CondNode>) -> CondNode
     ensures { result ≡ all_of conditions }
 {
@@ -24,7 +24,7 @@ fn every(mut conditions: Seq<CondNode>) -> CondNode
     }
 }
 
-/// The OR of these conditions. One alone stays as it is.
+/// The OR of these conditions. A single condition stays as it is.
 fn any(mut conditions: Seq<CondNode>) -> CondNode
     ensures { result ≡ any_of conditions }
 {
@@ -38,7 +38,7 @@ fn any(mut conditions: Seq<CondNode>) -> CondNode
     }
 }
 
-/// NOT of the condition if `negated`, else the condition.
+/// NOT of the condition if `negated`, otherwise the condition itself.
 fn negated_if(reader: &Reader<'_>, negated: bool, condition: CondNode) -> Result<CondNode, Stop>
     ensures value { IfOk result (λ c. c ≡ negate (negated, condition)) }
     ensures memory { IfErr result (λ e. e ≡ Stop.NoMemory) }

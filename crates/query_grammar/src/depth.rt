@@ -8,7 +8,7 @@ use ll_grammars::{Lexeme, is_among};
 /// The most parentheses that may be open at once in a query text.
 pub const MAX_NESTING: u32 = 64;
 
-/// How many parentheses are open after a token, if `opened` are open before it.
+/// How many parentheses are open after `token`, if `opened` parentheses are open before it.
 fn open_behind(opened: u64, token: Lexeme) -> u64
     requires { opened + 1 < 2 ^ 64 }
     ensures { result ≡ behind opened token }

@@ -1,4 +1,4 @@
-//! What the grammar says of small texts.
+//! Examples: which trees small texts spell, and where they go wrong.
 ghost use Rattle.ll_grammars.specs.Places.{IsSyntaxPlace};
 ghost use Rattle.query_grammar.specs.Examples.{precedence, precedence_tree, grouped, grouped_tree, not_twice, inner_alone};
 ghost use Rattle.query_grammar.specs.Grammar.{QuerySpecification};

@@ -10,7 +10,7 @@ use crate::tree::{ColumnNode, LiteralNode, OperandNode};
 use base_io::Seq;
 use ll_grammars::{Lexeme, Reader, Stop, Terminal};
 
-/// Reads the next token if it is one of these terminals.
+/// Reads the next token if its terminal is one of `terminals`.
 pub fn optional(reader: &mut Reader<'_>, terminals: &[Terminal]) -> Result<Option<Lexeme>, Stop>
     ensures { IsReadAs result reader.new (read_maybe terminals.now (read_one terminals.now) reader.old) }
 {

@@ -35,7 +35,7 @@ fn operator(reader: &mut Reader<'_>) -> Result<Op, Stop>
     }
 }
 
-/// Whether the next token is NOT. If it is, it is read.
+/// Reads NOT, if it is the next token, and says whether it was.
 #[tactic(auto, unfolding(crate::specs::Readers::read_negation))]
 pub fn negation(reader: &mut Reader<'_>) -> Result<bool, Stop>
     ensures { IsReadAs result reader.new (read_negation reader.old) }
@@ -48,7 +48,7 @@ pub fn negation(reader: &mut Reader<'_>) -> Result<bool, Stop>
     }
 }
 
-/// A comparison, BETWEEN or IN. The operand is read first, since all three begin with one.
+/// A comparison, BETWEEN or IN. The left operand is read first, since all three begin with an operand.
 #[tactic(auto, unfolding(crate::specs::Readers::read_predicate))]
 fn predicate(reader: &mut Reader<'_>) -> Result<TestNode, Stop>
     ensures { IsReadAs result reader.new (read_predicate reader.old) }
@@ -86,7 +86,7 @@ fn predicate(reader: &mut Reader<'_>) -> Result<TestNode, Stop>
     }
 }
 
-/// A test with no parenthesis around it.
+/// A test without parentheses around it.
 #[tactic(auto, unfolding(crate::specs::Readers::read_flat))]
 pub fn flat_test(reader: &mut Reader<'_>) -> Result<CondNode, Stop>
     ensures { IsReadAs result reader.new (read_flat reader.old) }

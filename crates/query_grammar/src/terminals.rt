@@ -1,4 +1,4 @@
-//! Sets of terminals for the parser of queries. A rule may begin with any one of a set, or takes any one of it as its next token.
+//! Sets of terminals (kinds of tokens) for the parser of queries. With a set, the parser asks how a rule may begin, or which tokens it takes next.
 pub use ll_grammars::NAME;
 use ll_grammars::Terminal;
 

@@ -1,8 +1,8 @@
-//! The syntax tree of a query text. Names, numbers and texts are its tokens, as they stand in the text.
+//! The syntax tree of a query text. Names, numbers and texts are tokens of the query text.
 use base_io::{Boxed, Seq};
 use ll_grammars::Lexeme;
 
-/// A column's reference (SQL-92 6.4): its name, and the alias of its source where one is written.
+/// A reference to a column (SQL-92 6.4): the column's name, and the alias of its source, if one is written.
 #[derive(Clone, Copy, Debug)]
 pub struct ColumnNode {
     pub table: Option<Lexeme>,
@@ -19,7 +19,7 @@ pub enum LiteralNode {
     Text(Lexeme),
 }
 
-/// What a test compares.
+/// An operand of a test.
 #[derive(Clone, Copy, Debug)]
 pub enum OperandNode {
     Column(ColumnNode),
@@ -69,7 +69,7 @@ pub enum CondNode {
     Test(TestNode),
 }
 
-/// A source of rows (SQL-92 6.3): a table, and its alias where one is written.
+/// A source of rows (SQL-92 6.3): a table, and its alias, if one is written.
 #[derive(Clone, Copy, Debug)]
 pub struct SourceNode {
     pub table: Lexeme,
@@ -83,15 +83,14 @@ pub struct JoinedNode {
     pub on: CondNode,
 }
 
-/// What stands between the commas of FROM (SQL-92 7.4): a source and what is joined to it, from left to right.
+/// An item between the commas of FROM (SQL-92 7.4): a source, and the sources that are joined to it, from left to right.
 #[derive(Debug, Drop)]
 pub struct PartNode {
     pub first: SourceNode,
     pub joins: Seq<JoinedNode>,
 }
 
-/// An output (SQL-92 7.9): all columns of the source of this alias, or a column and its new name where one is
-/// written.
+/// An output (SQL-92 7.9): all columns of the source of this alias, or a column and its new name, if one is written.
 #[derive(Clone, Copy, Debug)]
 pub enum OutNode {
     All(Lexeme),

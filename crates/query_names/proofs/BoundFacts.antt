@@ -1,4 +1,4 @@
--- What bound operands tell of a test.
+-- A test is checked operand by operand: facts about its bound operands give facts about the test.
 use Rattle.std.proofs.Common.{◌≡◌, ℕ, ◌+◌, ◌<◌, ◌≤◌, Bool, List, [], ◌∷◌, ◌++◌, length, map, take, get_or, Option, Some, ap, subst, sym, ◌∙◌, refl}
 use Rattle.std.specs.Prelude.{is_none}
 use Rattle.std.specs.List.{flat_map}
@@ -39,7 +39,6 @@ use Rattle.query_names.proofs.LookSteps.{looked_of_equal, then_looked, flat_map_
 -- ---- one operand
 
 module _ (binder : Binder) (scope : Scope) where
-  -- a reference that stands for a column
   pub bound_column : (reference : ColumnNode) (column : EntryColumn) (to : ColumnRef) {o : OperandNode} {text : Bool} {begins : Lexeme}
       → o ≡ operand.Column reference → Some column ≡ resolved_by binder scope reference → (column.from < 256 → to ≡ resolved_column (Some column))
       → text ≡ is_text column.kind → begins ≡ head_of reference
@@ -62,7 +61,7 @@ module _ (binder : Binder) (scope : Scope) where
     value = λ _. ap (λ b. b.value) same;
   })
 
--- ---- names
+-- ---- a wrong name in an operand is a wrong name of the test
 
 module _ (binder : Binder) (scope : Scope) (t : TestNode) where
   pub wrong_left : {left : OperandNode} (e : QueryError) → left ≡ left_of t → IsNameError (name_offences_of binder scope left) e → IsNameError (test_offences_of binder scope t) e
@@ -84,7 +83,7 @@ module _ (binder : Binder) (scope : Scope) (t : TestNode) where
       (error_behind (name_offences_of binder scope low) (name_offences_of binder scope high ++ []) e before
       (name_error_append (name_offences_of binder scope high) [] e wrong)))
 
--- ---- comparisons
+-- ---- a comparison that was added
 
 module _ {binder : Binder} {scope : Scope} where
   kind_is : {left right : OperandNode} {l r : BoundOperand} → IsBound binder scope left l → IsBound binder scope right r
@@ -100,7 +99,6 @@ module _ {binder : Binder} {scope : Scope} where
   unfolding compared_by operand_by
   value_is {left} {right} {l} {r} how lb rb few = ap (λ v. cond.Compare how v r.value) (lb.value few) ∙ ap (λ v. cond.Compare how (operand_by binder scope left) v) (rb.value few)
 
-  -- the left operand, where it is known what the test is
   bound_left : (t : TestNode) {o left : OperandNode} {l : BoundOperand} → o ≡ left_of t → left_of t ≡ left → IsBound binder scope o l → IsBound binder scope left l
   bound_left t {l = l} from is bound = subst (λ o. IsBound binder scope o l) (from ∙ is) bound
 
@@ -139,7 +137,7 @@ module _ {binder : Binder} {scope : Scope} where
       (λ few. ap (λ c. c ∷ cond.Compare op.Le l.value b.value ∷ []) (value_is op.Ge lb ab few) ∙ ap (λ c. compared_by binder scope op.Ge left low ∷ c ∷ []) (value_is op.Le lb bb few))
       (then_looked first second))
 
--- ---- lists of IN
+-- ---- the values of an IN list
 
 no_names : (binder : Binder) (scope : Scope) (values : List LiteralNode) → flat_map (name_offences_of binder scope) (map of_literal values) ≡ []
 unfolding name_offences_of
@@ -183,7 +181,6 @@ in_looked {binder} {scope} {t} {o} {left} negated {values} {items} {l} {held} {m
           ∙ equal_values binder scope left values)
           (then_looked (noted list) looked)
 
--- one more value
 pub equality_more : {binder : Binder} (l : BoundOperand) (values : List LiteralNode) {i : ℕ} (d : LiteralNode) {other : BoundOperand} {held mid held' : HeldOffences} {found between found' : List Cond}
     → i < length values
     → Looked binder [] (flat_map (wrong_literal l.is_text) (take i values)) [] held mid found between (map (equal_to binder.text.now l.value) (take i values))

@@ -1,4 +1,4 @@
--- What looking at the parts of a test tells of the test.
+-- If the parts of a test were checked, the test was checked.
 use Rattle.std.proofs.Common.{◌≡◌, List, [], ◌++◌, ap, ◌∙◌, refl}
 use Rattle.std.specs.List.{flat_map}
 use Rattle.query_grammar.specs.declared.tree.TestNode.{TestNode}

@@ -1,4 +1,4 @@
--- What looking at the parts of a condition tells of the condition.
+-- If the parts of a condition were checked, the condition was checked.
 use Rattle.std.proofs.Common.{◌≡◌, ◌⊎◌, inl, inr, ℕ, ◌≤◌, List, [], ◌∷◌, ◌++◌, length, map, None, ap, subst, sym, ◌∙◌, refl}
 use Rattle.std.specs.List.{flat_map}
 use Rattle.std.proofs.lemmas.List.{append-nil}
@@ -20,11 +20,9 @@ use Rattle.query_names.proofs.TestFacts.{tests_chain, tests_not, tests_test}
 use Rattle.query_names.proofs.Meanings.{value_and, value_or, value_not, members_or, members_not}
 use Rattle.query_names.proofs.LookSteps.{looked_of_equal, looked_wrapped}
 
--- the one test of a condition
 pub alone : (f : TestNode → List ℕ) (t : TestNode) {c : CondNode} → c ≡ text.Test t → f t ≡ flat_map f (tests c)
 alone f t is = sym (append-nil (f t)) ∙ ap (flat_map f) (sym (ap tests is ∙ tests_test t))
 
--- the tests of several conditions
 pub of_and : {c : CondNode} {members items : List CondNode} → c ≡ text.And members → items ≡ members → flat_map tests items ≡ tests c
 of_and {c} {members} is same = ap (flat_map tests) same ∙ sym (tests_chain c members (inl is))
 
@@ -38,7 +36,7 @@ pub not_empty : {parts : List Cond} (one : Cond) → parts ≡ [] → parts ≡ 
 not_empty one none is = cc
 
 module _ (binder : Binder) (scope : Scope) where
-  -- only an AND, and a range, have other members than themselves
+  -- an OR or a NOT has itself as its one member
   pub one_member : {c : CondNode} → ((members : List CondNode) × (c ≡ text.Or members)) ⊎ ((member : CondNode) × (c ≡ text.Not member)) → value_by binder scope c ∷ [] ≡ members_by binder scope c
   one_member (inl h) = sym (ap (members_by binder scope) h.1 ∙ members_or binder scope h.0 ∙ ap (λ c. value_by binder scope c ∷ []) (sym h.1))
   one_member (inr h) = sym (ap (members_by binder scope) h.1 ∙ members_not binder scope h.0 ∙ ap (λ c. value_by binder scope c ∷ []) (sym h.1))

@@ -1,4 +1,5 @@
--- How `Looked` facts compose: of one part of a condition and of the next, so of both together.
+-- `Looked` is the state after some tests were checked. These lemmas go from the states of one part of a condition and the next part to the state of
+-- both together.
 use Rattle.std.proofs.Common.{◌≡◌, ℕ, ◌+◌, ◌<◌, ◌≤◌, List, [], ◌∷◌, ◌++◌, length, take, drop, get_or, None, ap, subst, sym, ◌∙◌, refl}
 use Rattle.std.proofs.lemmas.List.{append_assoc, append-nil, take_more, take_all, take-append-drop, flat_map_more}
 use Rattle.std.proofs.lemmas.Grind.{flat_map-append}
@@ -16,7 +17,6 @@ use Rattle.query_names.specs.Binding.{from_of, test_offences_of}
 use Rattle.query_names.specs.Looking.{Looked, LookedAt}
 use Rattle.query_names.proofs.Walk.{left_at, or_first_append, or_first-nil, none_before, error_behind, name_error_append}
 
--- `Looked` also holds of lists that are equal to its lists
 pub looked_of_equal : {binder : Binder} {names names' kinds kinds' lists lists' : List ℕ} {held held' : HeldOffences} {found found' more more' : List Cond}
     → names ≡ names' → kinds ≡ kinds' → lists ≡ lists' → (length (from_of binder) ≤ 12 → more ≡ more')
     → Looked binder names kinds lists held held' found found' more → Looked binder names' kinds' lists' held held' found found' more'
@@ -47,7 +47,7 @@ then_looked {kinds = kinds} {lists = lists} {names' = names'} {kinds' = kinds'} 
       next.built few none ∙ ap (λ l. l ++ more') (one.built few before) ∙ append_assoc found more more';
 }
 
--- the parts were built in a list of their own, and then one condition made of them was added to `found`
+-- the parts were built in a list of their own, and then one condition made of these parts was added to `found`
 pub looked_wrapped : {binder : Binder} {names kinds lists : List ℕ} {held held' : HeldOffences} {found found' start parts more : List Cond} {whole : Cond} (wrap : List Cond → Cond)
     → wrap more ≡ whole → start ≡ [] → Looked binder names kinds lists held held' start parts more → (length (from_of binder) ≤ 12 → held'.list ≡ None → found' ≡ found ++ wrap parts ∷ [])
     → Looked binder names kinds lists held held' found found' (whole ∷ [])
@@ -58,7 +58,7 @@ looked_wrapped {found = found} {more = more} wrap is empty l added = record {
   built = λ few none. added few none ∙ ap (λ c. found ++ c ∷ []) (ap wrap (l.built few none ∙ ap (λ s. s ++ more) empty) ∙ is);
 }
 
--- ---- a list of conditions, item by item
+-- ---- a list of conditions that is checked item by item
 
 pub flat_map_step : {A B : Type 0} (f : A → List B) (xs : List A) (i : ℕ) (d : A) → i < length xs → flat_map f (take i xs) ++ f (get_or xs i d) ≡ flat_map f (take (i + 1) xs)
 flat_map_step f xs i d below = flat_map_more f [] (take i xs) (get_or xs i d) ∙ ap (flat_map f) (sym (take_more xs i d below))
@@ -69,7 +69,6 @@ module _ (binder : Binder) (scope : Scope) where
       → LookedAt binder scope (flat_map tests cs) held held' found found' (more cs)
   looked_all cs {i} {held} {held'} {found} {found'} more done l = subst (λ taken. LookedAt binder scope (flat_map tests taken) held held' found found' (more taken)) (take_all i cs done) l
 
-  -- where no condition before place i has a wrong name, the name error of condition i is that of the whole list
   pub wrong_in : (cs : List CondNode) {i : ℕ} (d : CondNode) (e : QueryError)
       → i < length cs → flat_map (test_offences_of binder scope) (flat_map tests (take i cs)) ≡ []
       → IsNameError (flat_map (test_offences_of binder scope) (tests (get_or cs i d))) e → IsNameError (flat_map (test_offences_of binder scope) (flat_map tests cs)) e

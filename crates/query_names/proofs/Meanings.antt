@@ -1,4 +1,4 @@
--- What texts mean, part by part.
+-- The meaning of a condition of a text follows from the meanings of its parts.
 use Rattle.std.proofs.Common.{◌≡◌, ℕ, zero, suc, ◌<◌, ◌≤◌, List, [], ◌∷◌, ◌++◌, length, map, Some, ap, subst, sym, ◌∙◌, refl, arith}
 use Rattle.std.specs.Prelude.{slice_get, true, false}
 use Rattle.query_grammar.specs.declared.tree.ColumnNode.{ColumnNode}
@@ -50,7 +50,7 @@ several_of [] many = refl
 several_of (x ∷ []) many = absurd (many refl)
 several_of (x ∷ y ∷ parts) many = refl
 
--- ---- what the comparisons of a test make
+-- ---- the comparisons of a test make the condition that the test means
 
 module _ (binder : Binder) (scope : Scope) where
   pub whole_is : (t : TestNode) → test_condition t (comparisons_by binder scope t) ≡ test_value_by binder scope t
@@ -81,7 +81,7 @@ module _ (binder : Binder) (scope : Scope) where
   whole_member (test.In left true values) is = refl
   whole_member (test.In left false values) is = any_alone (map (equality (schema_of binder) binder.text.now (from_of binder) scope left) values)
 
--- ---- conditions, member by member
+-- ---- the meaning of an AND, an OR and a NOT, from the meanings of its members
 
 module _ (binder : Binder) (scope : Scope) where
   abbrev step : CondNode-F Meaning → Meaning
@@ -141,7 +141,7 @@ module _ (binder : Binder) (scope : Scope) where
   unfolding members_by test_members_by
   members_test t = ap (λ m. m.members) (meaning_test t)
 
--- ---- the tokens of a condition's members
+-- ---- if a condition's tokens have P, so have the tokens of its members
 
 pub told_and : (P : Lexeme → Type 0) (c : CondNode) (members items : List CondNode) → c ≡ text.And members → items ≡ members → IsCondOf P c → All (IsCondOf P) items
 told_and P c members items is same h = subst (All (IsCondOf P)) (sym same) (members_of_and P members (subst (IsCondOf P) is h))

@@ -1,4 +1,4 @@
--- What a reference stands for exists: the entry, its table, and the column in it.
+-- If a reference stands for a column, the column exists, and so do its entry and its table.
 use Rattle.std.proofs.Common.{◌≡◌, ℕ, zero, suc, ◌+◌, ◌-◌, Bool, true, false, cond, List, [], ◌∷◌, take, drop, Option, Some, None, ap, sym, ◌∙◌, refl, arith}
 use Rattle.std.specs.Prelude.{option_map, option_and_then, slice_get, slice_range}
 use Rattle.std.specs.List.{filter_map, cons_option}
@@ -16,13 +16,11 @@ use Rattle.schema_types.specs.Names.{place_of}
 use Rattle.query_names.specs.Names.{column_in, column_named, column_at, column_names, aliases}
 use Rattle.query_names.specs.Scopes.{only, in_scope, numbered, is_in, entry_at, entry_named, column_alone, resolved, resolve}
 
--- an entry of the query, by its number
 pub record IsEntry (from : List Source) (entry : Entry) : Type 0 where
   pub source : Source
   pub there : slice_get from entry.number ≡ Some source
   pub same : source.table ≡ entry.table
 
--- a column of an entry
 pub record Stands (schema : Schema) (from : List Source) (found : EntryColumn) : Type 0 where
   pub source : Source
   pub entry : slice_get from found.from ≡ Some source
@@ -93,7 +91,7 @@ in_scope_are from scope =
     numbered_are from scope.first (slice_range from scope.first scope.end)
     (λ k s is. sym (slice_get-dropped scope.first k from) ∙ slice_get-taken (scope.end - scope.first) k (drop scope.first from) s is)
 
--- ---- what a reference stands for
+-- ---- a column that a reference stands for exists
 
 only_stands : (schema : Schema) (from : List Source) (name : List ℕ) (entries : List Entry) (found : EntryColumn) → AllEntries from entries → only (filter_map (column_in schema name) entries) ≡ Some found → Stands schema from found
 only_stands schema from name [] found all same = absurd cc

@@ -1,4 +1,5 @@
--- Of the columns of a name the first two decide, so of each table two entries in scope do.
+-- The first two columns of a name decide whether the name stands for exactly one column. So it is enough to look at the first two entries in
+-- scope of each table.
 use Rattle.std.proofs.Common.{◌≡◌, ℕ, suc, ◌+◌, ◌-◌, ◌<◌, ◌≤◌, Bool, true, false, cond, nat_eq, List, [], ◌∷◌, ◌++◌, length, take, drop, get_or, Option, Some, None, ap, subst, sym, ◌∙◌, refl, arith}
 use Rattle.std.specs.Prelude.{◌==◌, is_some, count_by, option_map, option_and_then, slice_get}
 use Rattle.std.specs.List.{cons_option}
@@ -35,13 +36,13 @@ two_full [] zs full = absurd (omega arith)
 two_full (x ∷ []) zs full = absurd (omega arith)
 two_full (x ∷ y ∷ rest) zs full = refl
 
--- ---- the only column of a name
+-- ---- an option as a list
 
 abbrev pub as_list : {A : Type 0} → Option A → List A
 as_list None = []
 as_list (Some x) = x ∷ []
 
--- ---- a third entry of a table
+-- ---- a third entry of a table doesn't change the first two columns
 
 abbrev found_at : ℕ → ℕ → Kind → EntryColumn
 found_at from number kind = record { from = from; column = number; kind = kind }
@@ -56,7 +57,6 @@ column_named_alike a b table name = at (place_of (column_names table) name) wher
   at None = refl
   at (Some n) = there (slice_get table.columns n) n
 
--- whether an entry's table has a column of a name turns on the table alone
 column_alike : (schema : Schema) (name : List ℕ) (a b : Entry) → a.table ≡ b.table → is_some (column_in schema name a) ≡ is_some (column_in schema name b)
 unfolding column_in
 column_alike schema name a b same = at (slice_get schema.tables a.table) (slice_get schema.tables b.table) (ap (slice_get schema.tables) same) where
@@ -66,7 +66,6 @@ column_alike schema name a b same = at (slice_get schema.tables a.table) (slice_
   at (Some s) None same = cc
   at (Some s) (Some t) same = column_named_alike a.number b.number s name ∙ ap (λ o. is_some (option_and_then (λ table. column_named b.number table name) o)) same
 
--- the entries of a table whose column a name is give a column each
 pub table_columns : (schema : Schema) (name : List ℕ) (entry : Entry) (brief : List Entry) → is_some (column_in schema name entry) ≡ true
     → count_by (λ e. e.table == entry.table) brief ≤ length (columns_in schema name brief)
 table_columns schema name entry [] has = omega arith
@@ -93,7 +92,7 @@ third_shows_nothing schema name entry brief two = at (column_in schema name entr
       let many : 2 ≤ length (columns_in schema name brief) = omega (arith, table_columns schema name entry brief (ap is_some (sym is))) in
       sym (two_full (columns_in schema name brief) (column ∷ []) many)
 
--- ---- the entries in scope, one by one
+-- ---- the entries in scope, when one more entry comes into scope
 
 numbered-append : (n : ℕ) (xs ys : List Source) → numbered n (xs ++ ys) ≡ numbered n xs ++ numbered (n + length xs) ys
 numbered-append n [] ys = ap (λ m. numbered m ys) (omega arith)
@@ -122,7 +121,7 @@ one_more_in_scope from first end d begins below =
     ∙ ap (λ m. numbered first (take count rest) ++ numbered m (get_or rest count d ∷ [])) last
     ∙ ap (λ s. numbered first (take count rest) ++ numbered end (s ∷ [])) here
 
--- ---- what is visible, one by one
+-- ---- `Shows` for the empty scope, and when one more entry comes into scope
 
 pub none_shown : (binder : Binder) (visible : Visible) (first : ℕ) → visible.scope ≡ record { first = first; end = first } → visible.brief ≡ [] → Shows binder visible
 none_shown binder visible first none empty = record {
@@ -163,7 +162,6 @@ third_not_shown binder old new d shows begins ends next two kept = record {
       ∙ shown_more binder old new d name shows begins ends next;
 }
 
--- the same in the forms of the code
 abbrev next_of : Visible → Visible → Visible
 next_of old v = record { scope = record { first = v.scope.first; end = old.scope.end + 1 }; brief = v.brief }
 

@@ -1,4 +1,4 @@
--- The tests of a condition, member by member.
+-- The tests of a condition are the tests of its members, one after another.
 use Rattle.std.proofs.Common.{◌≡◌, ◌⊎◌, inl, inr, List, [], ◌∷◌, ◌++◌, map, ap, sym, ◌∙◌, refl}
 use Rattle.std.specs.List.{flat_map}
 use Rattle.query_grammar.specs.declared.tree.TestNode.{TestNode}

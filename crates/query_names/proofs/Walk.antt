@@ -1,4 +1,4 @@
--- Steps of the loops that walk over a syntax tree: what is left of a list, and of its offences.
+-- These lemmas are for the loops over lists of a syntax tree. They are about the items that are left, and about the offences of these items.
 use Rattle.std.proofs.Common.{◌≡◌, ℕ, add-one, ◌+◌, ◌<◌, List, [], ◌∷◌, ◌++◌, length, map, take, drop, get_or, Option, Some, None, ap, subst, sym, ◌∙◌, refl}
 use Rattle.std.proofs.Math.Seq.{drop-cons}
 use Rattle.std.proofs.lemmas.List.{take_more, map-append}
@@ -11,11 +11,9 @@ use Rattle.query_names.specs.Answers.{first}
 use Rattle.query_names.specs.Answers.{IsNameError, or_first}
 use Rattle.query_names.specs.Names.{source_offences, offences_behind, alias_of, entry_of}
 
--- what is left at a place is the item there and the rest
 pub left_at : {A : Type 0} (xs : List A) (i : ℕ) (d : A) → i < length xs → drop i xs ≡ get_or xs i d ∷ drop (i + 1) xs
 left_at xs i d below = rw add-one (drop-cons xs i d below)
 
--- one more item's image
 pub map_more : {A B : Type 0} (f : A → B) (xs : List A) (i : ℕ) (d : A) (old new : List B) (one : B)
     → i < length xs → old ≡ map f (take i xs) → one ≡ f (get_or xs i d) → new ≡ old ++ one ∷ [] → new ≡ map f (take (i + 1) xs)
 map_more f xs i d old new one below so_far is pushed =
@@ -27,7 +25,6 @@ pub map_push : {A B : Type 0} (f : A → B) (old new : List A) (images images' :
 map_push f old new images images' one are more pushed =
     more ∙ ap (λ l. l ++ f one ∷ []) are ∙ sym (map-append f old (one ∷ [])) ∙ ap (map f) (sym pushed)
 
--- a source that isn't wrong leaves the offences of the rest, behind its alias
 pub no_offence_here : (schema : Schema) (text : List ℕ) (sources : List SourceNode) (whole : List ℕ) (earlier earlier' : List (List ℕ)) (i : ℕ) (d : SourceNode) (one : Source)
     → i < length sources → whole ≡ offences_behind schema text earlier (drop i sources)
     → (one ≡ entry_of schema text (get_or sources i d)) × (earlier' ≡ earlier ++ one.alias ∷ []) × (source_offences schema text earlier (get_or sources i d) ≡ [])
@@ -40,7 +37,7 @@ no_offence_here schema text sources whole earlier earlier' i d one below left is
     ∙ ap (λ alias. rest (earlier ++ alias ∷ [])) (sym (ap (λ entry. entry.alias) is.0))
     ∙ ap rest (sym is.1)
 
--- ---- offences item by item
+-- ---- the first offence of two lists, one after the other
 
 pub first-append : (xs ys : List ℕ) (n : ℕ) → first xs ≡ Some n → first (xs ++ ys) ≡ Some n
 first-append [] ys n is = cc
@@ -62,11 +59,9 @@ pub or_first-nil : (found : Option ℕ) → or_first found [] ≡ found
 or_first-nil (Some n) = refl
 or_first-nil None = refl
 
--- what was found before is what was found first
 pub none_before : (found : Option ℕ) (xs : List ℕ) → or_first found xs ≡ None → found ≡ None
 none_before (Some n) xs none = absurd cc
 none_before None xs none = refl
 
--- an error behind what has no offence
 pub error_behind : (xs ys : List ℕ) (e : QueryError) → xs ≡ [] → IsNameError ys e → IsNameError (xs ++ ys) e
 error_behind xs ys e none wrong = subst (λ l. IsNameError (l ++ ys) e) (sym none) wrong

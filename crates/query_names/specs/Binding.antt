@@ -1,4 +1,4 @@
--- What a `Binder` knows: the schema, the text and the FROM entries; and the definitions of this crate over them.
+-- What a `Binder` knows: the schema, the text and the FROM entries. The definitions of this crate are repeated here for a binder.
 use Rattle.std.specs.Prelude.{◌≡◌, ℕ, Bool, List, take, Option}
 use Rattle.std.specs.List.{filter_map, flat_map}
 use Rattle.query_grammar.specs.declared.tree.CondNode.{CondNode}
@@ -29,11 +29,11 @@ schema_of binder = binder.catalog.now.schema.now
 abbrev pub from_of : Binder → List Source
 from_of binder = binder.entries.now.sources
 
--- the columns of this name in these entries
+-- the columns `name` in the tables of `entries`
 abbrev pub columns_in : Schema → List ℕ → List Entry → List EntryColumn
 columns_in schema name entries = filter_map (column_in schema name) entries
 
--- for every name, `brief` has the same first two columns of that name as all entries in scope
+-- for every name, the first two columns of this name in the entries `brief` are the first two in all entries in scope
 pub record Shows (binder : Binder) (visible : Visible) : Type 0 where
   pub same : (name : List ℕ)
       → take 2 (columns_in (schema_of binder) name visible.brief)
@@ -57,7 +57,7 @@ test_offences_of binder scope test = test_offences (schema_of binder) binder.tex
 unfoldable pub kind_offences_of : Binder → Scope → TestNode → List ℕ
 kind_offences_of binder scope test = kind_offences (schema_of binder) binder.text.now (from_of binder) scope test
 
--- ---- conditions, with the entries in scope there
+-- ---- conditions, each with the entries in scope at its place
 
 unfoldable pub names_in : Binder → Scoped → List ℕ
 names_in binder c = flat_map (test_offences_of binder c.scope) (tests c.condition)
@@ -76,14 +76,14 @@ operand_by binder scope operand = operand_value (schema_of binder) binder.text.n
 unfoldable pub compared_by : Binder → Scope → Op → OperandNode → OperandNode → Cond
 compared_by binder scope op left right = comparison (schema_of binder) binder.text.now (from_of binder) scope op left right
 
--- the condition that a test means, and its members
+-- the condition that a test means, and the members of this condition
 unfoldable pub test_value_by : Binder → Scope → TestNode → Cond
 test_value_by binder scope test = (test_meaning (schema_of binder) binder.text.now (from_of binder) scope test).whole
 
 unfoldable pub test_members_by : Binder → Scope → TestNode → List Cond
 test_members_by binder scope test = (test_meaning (schema_of binder) binder.text.now (from_of binder) scope test).members
 
--- the condition that a text means, and its members
+-- the condition that a condition of the query text means, and its members
 unfoldable pub value_by : Binder → Scope → CondNode → Cond
 value_by binder scope condition = (meaning (schema_of binder) binder.text.now (from_of binder) scope condition).whole
 

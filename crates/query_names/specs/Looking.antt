@@ -1,4 +1,4 @@
--- What the code finds and builds when it looks at the tests of a condition.
+-- What the code finds and builds when it checks the tests of a condition.
 use Rattle.std.specs.Prelude.{◌≡◌, ◌≤◌, ℕ, Bool, false, not, if◌then◌else◌, List, [], ◌∷◌, ◌++◌, length, map, None}
 use Rattle.std.specs.List.{flat_map}
 use Rattle.query_grammar.specs.declared.tree.LiteralNode.{LiteralNode}
@@ -25,7 +25,7 @@ use Rattle.query_names.specs.Binding.{from_of, name_offences_of, is_text_by, tes
 abbrev pub bound_literal : List ℕ → LiteralNode → BoundOperand
 bound_literal text l = record { value = literal_value text l; is_text = is_text_literal l; first = first_of_literal l }
 
--- the same of an operand that has no wrong name. The value is only told if FROM has at most 12 entries
+-- the operand has no wrong name, and `bound` has its value, its kind and its first token. The value is only right if FROM has at most 12 entries
 pub record IsBound (binder : Binder) (scope : Scope) (operand : OperandNode) (bound : BoundOperand) : Type 0 where
   pub none : name_offences_of binder scope operand ≡ []
   pub text : bound.is_text ≡ is_text_by binder scope operand
@@ -34,21 +34,21 @@ pub record IsBound (binder : Binder) (scope : Scope) (operand : OperandNode) (bo
 
 -- ---- tests
 
--- the place of a value of IN, if it isn't of the left operand's kind; below, the equality with a value
+-- the place of a value of IN, if the value isn't of the left operand's kind; `equal_to` is the equality with a value
 abbrev pub wrong_literal : Bool → LiteralNode → List ℕ
 wrong_literal left l = at (differ left (is_text_literal l)) (first_of_literal l)
 
 abbrev pub equal_to : List ℕ → Operand → LiteralNode → Cond
 equal_to text left l = cond.Compare op.Eq left (literal_value text l)
 
--- the comparisons of a test's left operand with the others
+-- the comparisons of a test: its left operand with each other operand
 unfoldable pub comparisons_by : Binder → Scope → TestNode → List Cond
 comparisons_by binder scope (test.Compare left how right) = compared_by binder scope how left right ∷ []
 comparisons_by binder scope (test.Between left negated low high) =
     compared_by binder scope op.Ge left low ∷ compared_by binder scope op.Le left high ∷ []
 comparisons_by binder scope (test.In left negated values) = map (λ value. compared_by binder scope op.Eq left (of_literal value)) values
 
--- the condition that a test's comparisons make together
+-- the condition of a test, from its comparisons
 abbrev pub test_condition : TestNode → List Cond → Cond
 test_condition (test.Compare left how right) parts = (any_of parts).whole
 test_condition (test.Between left negated low high) parts = if negated then cond.Not (cond.And parts) else cond.And parts
@@ -60,10 +60,10 @@ is_range (test.Compare left how right) = false
 is_range (test.Between left negated low high) = not negated
 is_range (test.In left negated values) = false
 
--- ---- what looking leaves
+-- ---- the state after some tests were checked
 
--- No name is wrong. If no wrong kind was kept before, the first of these is kept, and likewise the first of these too long lists. These
--- conditions are added if FROM has at most 12 entries and no list is kept.
+-- No name is wrong. If no place of a wrong kind was kept before, the first of `kinds` is kept. If no length of a list was kept before, the
+-- first of `lists` is kept. The conditions `more` are added to `found`, if FROM has at most 12 entries and no length of a list is kept.
 pub record Looked (binder : Binder) (names kinds lists : List ℕ) (held held' : HeldOffences) (found found' more : List Cond) : Type 0 where
   pub none : names ≡ []
   pub kind : held'.kind ≡ or_first held.kind kinds

@@ -43,7 +43,7 @@ sources_of part = part.first ∷ map (λ join. join.source) part.joins
 abbrev pub sources : QueryNode → List SourceNode
 sources query = flat_map sources_of query.parts
 
--- the token that names an entry: the alias if one is written, else the table's name
+-- the token that names an entry: the alias if one is written, otherwise the table's name
 abbrev pub alias_token : SourceNode → Lexeme
 alias_token source = unwrap_or source.alias source.table
 
@@ -64,14 +64,14 @@ module _ (schema : Schema) (text : List ℕ) where
 abbrev pub aliases : List Source → List (List ℕ)
 aliases from = map (λ source. source.alias) from
 
--- ---- offences
+-- ---- offences in FROM
 
 -- the place of a token, if it is wrong
 abbrev pub at : Bool → Lexeme → List ℕ
 at wrong token = if wrong then token.start ∷ [] else []
 
 module _ (schema : Schema) (text : List ℕ) where
-  -- an unknown table, at its name; then an alias that is equal to an earlier one
+  -- an unknown table, at its name, and then an alias that is equal to an earlier alias
   abbrev pub source_offences : List (List ℕ) → SourceNode → List ℕ
   source_offences earlier source =
       at (is_none (table_of schema text source)) source.table ++ at (is_among earlier (alias_of schema text source)) (alias_token source)

@@ -1,4 +1,4 @@
--- Number literals (SQL-92 5.3): their values, and those outside the signed 64-bit range.
+-- Number literals (SQL-92 5.3): their values, and the numbers outside the signed 64-bit range.
 use Rattle.std.specs.Prelude.{ℕ, ◌^◌, ◌-◌, min, Bool, true, false, ◌&&◌, nat_lt, nat_le, if◌then◌else◌, List, [], ◌∷◌, ◌++◌, Option, Some, None, unwrap_or, ℤ, pos, neg_ℤ}
 use Rattle.ll_grammars.specs.declared.lexeme.Lexeme.{Lexeme}
 use Rattle.ll_grammars.specs.declared.terminal.Terminal.TheVariants as terminal
@@ -6,7 +6,7 @@ use Rattle.ll_grammars.specs.Terminals.{among}
 use Rattle.sql_tokens.specs.Words.{slice, number_of}
 use Rattle.query_names.specs.Names.{at}
 
--- the value of a token of digits
+-- the number that a token of digits spells
 abbrev pub value_of : List ℕ → Lexeme → ℕ
 value_of text digits = number_of (slice text digits.start digits.end)
 
@@ -49,6 +49,6 @@ abbrev pub offences_after : List ℕ → Option Lexeme → List Lexeme → List 
 offences_after text before [] = []
 offences_after text before (token ∷ rest) = number_offence text (sign_before before) token ++ offences_after text (Some token) rest
 
--- the places of the numbers outside the range, each at its sign where it has one
+-- the places of the numbers outside the range. The place is that of the sign, if the number has one
 unfoldable pub number_offences : List ℕ → List Lexeme → List ℕ
 number_offences text tokens = offences_after text None tokens

@@ -1,4 +1,4 @@
--- Names that mean nothing or more than one thing, and operands of the wrong kind, by their places in the text.
+-- Offences: the places of names that mean nothing or more than one thing, and of operands of the wrong kind.
 use Rattle.std.specs.Prelude.{ℕ, Bool, true, false, not, nat_lt, if◌then◌else◌, List, [], ◌∷◌, ◌++◌, length, map, Option, Some, None, is_none, unwrap_or}
 use Rattle.std.specs.List.{flat_map}
 use Rattle.limits.specs.Profile.{most_values}
@@ -24,7 +24,7 @@ use Rattle.query_types.specs.Validity.{is_text}
 use Rattle.query_names.specs.Names.{at, from_offences}
 use Rattle.query_names.specs.Scopes.{resolve, head_of, entry_named, whole_scope, Scoped, conditions, tests}
 
--- ---- what a test compares
+-- ---- the operands that a test compares
 
 abbrev pub of_literal : LiteralNode → OperandNode
 of_literal value = operand.Literal value
@@ -58,7 +58,7 @@ differ true b = not b
 differ false b = b
 
 module _ (schema : Schema) (text : List ℕ) (from : List Source) (scope : Scope) where
-  -- ---- names
+  -- ---- wrong names
 
   abbrev pub reference_offences : ColumnNode → List ℕ
   reference_offences reference = at (is_none (resolve schema text from scope reference)) (head_of reference)
@@ -78,7 +78,7 @@ module _ (schema : Schema) (text : List ℕ) (from : List Source) (scope : Scope
   outs_offences outs.All = []
   outs_offences (outs.Listed list) = flat_map out_offences list
 
-  -- ---- kinds
+  -- ---- wrong kinds
 
   abbrev pub is_text_column : Option EntryColumn → Bool
   is_text_column None = false
@@ -88,7 +88,7 @@ module _ (schema : Schema) (text : List ℕ) (from : List Source) (scope : Scope
   is_text_operand (operand.Column reference) = is_text_column (resolve schema text from scope reference)
   is_text_operand (operand.Literal value) = is_text_literal value
 
-  -- the place of another operand, if it isn't of the left one's kind
+  -- the place of `other`, if it isn't of the left operand's kind
   abbrev pub kind_offence : Bool → OperandNode → List ℕ
   kind_offence left other = at (differ left (is_text_operand other)) (first_of other)
 
@@ -102,7 +102,7 @@ module _ (schema : Schema) (text : List ℕ) (from : List Source) where
   abbrev pub kind_offences_in : Scoped → List ℕ
   kind_offences_in c = flat_map (kind_offences schema text from c.scope) (tests c.condition)
 
-  -- the places of wrong names: first in FROM, then in the SELECT list, then in the ON conditions and in WHERE
+  -- the places of wrong names: first those in FROM, then those in the SELECT list, then those in the ON conditions and in WHERE
   unfoldable pub name_offences : QueryNode → List ℕ
   name_offences query =
       from_offences schema text query
@@ -112,9 +112,9 @@ module _ (schema : Schema) (text : List ℕ) (from : List Source) where
   unfoldable pub all_kind_offences : QueryNode → List ℕ
   all_kind_offences query = flat_map kind_offences_in (conditions from query)
 
--- ---- lists of IN
+-- ---- IN lists that are too long
 
--- the length of a test's IN list, if it has more than 1,000 values; any other test has nothing here
+-- the length of a test's IN list, if the list has more than 1,000 values; for any other test the empty list
 abbrev pub too_long : TestNode → List ℕ
 too_long (test.Compare left op right) = []
 too_long (test.Between left negated low high) = []

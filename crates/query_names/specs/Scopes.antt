@@ -28,7 +28,7 @@ numbered number (source ∷ rest) = record { number = number; table = source.tab
 unfoldable pub in_scope : List Source → Scope → List Entry
 in_scope from scope = numbered scope.first (slice_range from scope.first scope.end)
 
--- the member of a list that has just one
+-- the member of a list with exactly one member
 abbrev pub only : {A : Type 0} → List A → Option A
 only [] = None
 only (one ∷ []) = Some one
@@ -37,21 +37,21 @@ only (one ∷ other ∷ rest) = None
 abbrev pub is_in : Scope → ℕ → Bool
 is_in scope number = nat_le scope.first number && nat_lt number scope.end
 
--- the entry of this number, where it is in scope
+-- the entry of this number, if it is in scope
 abbrev pub entry_at : List Source → Scope → ℕ → Option Entry
 entry_at from scope number =
     if is_in scope number then option_map (λ source. record { number = number; table = source.table }) (slice_get from number) else None
 
--- the entry of this alias, where it is in scope
+-- the entry of this alias, if it is in scope
 unfoldable pub entry_named : List Source → Scope → List ℕ → Option Entry
 entry_named from scope alias = option_and_then (entry_at from scope) (place_of (aliases from) alias)
 
 module _ (schema : Schema) (text : List ℕ) (from : List Source) (scope : Scope) where
-  -- a column without an alias: that of the only entry in scope whose table has it
+  -- a column that is named without an alias: exactly one entry in scope has a table with this column
   unfoldable pub column_alone : List ℕ → Option EntryColumn
   column_alone name = only (filter_map (column_in schema name) (in_scope from scope))
 
-  -- a column with an alias: that of the alias's entry, if its table has the column
+  -- a column that is named with an alias: the column of the alias's entry, if the entry's table has it
   abbrev pub column_of : List ℕ → List ℕ → Option EntryColumn
   column_of alias name = option_and_then (column_in schema name) (entry_named from scope alias)
 
@@ -59,7 +59,7 @@ module _ (schema : Schema) (text : List ℕ) (from : List Source) (scope : Scope
   resolved None column = column_alone (name_of text column)
   resolved (Some table) column = column_of (name_of text table) (name_of text column)
 
-  -- the column that a reference stands for, if there is just one
+  -- the column that a reference stands for, if there is exactly one
   unfoldable pub resolve : ColumnNode → Option EntryColumn
   resolve reference = resolved reference.table reference.column
 
@@ -67,13 +67,13 @@ module _ (schema : Schema) (text : List ℕ) (from : List Source) (scope : Scope
 abbrev pub head_of : ColumnNode → Lexeme
 head_of reference = unwrap_or reference.table reference.column
 
--- ---- conditions and tests, each with the entries in scope there
+-- ---- conditions, each with the entries in scope at its place, and their tests
 
 pub record Scoped : Type 0 where
   pub scope : Scope
   pub condition : CondNode
 
--- the conditions of a part's joins. In scope are the entries from the part's first one up to the one just joined
+-- the conditions of the joins of a FROM part. In scope are the entries from the part's first one up to the one that is joined
 abbrev pub joined : ℕ → ℕ → List JoinedNode → List Scoped
 joined first end [] = []
 joined first end (join ∷ rest) =
@@ -91,7 +91,7 @@ abbrev pub where_scope : List Source → Option CondNode → List Scoped
 where_scope from None = []
 where_scope from (Some condition) = record { scope = whole_scope from; condition = condition } ∷ []
 
--- the ON conditions in text order, then that of WHERE
+-- the ON conditions in text order, and then the condition of WHERE
 unfoldable pub conditions : List Source → QueryNode → List Scoped
 conditions from query = on_conditions 0 query.parts ++ where_scope from query.filter
 

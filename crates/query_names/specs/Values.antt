@@ -54,13 +54,13 @@ abbrev pub negated_where : Bool → Meaning → Meaning
 negated_where true m = alone (cond.Not m.whole)
 negated_where false m = m
 
--- the OR of these conditions, or the condition itself where there is just one
+-- the OR of these conditions. A single condition stays as it is
 abbrev pub any_of : List Cond → Meaning
 any_of [] = alone (cond.Or [])
 any_of (one ∷ []) = alone one
 any_of (one ∷ other ∷ rest) = alone (cond.Or (one ∷ other ∷ rest))
 
--- the column that a reference stands for. None comes only from a wrong name: then the query is refused, and this column is never used
+-- the reference to a column that was found. Nothing is found only for a wrong name; then the query is refused, and this column is never used
 abbrev pub resolved_column : Option EntryColumn → ColumnRef
 resolved_column None = record { from = 0; column = 0 }
 resolved_column (Some column) = record { from = column.from; column = column.column }
@@ -80,7 +80,7 @@ module _ (schema : Schema) (text : List ℕ) (from : List Source) (scope : Scope
   abbrev pub equality : OperandNode → LiteralNode → Cond
   equality left l = comparison op.Eq left (of_literal l)
 
-  -- BETWEEN means the AND of >= and <=, and IN the OR of equalities. NOT BETWEEN and NOT IN are the NOT of these
+  -- BETWEEN means the AND of >= and <=, and IN means the OR of equalities. NOT BETWEEN and NOT IN mean the NOT of that AND or OR
   abbrev pub test_meaning : TestNode → Meaning
   test_meaning (test.Compare left how right) = alone (comparison how left right)
   test_meaning (test.Between left negated low high) =
@@ -93,7 +93,7 @@ module _ (schema : Schema) (text : List ℕ) (from : List Source) (scope : Scope
   meaning_step (CondNode-F.Not member) = alone (cond.Not member.whole)
   meaning_step (CondNode-F.Test t) = test_meaning t
 
-  -- what a condition's text means
+  -- the meaning of a condition of a query text
   abbrev pub meaning : CondNode → Meaning
   meaning = fold-CondNode Meaning meaning_step
 
@@ -101,7 +101,7 @@ module _ (schema : Schema) (text : List ℕ) (from : List Source) where
   abbrev pub members_in : Scoped → List Cond
   members_in c = (meaning schema text from c.scope c.condition).members
 
-  -- the members of the ON conditions in text order, then those of WHERE
+  -- the members of the ON conditions in text order, and then the members of WHERE's condition
   unfoldable pub conjuncts : QueryNode → List Cond
   conjuncts query = flat_map members_in (conditions from query)
 
@@ -125,7 +125,8 @@ outs_of_found schema None = []
 outs_of_found schema (Some entry) = outs_of_entry schema entry
 
 module _ (schema : Schema) (text : List ℕ) (from : List Source) where
-  -- the outputs of one item: all columns of an alias's entry, or one column. Its name is the one that is written after it, or else its own
+  -- the outputs of one item of SELECT: all columns of an alias's entry, or one column. The output's name is the name that is written after
+  -- the column, or otherwise the column's name
   abbrev pub outs_of : OutNode → List Out
   outs_of (out.All alias) = outs_of_found schema (entry_named from (whole_scope from) (name_of text alias))
   outs_of (out.Column reference name) =
@@ -134,12 +135,12 @@ module _ (schema : Schema) (text : List ℕ) (from : List Source) where
         name = name_of text (unwrap_or name reference.column);
       } ∷ []
 
-  -- the outputs of the whole list. * means all columns of all entries, in the order of FROM
+  -- the outputs of the whole SELECT list. * means all columns of all entries, in the order of FROM
   abbrev pub selected : OutsNode → List Out
   selected outs.All = flat_map (outs_of_entry schema) (in_scope from (whole_scope from))
   selected (outs.Listed list) = flat_map outs_of list
 
--- the query that a syntax tree means, where no name and no kind is wrong
+-- the query that a syntax tree means, if no name and no kind is wrong
 unfoldable pub query_of : Schema → List ℕ → QueryNode → Query
 query_of schema text query = record {
   from = entries schema text query;

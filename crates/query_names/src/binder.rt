@@ -23,7 +23,7 @@ pub struct Binder<'a> {
     pub entries: &'a Entries,
 }
 
-/// How many of these entries are of this table.
+/// How many of `entries` have this table.
 fn count_of(entries: &[Entry], table: u32) -> usize
     ensures { result ≡ count_by (λ entry. entry.table == table) entries.now }
 {
@@ -31,7 +31,7 @@ fn count_of(entries: &[Entry], table: u32) -> usize
 }
 
 impl<'a> Binder<'a> {
-    /// The column of this name in these entries, if there is just one.
+    /// The column `name` in the tables of the entries `brief`, if exactly one of them has it.
     fn column_alone(&self, brief: &[Entry], name: &str) -> Option<EntryColumn>
         ensures { result ≡ only (columns_in (schema_of self.now) name.now brief.now) }
     {
@@ -47,7 +47,7 @@ impl<'a> Binder<'a> {
         found
     }
 
-    /// The entry of this alias, where it is in scope.
+    /// The entry of this alias, if that entry is in scope.
     #[tactic(auto, unfolding(crate::specs::Scopes::entry_named))]
     pub fn entry_named(&self, scope: Scope, alias: &str) -> Option<Entry>
         ensures { result ≡ entry_named (from_of self.now) scope alias.now }
@@ -71,7 +71,7 @@ impl<'a> Binder<'a> {
         self.catalog.column(column, entry)
     }
 
-    /// The column that a reference stands for, if there is just one.
+    /// The column that a reference stands for, if there is exactly one.
     #[tactic(auto, unfolding(crate::specs::Scopes::resolve, crate::specs::Scopes::column_alone))]
     pub fn resolve(
         &self,
@@ -92,7 +92,7 @@ impl<'a> Binder<'a> {
         }
     }
 
-    /// An empty scope that begins at the entry of this number.
+    /// An empty scope that begins at entry `first`.
     #[tactic(auto, using(crate::proofs::ScopeFacts::none_shown))]
     pub fn none_visible(&self, first: usize) -> Visible
         ensures shows { Shows self.now result }

@@ -1,4 +1,4 @@
-//! A schema's tables and columns by name.
+//! A schema's tables and columns, to be found by name.
 ghost use Rattle.std.specs.Prelude.{◌≡◌, IfOk, ◌<◌, ◌≤◌, length, map};
 ghost use Rattle.schema_types.specs.Names.{place_of};
 ghost use Rattle.schema_types.specs.Validity.{IsValid, IsValidTable};
@@ -9,7 +9,7 @@ use base_io::{NoMemory, Seq};
 use schema_types::{NameList, Schema, Table};
 use std::alloc::Global;
 
-/// A table, with its columns by name.
+/// A table, whose columns can be found by name.
 #[derive(Drop)]
 pub struct Listed<'a> {
     pub table: &'a Table,
@@ -18,7 +18,7 @@ pub struct Listed<'a> {
     ghost named: { columns ≡ column_names table.now },
 }
 
-/// A schema, with its tables and the columns of each by name.
+/// A schema, whose tables, and the columns of each table, can be found by name.
 #[derive(Drop)]
 pub struct Catalog<'a> {
     pub schema: &'a Schema,

@@ -1,4 +1,4 @@
-//! Offences in conditions that are refused only after all names were looked at.
+//! Offences (places where something is wrong) in conditions that are refused only after all names were checked.
 ghost use Rattle.std.specs.Prelude.{◌≡◌};
 ghost use Rattle.query_names.specs.Names.{at};
 ghost use Rattle.query_names.specs.Offences.{too_long};
@@ -8,8 +8,8 @@ use limits::MOST_VALUES;
 use ll_grammars::Lexeme;
 use query_grammar::TestNode;
 
-/// The first offences so far that are refused only after all names were looked at. `kind` is the place of the first operand of the wrong kind,
-/// and `list` the length of the first IN list that is too long.
+/// The first offences so far that are refused only after all names were checked. `kind` is the place of the first operand of the wrong kind,
+/// and `list` is the length of the first IN list that is too long.
 #[derive(Clone, Copy, Debug)]
 pub struct HeldOffences {
     pub kind: Option<u32>,
@@ -17,7 +17,7 @@ pub struct HeldOffences {
 }
 
 impl HeldOffences {
-    /// Keeps the place of a token of the wrong kind, if it is the first.
+    /// If `wrong` is true and no place was kept before, keeps the place of `token`, which has the wrong kind.
     pub(crate) fn note_kind(&mut self, wrong: bool, token: Lexeme)
         ensures kind { self.new.kind ≡ or_first self.old.kind (at wrong token) }
         ensures list { self.new.list ≡ self.old.list }
@@ -27,7 +27,7 @@ impl HeldOffences {
         }
     }
 
-    /// Keeps the length of a test's IN list, if it is the first that is too long.
+    /// If the test's IN list is too long and no length was kept before, keeps the list's length.
     pub(crate) fn note_list(&mut self, test: &TestNode)
         ensures list { self.new.list ≡ or_first self.old.list (too_long test.now) }
         ensures kind { self.new.kind ≡ self.old.kind }

@@ -1,4 +1,4 @@
-//! Builds the comparisons of a test. Each name in them is resolved once.
+//! Builds the comparisons of a test (a comparison, BETWEEN or IN of a query text). Each name in a test is resolved once.
 ghost use Rattle.std.specs.Prelude.{◌≡◌, ◌≤◌, [], ◌∷◌, All, None, true, IfOk, IfErr, length, map};
 ghost use Rattle.std.specs.List.{flat_map};
 ghost use Rattle.sql_tokens.specs.Words.{IsLexemeOf};
@@ -32,7 +32,7 @@ fn left_of(test: &TestNode) -> OperandNode
     }
 }
 
-/// Whether a test is BETWEEN without NOT. Its two comparisons are then two members of the condition in which it stands.
+/// Whether a test is BETWEEN without NOT. The two comparisons of this test are members of the condition in which it stands.
 fn is_range(test: &TestNode) -> bool
     ensures { result ≡ is_range test.now }
 {
@@ -43,7 +43,7 @@ fn is_range(test: &TestNode) -> bool
 }
 
 impl<'a> Binder<'a> {
-    /// Whether conditions are built: FROM doesn't have too many entries, and no IN list so far is too long.
+    /// Whether conditions are still built: FROM doesn't have too many entries, and no IN list so far is too long.
     pub(crate) fn builds(&self, held: &HeldOffences) -> bool
         ensures within { length (from_of self.now) ≤ 12 → held.now.list ≡ None → result ≡ true }
         ensures few { result ≡ true → length (from_of self.now) ≤ 12 }
@@ -52,7 +52,7 @@ impl<'a> Binder<'a> {
         self.entries.sources.len() <= MOST_ENTRIES && held.list.is_none()
     }
 
-    /// Compares two operands: keeps the place of the other one if its kind is wrong, and adds the comparison.
+    /// Adds the comparison of two operands. If the kind of `other` is wrong, its place is kept.
     fn compare(
         &self,
         left: &BoundOperand,
@@ -76,7 +76,7 @@ impl<'a> Binder<'a> {
         Ok(())
     }
 
-    /// Compares an operand with each value of a list of IN.
+    /// Adds the equality of `left` with each value of an IN list.
     fn add_equalities(
         &self,
         left: &BoundOperand,
@@ -95,7 +95,7 @@ impl<'a> Binder<'a> {
         Ok(())
     }
 
-    /// Looks at a test, and adds its comparisons.
+    /// Checks the names, kinds and IN list of a test, and adds the test's comparisons.
     fn add_comparisons(
         &self,
         visible: &Visible,
@@ -128,7 +128,7 @@ impl<'a> Binder<'a> {
         }
     }
 
-    /// Looks at a test, and adds what it means.
+    /// Checks a test, and adds the condition that the test means.
     pub(crate) fn add_test(
         &self,
         visible: &Visible,
@@ -150,7 +150,7 @@ impl<'a> Binder<'a> {
         Ok(())
     }
 
-    /// Looks at a test, and adds the members of what it means.
+    /// Checks a test, and adds the members of the condition that the test means.
     pub(crate) fn add_test_members(
         &self,
         visible: &Visible,

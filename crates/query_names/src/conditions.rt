@@ -1,4 +1,5 @@
-//! Builds what conditions mean, and their members.
+//! Builds the conditions that a query text means, and their members. The members of an AND are those of all its operands; any other condition
+//! has itself as its one member.
 ghost use Rattle.std.specs.Prelude.{[], ◌∷◌, All, IfOk, IfErr, map};
 ghost use Rattle.std.specs.List.{flat_map};
 ghost use Rattle.sql_tokens.specs.Words.{IsLexemeOf};
@@ -17,7 +18,7 @@ use query_grammar::CondNode;
 use query_types::Cond;
 
 impl<'a> Binder<'a> {
-    /// Looks at conditions, and gives what each means.
+    /// Checks the conditions of a text, and gives the condition that each means.
     #[cycle(values)]
     fn values(
         &self,
@@ -38,7 +39,7 @@ impl<'a> Binder<'a> {
         Ok(found)
     }
 
-    /// Looks at a condition, and adds what it means.
+    /// Checks a condition of a text, and adds the condition that it means.
     #[cycle(values)]
     fn add_value(
         &self,
@@ -80,7 +81,8 @@ impl<'a> Binder<'a> {
         }
     }
 
-    /// Looks at a condition, and adds the members of what it means, unless FROM has too many entries or an IN list so far is too long.
+    /// Checks a condition of a text, and adds the members of the condition that it means. They aren't added if FROM has too many entries or
+    /// an IN list so far is too long.
     pub fn add_members(
         &self,
         visible: &Visible,

@@ -1,4 +1,4 @@
-//! Why a query text gave no query.
+//! Why a query text isn't accepted.
 ghost use Rattle.std.specs.Prelude.{◌≡◌};
 ghost use Rattle.query_names.specs.declared.errors.QueryError.TheVariants as error;
 
@@ -6,16 +6,16 @@ use base_io::NoMemory;
 use schema_types::LimitKind;
 use std::alloc::{AllocError, AllocFailed};
 
-/// Why no query was read. Places are offsets in the text, in bytes from 0.
+/// Why a query text isn't accepted. Places are offsets in the text, in bytes from 0.
 #[derive(Clone, Copy, Debug, PartialEq, Eq)]
 pub enum QueryError {
     /// The text breaks the grammar at this place.
     Syntax { at: u32 },
-    /// A name means nothing here, or more than one thing.
+    /// The name at this place means nothing, or more than one thing.
     Name { at: u32 },
-    /// The operand at this place is not of the kind of what it is compared with.
+    /// The operand at this place is compared with an operand of the other kind (a number with a text).
     Kind { at: u32 },
-    /// There are more things than the limit allows: `found`, or 2^64 - 1 if there are more than that.
+    /// The number of things, `found`, is above the limit. If the number is above 2^64 - 1, `found` is 2^64 - 1.
     Limit { which: LimitKind, found: u64 },
     NoMemory,
 }

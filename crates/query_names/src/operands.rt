@@ -1,4 +1,4 @@
-//! The operands of tests, each with its name resolved.
+//! The operands of tests, with their names resolved.
 ghost use Rattle.std.specs.Prelude.{◌≡◌, ◌<◌, Some, IfOk, IfErr};
 ghost use Rattle.sql_tokens.specs.Words.{IsLexemeOf};
 ghost use Rattle.query_grammar.specs.Lexemes.{IsLiteralOf, IsOperandOf};
@@ -59,7 +59,8 @@ pub fn reference_to(column: EntryColumn) -> ColumnRef
     }
 }
 
-/// The same for any entry number: numbers above 255 become 255. A query with so many entries is refused, so its references aren't used.
+/// The reference to a column of any entry. Entry numbers above 255 become 255: a query with so many entries is refused, so its references
+/// aren't used.
 fn capped_reference(column: EntryColumn) -> ColumnRef
     ensures { column.from < 256 → result ≡ resolved_column (Some column) }
 {

@@ -2,7 +2,7 @@
 use base_io::Seq;
 use schema_types::Kind;
 
-/// The FROM entries from number `first` up to number `end`, which isn't among them.
+/// The FROM entries from number `first` to number `end` - 1.
 #[derive(Clone, Copy, Debug)]
 pub struct Scope {
     pub first: usize,
@@ -24,7 +24,7 @@ pub struct EntryColumn {
     pub kind: Kind,
 }
 
-/// The entries in scope, and in `brief` those that a reference without an alias needs: the first two of each table.
+/// The entries in scope. `brief` has the first two entries in scope of each table, which are enough to resolve a reference without an alias.
 #[derive(Drop)]
 pub struct Visible {
     pub scope: Scope,

@@ -16,7 +16,7 @@ use schema_types::NameList;
 use sql_tokens::name;
 use std::alloc::Global;
 
-/// The FROM entries in text order, with their aliases by name.
+/// The FROM entries in text order. An entry can be found by its alias.
 #[derive(Drop)]
 pub struct Entries {
     pub sources: Seq<Source>,
@@ -52,7 +52,7 @@ fn alias_token(source: &SourceNode) -> Lexeme
     source.alias.unwrap_or(source.table)
 }
 
-/// The entry of a source, after entries with these aliases. Its alias is added to them.
+/// The entry of a source, if `aliases` are the aliases of the entries before. The alias of the new entry is added to `aliases`.
 fn entry(
     alloc: Global,
     catalog: &Catalog<'_>,
@@ -80,7 +80,7 @@ fn entry(
     Ok(Source { table, alias })
 }
 
-/// The FROM entries, or the first offence against names among them.
+/// The FROM entries, or the place of the first wrong name in FROM.
 pub fn read_entries(
     alloc: Global,
     catalog: &Catalog<'_>,

@@ -15,7 +15,7 @@ use std::alloc::Global;
 
 const MINUS: &[Terminal] = &[Terminal::Minus];
 
-/// The number with its sign. Where that is outside the range of `i64`, the nearer end of the range; a query with such a number is refused.
+/// The number with its sign. If it is outside the range of `i64`, the nearer end of the range is returned; a query with such a number is refused.
 fn signed(negative: bool, value: u64) -> i64
     ensures { result ≡ signed negative value }
 {
@@ -42,7 +42,7 @@ pub fn is_negative(sign: &Option<Lexeme>) -> bool
     }
 }
 
-/// The value of a number literal: of its digits, with the sign before them, if there is one.
+/// The value of a number literal: the number that its digits spell, with the sign before them, if there is one.
 #[tactic(auto, unfolding(crate::specs::Numbers::number_value))]
 pub fn number_value(text: &[u8], sign: &Option<Lexeme>, digits: &Lexeme) -> i64
     requires { IsLexemeOf text.now digits.now }
@@ -51,7 +51,7 @@ pub fn number_value(text: &[u8], sign: &Option<Lexeme>, digits: &Lexeme) -> i64
     signed(is_negative(sign), number(text, digits))
 }
 
-/// The OR of these conditions. Where there is only one, it is the condition itself.
+/// The OR of these conditions. A single condition stays as it is.
 #[tactic(auto, using(crate::proofs::Meanings::one_of, crate::proofs::Meanings::several_of))]
 fn any_of(mut parts: Seq<Cond>) -> Cond
     ensures { result ≡ (any_of parts).whole }
@@ -66,7 +66,7 @@ fn any_of(mut parts: Seq<Cond>) -> Cond
     }
 }
 
-/// NOT of the condition if `negated` is true, else the condition itself.
+/// NOT of the condition if `negated` is true, otherwise the condition itself.
 fn negated_if(alloc: Global, negated: bool, condition: Cond) -> Result<Cond, NoMemory>
     ensures { IfOk result (λ found. found ≡ (if negated then cond.Not condition else condition)) }
 {
@@ -77,8 +77,8 @@ fn negated_if(alloc: Global, negated: bool, condition: Cond) -> Result<Cond, NoM
     }
 }
 
-/// The condition of a test, from its comparisons: BETWEEN is the AND of them, and IN the OR. With NOT before the word it is NOT of that. A test
-/// with one operator is its only comparison.
+/// The condition of a test, from its comparisons. BETWEEN is the AND of its comparisons, and IN the OR. NOT BETWEEN and NOT IN are the NOT of
+/// this AND or OR. The condition of a test with a comparison operator is its only comparison.
 pub fn test_condition(alloc: Global, test: &TestNode, parts: Seq<Cond>) -> Result<Cond, NoMemory>
     ensures { IfOk result (λ found. found ≡ test_condition test.now parts) }
 {

@@ -1,4 +1,5 @@
--- Conditions by their parts: the entries that they name, and what holds of every layer.
+-- These lemmas give facts about a condition from its parts: the entries that it names, and properties of every layer. A layer is an operator of the
+-- condition with its operands.
 use Rattle.std.proofs.Common.{◌≡◌, ℕ, Bool, List, [], ◌∷◌, ◌++◌, map, ap, sym, ◌∙◌, subst}
 use Rattle.std.specs.List.{flat_map, All, AllByRecursion}
 use Rattle.std.proofs.lemmas.List.Elements.{All-from_recursion}
@@ -14,7 +15,7 @@ use Rattle.query_types.specs.declared.types.Cond.TheVariants.{rolls-And, rolls-O
 use Rattle.query_types.specs.Named.{entries_named, entries_of_operand, entries_step}
 use Rattle.query_types.specs.Typing.{IsOfKind, IsTyped, IsTypedLayer}
 
--- ---- the entries that are named
+-- ---- the entries that a condition names, from its parts
 
 pub entries_and : (all : List Cond) → entries_named (And all) ≡ flat_map (λ inner. inner) (map entries_named all)
 entries_and all = ap entries_named (sym (rolls-And all)) ∙ fold-roll-Cond (List ℕ) entries_step (layer.And all)
@@ -25,7 +26,7 @@ entries_or any = ap entries_named (sym (rolls-Or any)) ∙ fold-roll-Cond (List 
 pub entries_not : (inner : Cond) → entries_named (Not inner) ≡ entries_named inner
 entries_not inner = ap entries_named (sym (rolls-Not inner)) ∙ fold-roll-Cond (List ℕ) entries_step (layer.Not inner)
 
--- ---- what holds of every layer
+-- ---- a property Q of every layer
 
 out_and : (all : List Cond) → out-Cond (And all) ≡ layer.And all
 out_and all = ap out-Cond (sym (rolls-And all)) ∙ out-roll-Cond (layer.And all)
@@ -77,13 +78,12 @@ pub every_compare : (Q : Cond-F Cond → Type 0) (op : Op) (left right : Operand
 every_compare Q op left right h =
     subst Q (ap out-Cond (sym (rolls-Compare op left right)) ∙ out-roll-Cond (layer.Compare op left right)) (every_here-Cond Q (Compare op left right) h)
 
--- ---- what holds of all entries that are named
+-- ---- a property P of all entries that a condition names
 
 pub both_parts : (P : ℕ → Type 0) (a b : List ℕ) → AllByRecursion P a → AllByRecursion P b → AllByRecursion P (a ++ b)
 both_parts P [] b h k = k
 both_parts P (x ∷ a) b h k = (h.0, both_parts P a b h.1 k)
 
--- where each comparison's entries have P, so have all that are named
 module _ (Q : Cond-F Cond → Type 0) (P : ℕ → Type 0) (one : (op : Op) (left right : Operand) → Q (layer.Compare op left right) → AllByRecursion P (entries_of_operand left ++ entries_of_operand right)) where
   abbrev Named : Cond → Type 0
   Named c = every-Cond Q c → AllByRecursion P (entries_named c)
@@ -103,7 +103,6 @@ module _ (Q : Cond-F Cond → Type 0) (P : ℕ → Type 0) (one : (op : Op) (lef
       let inner : Cond-F Cond = map-Cond ((c : Cond) × Named c) Cond (λ e. e.0) y in
       subst (AllByRecursion P) (sym (fold-roll-Cond (List ℕ) entries_step inner)) (layers y h)))
 
--- where each column's entry has P, so have all entries that a typed condition names
 module _ (IsColumn : ColumnRef → Bool → Type 0) (P : ℕ → Type 0) (column_entry : (column : ColumnRef) (text : Bool) → IsColumn column text → P column.from) where
   operand_entry : (o : Operand) (text : Bool) → IsOfKind IsColumn o text → AllByRecursion P (entries_of_operand o)
   operand_entry (operand.Column column) text h = (column_entry column text h, tt)

@@ -1,5 +1,5 @@
--- When a condition compares numbers with numbers and texts with texts. The relation `IsColumn` says which columns exist and whether they are
--- texts. Two relations are used: that of a schema, and that of a database.
+-- When a condition compares numbers with numbers and texts with texts. The relation `IsColumn` says which columns exist, and whether a column
+-- has texts. The crates use two such relations: that of a schema, and that of a database.
 use Rattle.std.specs.Prelude.{◌≡◌, Bool, true, false, ⊤}
 use Rattle.query_types.specs.declared.types.ColumnRef.{ColumnRef}
 use Rattle.query_types.specs.declared.types.Operand.{Operand}
@@ -7,7 +7,8 @@ use Rattle.query_types.specs.declared.types.Operand.TheVariants as operand
 use Rattle.query_types.specs.declared.types.Cond.{Cond, every-Cond}
 use Rattle.query_types.specs.declared.types.Cond.TheOpen.{Cond-F}
 
--- an operand is a text if `text` is true, else a number. For a column the relation says so, and that it exists
+-- the operand is a text if `text` is true, and a number if it is false. If the operand is a column, the relation says that it exists and is
+-- of this kind
 abbrev pub IsOfKind : (ColumnRef → Bool → Type 0) → Operand → Bool → Type 0
 IsOfKind IsColumn (operand.Column column) text = IsColumn column text
 IsOfKind IsColumn (operand.Int number) text = text ≡ false
@@ -25,6 +26,6 @@ IsTypedLayer IsColumn (Cond-F.Or any) = ⊤
 IsTypedLayer IsColumn (Cond-F.Not inner) = ⊤
 IsTypedLayer IsColumn (Cond-F.Compare op left right) = Compares IsColumn left right
 
--- every comparison in a condition is over columns that exist, and of one kind
+-- every comparison in a condition names columns that exist, and its operands are of one kind
 abbrev pub IsTyped : (ColumnRef → Bool → Type 0) → Cond → Type 0
 IsTyped IsColumn cond = every-Cond (IsTypedLayer IsColumn) cond

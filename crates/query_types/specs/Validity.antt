@@ -1,4 +1,4 @@
--- What holds of every query that was read over a schema.
+-- The facts about every query that was read over a schema.
 use Rattle.std.specs.Prelude.{◌≡◌, ◌<◌, ◌≤◌, Bool, true, false, List, length, All, Some, slice_get}
 use Rattle.limits.specs.Profile.{most_conjuncts}
 use Rattle.schema_types.specs.declared.types.Kind.{Kind}
@@ -13,7 +13,7 @@ use Rattle.query_types.specs.declared.types.Out.{Out}
 use Rattle.query_types.specs.declared.types.Query.{Query}
 use Rattle.query_types.specs.Typing.{IsTyped}
 
--- numbers are one kind, texts of any length the other
+-- there are two kinds here: numbers, and texts of any length
 abbrev pub is_text : Kind → Bool
 is_text kind.Int = false
 is_text (kind.Text n) = true
@@ -26,13 +26,13 @@ pub record FindsColumn (schema : Schema) (from : List Source) (ref : ColumnRef) 
   pub exists : slice_get schema.tables source.table ≡ Some table
   pub declared : slice_get table.columns ref.column ≡ Some column
 
--- the column exists and is of this kind
+-- the column exists, and has texts if `text` is true, and numbers if it is false
 pub record IsColumnOf (schema : Schema) (from : List Source) (ref : ColumnRef) (text : Bool) : Type 0 where
   pub column : Column
   pub finds : FindsColumn schema from ref column
   pub kind : is_text column.kind ≡ text
 
--- every comparison in a condition is over columns that exist, and of one kind
+-- every comparison in a condition names columns that exist, and its operands are of one kind
 abbrev pub IsCondOf : Schema → List Source → Cond → Type 0
 IsCondOf schema from cond = IsTyped (IsColumnOf schema from) cond
 

@@ -1,4 +1,4 @@
-//! What a query asks.
+//! A query, its conditions and its outputs.
 use base_io::{Boxed, Name, Seq};
 pub use query_grammar::Op;
 
@@ -9,7 +9,7 @@ pub struct ColumnRef {
     pub column: u32,
 }
 
-/// What a comparison compares.
+/// An operand of a comparison.
 #[derive(Debug, Drop)]
 pub enum Operand {
     Column(ColumnRef),
@@ -44,7 +44,7 @@ pub struct Out {
     pub name: Name,
 }
 
-/// A query: its FROM entries in text order, the conditions that all have to hold, and its outputs.
+/// A query: its FROM entries in text order, its conjuncts (conditions that must all hold), and its outputs.
 #[derive(Debug, Drop)]
 pub struct Query {
     pub from: Seq<Source>,

@@ -43,7 +43,6 @@ contains-has x (y ∷ ys) is = elim (cases_eq y x) [
   ]
 ]
 
--- the item is that of a row of the family
 abbrev pub in_family : List (List ℕ) → List (List ℕ) → ℕ → Bool
 in_family [] family item = false
 in_family (scan ∷ scans) family item =
@@ -74,9 +73,8 @@ in_family_within (scan ∷ scans) family item is = elim (cases_lt item (length s
   | inr high ↦ omega (arith, in_family_within scans (drop 1 family) (item - length scan) (sym (later_list scan scans family item high) ∙ is))
 ]
 
--- ---- slots
+-- ---- slots and numbered values
 
--- one number of a slot is one class and one side
 one_slot : (a b : ℕ) (on other : Bool) → slot_of a on ≡ slot_of b other → (a ≡ b) × (on ≡ other)
 one_slot a b true true e = (omega arith, refl)
 one_slot a b true false e = absurd (omega arith)
@@ -86,13 +84,11 @@ one_slot a b false false e = (omega arith, refl)
 some_one : (a b : ℕ × ℕ) → Some a ≡ Some b → a ≡ b
 some_one a b e = cc
 
--- one class has one value
 same_value : (classes : Classes) (a b m n k l : ℕ) → slice_get classes a ≡ Some (m, k) → slice_get classes b ≡ Some (n, l) → a ≡ b → (m ≡ n) × (k ≡ l)
 same_value classes a b m n k l p q same =
     let pair : (m, k) ≡ (n, l) = some_one (m, k) (n, l) (sym p ∙ ap (slice_get classes) same ∙ q) in
     (ap (λ (x : ℕ × ℕ). x.0) pair, ap (λ (x : ℕ × ℕ). x.1) pair)
 
--- and one value has one class
 only_class : (classes : Classes) (a b : ℕ) (v : ℕ × ℕ) → ValuesAreDifferent classes → slice_get classes a ≡ Some v → slice_get classes b ≡ Some v → a ≡ b
 only_class classes a b v different p q = elim (cases_lt a b) [
   | inl before ↦ absurd (different a b v before (slice_get_within classes b v q) (get_or_from_slice_get classes a v v p ∙ sym (get_or_from_slice_get classes b v v q)))
@@ -106,9 +102,8 @@ only_class classes a b v different p q = elim (cases_lt a b) [
 one_numbered : (equalities : List Edge) (m n : ℕ) (e f : Edge) → m ≡ n → IsNumbered equalities m e → IsNumbered equalities n f → e ≡ f
 one_numbered equalities m n e f same p q = sym p.1 ∙ ap (λ i. get_or equalities i e) same ∙ get_or_default equalities n e f q.0 ∙ q.1
 
--- ---- marks and families
+-- ---- consistent sets of items and consistent families
 
--- the same from either side
 abbrev pub equal_from : (Edge → ℕ → ℕ → Bool) → Edge → Bool → ℕ → ℕ → Bool
 equal_from equal e true = equal e
 equal_from equal e false = λ right left. equal e left right
@@ -130,7 +125,6 @@ module _ (scans : List (List ℕ)) (equalities : List Edge) (key : Keys) (equal 
   partners family e false consistent has = consistent.from_right e has
 
   module _ (classes : Classes) (uses : List Use) (different : ValuesAreDifferent classes) (wired : AreWired scans equalities key classes (length equalities) uses) where
-    -- the rows of a consistent set of items have their partners
     from_marks : (kept : ℕ → Bool) → sets.IsConsistent (first_item scans (length scans)) uses kept → (number : ℕ) (e : Edge) (on : Bool) → IsNumbered equalities number e
         → HavePartners (equal_from equal e on) (list_at (marked_family kept 0 scans) (near e on).entry) (list_at (marked_family kept 0 scans) (near e (opposite on)).entry)
     from_marks kept consistent number e on numbered row in_marked =
@@ -156,7 +150,6 @@ module _ (scans : List (List ℕ)) (equalities : List Edge) (key : Keys) (equal 
           key_same e on row partner (number, numbered.0, numbered.1) row_scanned (subst (λ (s : Place). Contains (list_at scans s.entry) partner) side scanned) keys,
         )
 
-    -- the items of a consistent family are a consistent set
     from_consistent : (family : List (List ℕ)) → IsConsistent scans equalities equal family → sets.IsConsistent (first_item scans (length scans)) uses (in_family scans family)
     from_consistent family consistent = record {
       within = in_family_within scans family;

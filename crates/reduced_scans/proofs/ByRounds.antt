@@ -1,4 +1,4 @@
--- Rounds end in the reduced scans: every round keeps what a consistent family has, and the rows run out.
+-- Rounds end in the reduced scans: every round keeps the rows of all consistent families, and after enough rounds nothing changes any more.
 use Rattle.std.proofs.Common.{◌≡◌, ℕ, zero, suc, ◌+◌, ◌<◌, ◌≤◌, Bool, true, not, ◌||◌, List, [], ◌∷◌, length, refl, ap, sym, ◌∙◌, subst, arith, inl, inr}
 use Rattle.std.specs.Prelude.{◌==◌}
 use Rattle.std.specs.List.{Contains, filter, list_any}
@@ -18,7 +18,7 @@ use Rattle.reduced_scans.proofs.Members.{behind, in_cases, in_front, not_in_none
 use Rattle.join_steps.proofs.WholeScans.{ascending, filter_ascends}
 use Rattle.level_bounds.proofs.Scanning.{implied, implies}
 
--- ---- tests of any, read and made
+-- ---- `list_any` and a member that passes the test
 
 some_of : (p : ℕ → Bool) (xs : List ℕ) → list_any p xs ≡ true → (x : ℕ) × Contains xs x × (p x ≡ true)
 some_of p [] h = absurd (false≢true h)
@@ -69,7 +69,7 @@ module _ (equal : Edge → ℕ → ℕ → Bool) (family : List (List ℕ)) (ent
       let partner : HasPartner (λ right left. equal e left right) (list_at family e.left.entry) row = right (eqb-true e.right.entry entry at) in
       any_of (λ left. equal e left row) (list_at family e.left.entry) partner.0 partner.1 partner.2))
 
--- ---- lists that get shorter, or stay
+-- ---- a filter makes a list shorter, or leaves it as it is
 
 pub filter_shrinks : (p : ℕ → Bool) (xs : List ℕ) → length (filter p xs) ≤ length xs
 filter_shrinks p [] = omega arith
@@ -102,12 +102,11 @@ module _ (scans : List (List ℕ)) (es : List Edge) (equal : Edge → ℕ → �
       ap (λ (s : List ℕ). s ∷ round_from es equal family (suc first) lists) (filter_stays (finds_all es equal family first) list (omega (arith, same, some, rest)))
       ∙ ap (λ (s : List (List ℕ)). list ∷ s) (round_stays family lists (suc first) (omega (arith, same, some, rest)))
 
-  -- where a round changes nothing, no further one does
   settled : (count : ℕ) (family : List (List ℕ)) → round family ≡ family → after_rounds es equal count family ≡ family
   settled zero family same = refl
   settled (suc count) family same = ap (λ (f : List (List ℕ)). after_rounds es equal count f) same ∙ settled count family same
 
-  -- ---- a round, list by list
+  -- ---- the list of an entry after a round
 
   round_at : (family lists : List (List ℕ)) (first entry : ℕ) → list_at (round_from es equal family first lists) entry ≡ filter (finds_all es equal family (first + entry)) (list_at lists entry)
   round_at family [] first entry = refl
@@ -126,9 +125,8 @@ module _ (scans : List (List ℕ)) (es : List Edge) (equal : Edge → ℕ → �
       let n : 0 + entry ≡ entry = omega arith in
       round_at family family 0 entry ∙ ap (λ (k : ℕ). filter (finds_all es equal family k) (list_at family entry)) n
 
-  -- ---- what rounds keep
+  -- ---- rounds keep that the lists are a family, and that they contain every consistent family
 
-  -- every consistent family is within it
   abbrev Contained : List (List ℕ) → Type 0
   Contained family = (other : List (List ℕ)) → IsConsistent scans es equal other → (entry row : ℕ) → Contains (list_at other entry) row → Contains (list_at family entry) row
 
@@ -152,7 +150,7 @@ module _ (scans : List (List ℕ)) (es : List Edge) (equal : Edge → ℕ → �
       consistent.from_right e there row (subst (λ (k : ℕ). Contains (list_at other k) row) (sym at) has) in
       (partner.0, all other consistent e.left.entry partner.0 partner.1, partner.2)))))
 
-  -- ---- where a round changes nothing
+  -- ---- if a round changes nothing, the family is reduced
 
   fixed : (family : List (List ℕ)) → IsFamily scans family → Contained family → round family ≡ family → IsReduced scans es equal family
   fixed family is all same = record {

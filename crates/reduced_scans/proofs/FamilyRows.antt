@@ -1,4 +1,5 @@
--- Lists of scanned rows: each has the rows of its table that stand in it, and a level over them has those choices.
+-- A family has for each entry a list of some scanned rows. Each list is a filter of the rows of its table, and a level over the family has the
+-- choices of listed rows.
 use Rattle.std.proofs.Common.{◌≡◌, ℕ, ◌<◌, Bool, List, ap, ◌∙◌, subst, arith, inl, inr, length}
 use Rattle.std.specs.List.{Contains, filter, range_with_len}
 use Rattle.std.proofs.lemmas.Bool.{cases_lt}
@@ -18,7 +19,6 @@ use Rattle.join_steps.proofs.WholeScans.{scan_at, filter_ascends, range_ascends,
 use Rattle.reduced_scans.proofs.QueryScans.{scanned_low}
 
 module _ (query : Query) (tables : Tables) (family : List (List ℕ)) (is : IsFamily (scans_of query tables) family) where
-  -- whether the row is one of its entry's list
   abbrev pub stays : ℕ → ℕ → Bool
   stays entry row = has row (list_at family entry)
 

@@ -1,4 +1,4 @@
--- The choices of a level over all entries are matches of scanned rows, so their rows are reduced ones.
+-- The choices of a level over all entries are matches of scanned rows, so their rows are in the reduced scans.
 use Rattle.std.proofs.Common.{◌≡◌, ℕ, ◌<◌, true, false, not, ◌||◌, eqb, List, [], ◌∷◌, length, get_or, map, ap, sym, ◌∙◌, subst, arith, inl, inr}
 use Rattle.std.specs.Prelude.{All, Some}
 use Rattle.std.specs.List.{AllByRecursion, Contains, list_all, range_with_len}
@@ -39,7 +39,6 @@ module _ (query : Query) (tables : Tables) (asks : AllByRecursion AsksOnly (conj
   placed : (entry : ℕ) → entry < length query.from → Contains order entry
   placed entry low = entry_in (entries_of query) order o entry (in_range 0 (length query.from) entry (omega arith) (omega arith))
 
-  -- each conjunct holds, since it names FROM entries alone
   cond_true : (cond : Cond) → Contains query.conjuncts cond → cond_holds tables row_of cond ≡ true
   cond_true cond there =
       implied (names_only (conjunct_of tables cond) order) (cond_holds tables row_of cond)
@@ -53,7 +52,6 @@ module _ (query : Query) (tables : Tables) (asks : AllByRecursion AsksOnly (conj
       implied (names_only c order) (c.holds row_of)
       (all_true (λ (c : Conjunct). not (names_only c order) || c.holds row_of) (conjuncts_of query tables) (stands (conjuncts_of query tables) (row_counts tables) order choice k).holds c there) names
 
-  -- the row of an entry is one of its scan
   row_scanned : (entry : ℕ) → entry < length query.from → Contains (query_scan query tables entry) (row_of entry)
   row_scanned entry low =
       in_filter (λ row. list_all (λ (c : Conjunct). not (names_just c entry) || c.holds (λ e. row)) (conjuncts_of query tables)) (range_with_len 0 (row_counts tables entry)) (row_of entry)

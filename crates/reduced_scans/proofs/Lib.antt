@@ -1,29 +1,29 @@
--- How the proofs of this crate go: what was hard, and what closed it.
+-- How the proofs of this crate go: what was hard, and how it was solved.
 --
--- - `IsUseFor` names a value by its place in the list of values, so it stays true while values are appended (`use_later`), and no function
+-- - `IsUseFor` names a value by its place in the list of values. So it stays true when values are appended (`use_later`), and no function
 --   from values to slots is needed.
--- - Recurse with the first item's number and not with a shifted function: no equality of functions arises.
--- - `level` is `over_restricted` of join_steps, since a reduced list is a filter of the table's rows (`same_members`).
--- - A buffer with room for just what comes (`marked_rows`): count first, and keep the invariant "spare and items together are the count".
---   That there is room for one more is then a fact about the next row (`one_to_come`). So a must-fail edit that pushes another row fails at
---   the push and not at the clause; make the change earlier, in what is marked.
--- - Rounds (`ByRounds`): a round either changes nothing or leaves fewer rows, so with more rounds than rows one changes nothing: one
---   induction on their number, with the number of rows below it. Every round keeps that the lists are a family and contain every consistent
---   family, and when a round changes nothing every row has its partners.
+-- - Recursion passes the first item's number on, and not a shifted function, so no equality of functions has to be proved.
+-- - `level` is `over_restricted` of sql_meaning, since a reduced list is a filter of the table's rows (`same_members`).
+-- - `marked_rows` fills a buffer that has exactly enough room: the rows are counted first, and the loop keeps "spare and items together are
+--   the count". That there is room for one more row is then a fact about the next row (`one_to_come`). So a must-fail edit that pushes
+--   another row fails at the push and not at the clause; make the change earlier, where rows are marked.
+-- - Rounds (`ByRounds`): a round either changes nothing or leaves fewer rows. So if there are more rounds than rows, some round changes
+--   nothing. This is one induction on the number of rounds, which is above the number of rows. Every round keeps that the lists are a family
+--   and contain every consistent family. When a round changes nothing, every row has its partners.
 -- - Semi-joins before the worklist (`Sifting`): "sifted" says that every consistent family is still within the lists. So a step needn't be
---   exact, and a set of values must only contain the values of its rows. That the reduced lists are the reduced scans is a few lines each
---   way.
--- - `StaySifted` speaks of whatever scans the lists are sifted from, so no function below `sifted` knows the scans, and steps compose
---   (`stay_both`). The step itself is said list by list (`IsJoinedAt`), from which both that and "still lists of the database" follow
---   (`joined_lists`).
--- - The test is a field of `IsSemiJoin`, so a list without any change is a semi-join too (`joined_not`), and the code's two exits are one
---   clause.
--- - Key functions in place of cells and columns: `slice_index cells.now` of the code and `key_on (cell_at db) side` compute to each other
---   after one `rw`.
--- - Of the fourteen functions seven have no file at all or only an invariant. `All P (take index list)` with `All-more` for marks; for the
---   ends of a range the invariant by index, `(k : ℕ) → k < index → ..`, needs no answer, and the one over `take` stays open at `max`.
--- - Lists of scanned rows in general (`FamilyRows`): that a list is a filter of its table's rows needs no partner, so the level over any
---   such lists is a filter of the query's level, and reduced scans are one instance.
+--   exact: a set of values may have more values than those of its rows. That the reduced lists are the reduced scans takes a few lines in
+--   each direction.
+-- - `StaySifted` is about any scans from which the lists are sifted. So no function that `sifted` calls knows the scans, and steps compose
+--   (`stay_both`). The step itself is stated list by list (`IsJoinedAt`). From it follow both `StaySifted` and that the lists are still lists
+--   of the database (`joined_lists`).
+-- - The test is a field of `IsSemiJoin`, so an unchanged list is a semi-join too (`joined_not`), and one clause covers both exits of the code.
+-- - Lemmas take key functions and not cells and columns: `slice_index cells.now` of the code and `key_on (cell_at db) side` compute to each
+--   other after one `rw`.
+-- - Of the fourteen functions of `semi_joins` and `value_sets`, seven have no proof file or only an invariant. For marks the invariant is
+--   `All P (take index list)` with `All-more`. For the ends of a range the invariant by index, `(k : ℕ) → k < index → ..`, needs no further
+--   proof, while one over `take` stays open at `max`.
+-- - Families in general (`FamilyRows`): that a list is a filter of its table's rows doesn't depend on partners. So the level over any family
+--   is a filter of the query's level, and reduced scans are one case.
 
 pub mod Members
 pub mod OneReduced

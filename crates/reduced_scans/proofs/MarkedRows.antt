@@ -1,4 +1,4 @@
--- The rows of marked items.
+-- The code lists the rows whose items are marked, entry by entry and row by row. The lists are a family.
 use Rattle.std.proofs.Common.{◌≡◌, ℕ, zero, suc, ◌+◌, ◌<◌, ◌≤◌, Bool, true, false, List, [], ◌∷◌, ◌++◌, length, length-append, get_or, take, refl, ap, sym, ◌∙◌, subst, arith, inl, inr}
 use Rattle.std.specs.Prelude.{if◌then◌else◌}
 use Rattle.std.specs.List.{Contains}
@@ -29,7 +29,6 @@ has_marked kept first (row ∷ rows) (suc i) h m =
       | inr no_here ↦ subst (λ l. Contains l x) (sym (rows_no kept first row rows no_here)) later
     ]
 
--- the row stands at a place of the list whose item is marked
 abbrev pub Marked : (ℕ → Bool) → ℕ → List ℕ → ℕ → Type 0
 Marked kept first rows x = (i : ℕ) × (i < length rows) × (kept (first + i) ≡ true) × (get_or rows i 0 ≡ x)
 
@@ -46,7 +45,6 @@ is_marked kept first (row ∷ rows) x has = elim (cases_Bool (kept first)) [
   | inr no_here ↦ next_marked kept first row rows x (is_marked kept (first + 1) rows x (subst (λ l. Contains l x) (rows_no kept first row rows no_here) has))
 ]
 
--- a row by its place
 pub at_place : (rows : List ℕ) (i x : ℕ) → i < length rows → get_or rows i 0 ≡ x → Contains rows x
 at_place [] i x h is = absurd (omega arith)
 at_place (row ∷ rows) zero x h is = in_front x row rows is
@@ -70,7 +68,7 @@ marked_ascends kept first (row ∷ rows) p = elim (cases_Bool (kept first)) [
   | inr no_here ↦ subst IsAscending (sym (rows_no kept first row rows no_here)) (marked_ascends kept (first + 1) rows p.1)
 ]
 
--- ---- the lists of all entries
+-- ---- the marked rows in the lists of all entries
 
 marked_there : (kept : ℕ → Bool) (first : ℕ) (scans : List (List ℕ)) (entry place : ℕ) → place < length (list_at scans entry) → kept (first + (first_item scans entry + place)) ≡ true
     → Contains (list_at (marked_family kept first scans) entry) (row_at scans entry place)
@@ -80,7 +78,6 @@ marked_there kept first (scan ∷ scans) (suc entry) place h m =
     let n : (first + length scan) + (first_item scans entry + place) ≡ first + ((length scan + first_item scans entry) + place) = omega arith in
     marked_there kept (first + length scan) scans entry place h (ap kept n ∙ m)
 
--- the row stands at a place of its entry's list whose item is marked
 abbrev pub MarkedFrom : (ℕ → Bool) → ℕ → List (List ℕ) → ℕ → ℕ → Type 0
 MarkedFrom kept first scans entry x = (place : ℕ) × (place < length (list_at scans entry)) × (kept (first + (first_item scans entry + place)) ≡ true) × (row_at scans entry place ≡ x)
 
@@ -125,7 +122,7 @@ ascends kept first (scan ∷ scans) (suc entry) p = ascends kept (first + length
 pub is_family : (scans : List (List ℕ)) (kept : ℕ → Bool) → AreAscending scans → IsFamily scans (marked_family kept 0 scans)
 is_family scans kept p = record { count = same_count kept 0 scans; scanned = in_scan kept 0 scans; ascending = λ entry. ascends kept 0 scans entry p }
 
--- ---- list by list, and row by row, as loops make them
+-- ---- the marked rows of one more list, and of one more row, for the loops
 
 pub family-take : (kept : ℕ → Bool) (first : ℕ) (scans : List (List ℕ)) (k : ℕ) → k < length scans
     → marked_family kept first (take (k + 1) scans) ≡ marked_family kept first (take k scans) ++ marked_rows kept (first + first_item scans k) (list_at scans k) ∷ []
@@ -179,7 +176,6 @@ fewer kept first (row ∷ rows) (suc k) = elim (cases_Bool (kept first)) [
   | inr no_here ↦ rw no_here (fewer kept (first + 1) rows k)
 ]
 
--- a marked row is one of those that are still to come
 pub one_to_come : (kept : ℕ → Bool) (first : ℕ) (rows : List ℕ) (k : ℕ) → k < length rows → kept (first + k) ≡ true
     → length (marked_rows kept first (take k rows)) + 1 ≤ length (marked_rows kept first rows)
 one_to_come kept first rows k h is = omega (arith, counted_more kept first rows k h is, fewer kept first rows (k + 1))
@@ -197,7 +193,6 @@ first-take (scan ∷ scans) zero h = first_one scans
     first_one (s ∷ scans) = omega arith
 first-take (scan ∷ scans) (suc k) h = let e : suc k + 1 ≡ suc (k + 1) = omega arith in ap (first_item (scan ∷ scans)) e ∙ omega (arith, first-take scans k (omega arith))
 
--- the items of an entry's rows are among all items
 pub items_within : (scans : List (List ℕ)) (entry : ℕ) → entry < length scans → first_item scans entry + length (list_at scans entry) ≤ first_item scans (length scans)
 items_within [] entry h = absurd (omega arith)
 items_within (scan ∷ scans) zero h = omega arith

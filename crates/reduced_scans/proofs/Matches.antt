@@ -1,4 +1,4 @@
--- The rows of a match are a consistent family by themselves.
+-- The rows of a match, each alone in its entry's list, are a consistent family.
 use Rattle.std.proofs.Common.{◌≡◌, ℕ, zero, suc, Bool, true, ◌<◌, List, [], ◌∷◌, length, get_or, refl, ap, sym, ◌∙◌, subst, arith, inl, inr}
 use Rattle.std.specs.List.{Contains}
 use Rattle.std.proofs.lemmas.Bool.{cases_lt}
@@ -27,7 +27,6 @@ in_one x row has = elim (in_cases row x [] has) [
   | inr there ↦ absurd (not_in_none row there)
 ]
 
--- what is kept is the choice's row of an entry
 kept_is : (choice : List ℕ) (e row : ℕ) → Contains (list_at (singles choice) e) row → (e < length choice) × (get_or choice e 0 ≡ row)
 kept_is choice e row has = elim (cases_lt e (length choice)) [
   | inl within ↦ (within, in_one (get_or choice e 0) row (subst (λ l. Contains l row) (single_at choice e within) has))

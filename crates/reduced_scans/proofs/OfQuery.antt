@@ -1,4 +1,4 @@
--- The lists of a query's scans, and why its equalities hold just where cells are equal.
+-- The lists that the code reads from its buffers are the scans of the query. Two rows satisfy an equality if and only if their cells are equal.
 use Rattle.std.proofs.Common.{◌≡◌, ℕ, zero, suc, ◌+◌, ◌<◌, ◌≤◌, Bool, not, ◌||◌, List, [], ◌∷◌, ◌++◌, Option, None, Some, length, get_or, take, ap, sym, ◌∙◌, subst, arith, inl, inr}
 use Rattle.std.specs.Prelude.{◌==◌, All, IsUtf8}
 use Rattle.std.specs.List.{Contains, cons_option, filter_map, list_all, range_with_len}
@@ -42,7 +42,6 @@ use Rattle.reduced_scans.proofs.QueryScans.{scanned_low}
 
 -- ---- lists in buffers
 
--- a list as the code reads it
 pub read_list : (lists : List (Rows ℕ)) (entry : ℕ) (list : Rows ℕ) → entry < length lists → list ≡ get_or lists entry list → list.items ≡ list_at (lists_of lists) entry
 read_list [] entry list low is = absurd (omega arith)
 read_list (first ∷ lists) zero list low is = ap (λ (l : Rows ℕ). l.items) is
@@ -52,7 +51,6 @@ pub read_short : (lists : List (Rows ℕ)) → ((entry : ℕ) → length (list_a
     → list ≡ get_or lists entry list → length list.items ≤ most_rows
 read_short lists short entry list low is = omega (arith, ap (λ (l : List ℕ). length l) (read_list lists entry list low is), short entry)
 
--- the marked rows of one more list
 pub marked_more : (kept : ℕ → Bool) (scans lists new : List (Rows ℕ)) (entry first : ℕ) (rows : Rows ℕ) (list : List ℕ) → entry < length scans → new ≡ lists ++ rows ∷ []
     → first ≡ first_item (lists_of scans) entry → list ≡ list_at (lists_of scans) entry → rows.items ≡ marked_rows kept first list
     → lists_of lists ≡ marked_family kept 0 (take entry (lists_of scans)) → lists_of new ≡ marked_family kept 0 (take (entry + 1) (lists_of scans))
@@ -62,7 +60,7 @@ marked_more kept scans lists new entry first rows list low more is_first is_list
     ap lists_of more ∙ map-append (λ (l : Rows ℕ). l.items) lists (rows ∷ []) ∙ ap (λ (ls : List (List ℕ)). ls ++ rows.items ∷ []) so_far
     ∙ ap (λ (l : List ℕ). marked_family kept 0 (take entry (lists_of scans)) ++ l ∷ []) made ∙ sym (family-take kept 0 (lists_of scans) entry (omega (arith, length-lists_of scans)))
 
--- ---- lengths
+-- ---- the lengths of scans
 
 pub length-scan : (query : Query) (db : Database) (entry : ℕ) → length (scan_of query db entry) ≤ row_counts (tables_of db) entry
 length-scan query db entry =
@@ -83,7 +81,7 @@ length-equalities (cond ∷ conds) = omega (arith, length-cons_option (equality_
 pub few_equalities : (query : Query) → length (equalities_of query) ≤ length query.conjuncts
 few_equalities query = length-equalities query.conjuncts
 
--- ---- the scans
+-- ---- the lists in the buffers are the scans of the query
 
 module _ (query : Query) (db : Database) (scans : List (Rows ℕ)) (of : IsDatabaseOf query db) (count : length scans ≡ length query.from)
     (are : (entry : ℕ) → entry < length query.from → list_at (lists_of scans) entry ≡ scan_of query db entry) where
@@ -109,7 +107,6 @@ module _ (query : Query) (db : Database) (scans : List (Rows ℕ)) (of : IsDatab
 
 -- ---- the columns of equalities
 
--- an equality of two columns of one kind
 pub record JoinsKinds (db : Database) (e : Edge) : Type 0 where
   pub text : Bool
   pub left : IsColumnOfKind db (column_of e.left) text
@@ -128,7 +125,6 @@ joins_columns query db of i d low =
     let kinds : JoinsKinds db (get_or (equalities_of query) i d) = joins_kinds query db (get_or (equalities_of query) i d) of (Contains-get_or (equalities_of query) i d low) in
     record { left = kinds.left.exists; right = kinds.right.exists }
 
--- two columns of one kind have equal values just where they have equal cells
 columns_tell : (db : Database) (a b : ColumnRef) (text : Bool) (left right : ℕ) → AreTables db → TextsAreDifferent db.pool → All IsUtf8 db.pool → IsColumnOfKind db a text → IsColumnOfKind db b text
     → left < (cells_of db a.from).rows → right < (cells_of db b.from).rows
     → is_eq (value_cmp (value_at (tables_of db) a.from a.column left) (value_at (tables_of db) b.from b.column right)) ≡ (cell_at db a.from a.column left == cell_at db b.from b.column right)

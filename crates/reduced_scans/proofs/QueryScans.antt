@@ -1,4 +1,4 @@
--- The scans of a query: rows of tables, of the entries that equalities join.
+-- The scans of a query have rows of the tables, and the query's equalities join FROM entries.
 use Rattle.std.proofs.Common.{◌≡◌, ℕ, ◌<◌, not, ◌||◌, [], ◌∷◌, Some, length, subst, arith}
 use Rattle.std.specs.Prelude.{All}
 use Rattle.std.specs.List.{Contains, list_all, range_with_len}
@@ -17,14 +17,12 @@ use Rattle.join_steps.specs.Lists.{scans_of}
 use Rattle.join_steps.proofs.WholeScans.{count_of}
 use Rattle.reduced_scans.specs.Families.{NameEntries}
 
--- a scanned row is a row of the table
 pub scanned_low : (query : Query) (tables : Tables) (entry row : ℕ) → Contains (query_scan query tables entry) row → row < row_counts tables entry
 scanned_low query tables entry row has =
     let there : Contains (range_with_len 0 (row_counts tables entry)) row =
     (from_filter (λ row. list_all (λ c. not (names_just c entry) || c.holds (λ e. row)) (conjuncts_of query tables)) (range_with_len 0 (row_counts tables entry)) row has).0 in
     omega (arith, (range_within 0 (row_counts tables entry) row there).1)
 
--- the equalities of a query join FROM entries
 pub name_entries : (query : Query) (tables : Tables) → NamesItsEntries query → NameEntries (length (scans_of query tables)) (equalities_of query)
 name_entries query tables named e has =
     let found : (cond : Cond) × Contains query.conjuncts cond × (equality_of cond ≡ Some e) = from_filter_map equality_of query.conjuncts e has in

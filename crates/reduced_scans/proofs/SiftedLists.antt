@@ -1,4 +1,4 @@
--- Semi-joins of lists in buffers.
+-- These lemmas are about semi-joins of lists that are kept in buffers.
 use Rattle.std.proofs.Common.{◌≡◌, ℕ, ◌<◌, ◌≤◌, true, List, [], ◌∷◌, Some, length, set, refl, ap, sym, ◌∙◌, subst, arith, inl, inr}
 use Rattle.std.specs.Prelude.{All, slice_get}
 use Rattle.std.proofs.lemmas.Bool.{cases_eq}
@@ -20,12 +20,11 @@ use Rattle.join_steps.proofs.WholeScans.{length-lists_of}
 use Rattle.level_bounds.proofs.NearWhole.{all_kept}
 use Rattle.reduced_scans.proofs.OfQuery.{read_list}
 
--- a list as the code gets it
 pub got_list : (lists : List (Rows ℕ)) (entry : ℕ) (list : Rows ℕ) → slice_get lists entry ≡ Some list → list.items ≡ list_at (lists_of lists) entry
 got_list lists entry list got = read_list lists entry list (slice_get_within lists entry list got) (sym (get_or_from_slice_get lists entry list list got))
 
 module _ (key : Keys) (side other : Place) where
-  -- where nothing is put aside every row passes
+  -- unchanged lists are a semi-join too: every row passes
   pub joined_not : (lists : List (List ℕ)) → IsJoinedAt key side other lists lists
   joined_not lists = record {
     count = refl;
@@ -50,7 +49,7 @@ module _ (key : Keys) (side other : Place) where
         elsewhere = λ entry apart. ap (λ (l : List (List ℕ)). list_at l entry) same ∙ get_or-set_other (lists_of lists) side.entry entry kept.items [] apart;
       }
 
-  -- no list became longer, nor has it other rows
+  -- after a semi-join the lists are still lists of rows of the database, since no list became longer or got other rows
   pub joined_lists : (db : Database) (old new : List (Rows ℕ)) → AreRowLists db old → IsJoinedAt key side other (lists_of old) (lists_of new) → AreRowLists db new
   joined_lists db old new are joined =
       let count : length new ≡ length old = sym (length-lists_of new) ∙ joined.count ∙ length-lists_of old in
@@ -78,7 +77,7 @@ module _ (key : Keys) (side other : Place) where
         ];
       }
 
--- ---- copies
+-- ---- copies of lists
 
 pub lists_alike : (db : Database) (scans lists : List (Rows ℕ)) → AreRowLists db scans → lists_of lists ≡ lists_of scans → AreRowLists db lists
 lists_alike db scans lists are same =

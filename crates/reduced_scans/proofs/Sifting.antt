@@ -1,4 +1,4 @@
--- Semi-joins put no row aside that stands in a consistent family, so what is left has the reduced scans of the whole.
+-- Semi-joins remove no row that is in a consistent family, so the remaining rows have the same reduced scans as all rows.
 use Rattle.std.proofs.Common.{◌≡◌, ℕ, Bool, true, List, refl, sym, ◌∙◌, subst, inl, inr}
 use Rattle.std.specs.List.{Contains, filter}
 use Rattle.std.proofs.lemmas.Bool.{cases_eq}
@@ -23,7 +23,7 @@ module _ (scans : List (List ℕ)) (equalities : List Edge) (equal : Edge → �
   sifted_tell key lists tells sifted e there left right in_left in_right =
       tells e there left right (sifted.is_family.scanned e.left.entry left in_left) (sifted.is_family.scanned e.right.entry right in_right)
 
-  -- ---- the end: the reduced lists are the reduced scans
+  -- ---- the reduced lists of the remaining rows are the reduced scans
 
   over_lists : (lists family : List (List ℕ)) → IsSifted scans equalities equal lists → IsConsistent scans equalities equal family → IsConsistent lists equalities equal family
   over_lists lists family sifted consistent = record {
@@ -50,11 +50,10 @@ module _ (scans : List (List ℕ)) (equalities : List Edge) (equal : Edge → �
     greatest = λ other consistent. are.greatest other (over_lists lists other sifted consistent);
   }
 
--- ---- a step: one side of an equality by the other
+-- ---- one step: the semi-join of one side of an equality with the other side
 
 module _ (scans : List (List ℕ)) (equalities : List Edge) (key : Keys) (equal : Edge → ℕ → ℕ → Bool) (tells : TellsByKey scans equalities key equal)
     (old new : List (List ℕ)) (e : Edge) (on : Bool) (there : Contains equalities e) (joined : IsJoinedAt key (near e on) (near e (opposite on)) old new) (sifted : IsSifted scans equalities equal old) where
-  -- a row of the new list passes the test, and stood in the old one
   was_there : (entry row : ℕ) → Contains (list_at new entry) row → Contains (list_at old entry) row
   was_there entry row has = elim (cases_eq entry (near e on).entry) [
     | inl same ↦ (let here : Contains (list_at new (near e on).entry) row = subst (λ (k : ℕ). Contains (list_at new k) row) same has in
@@ -70,7 +69,7 @@ module _ (scans : List (List ℕ)) (equalities : List Edge) (key : Keys) (equal 
     | inr other ↦ subst IsAscending (sym (joined.elsewhere entry other)) (sifted.is_family.ascending entry)
   ]
 
-  -- a row of a consistent family has a partner there, which stands in the list of the other side and has its key
+  -- A row of a consistent family stays. It has a partner in the family, and this partner is in the list of the other side and has the row's key.
   stays : (family : List (List ℕ)) → IsConsistent scans equalities equal family → (row : ℕ) → Contains (list_at family (near e on).entry) row → Contains (list_at new (near e on).entry) row
   stays family consistent row has =
       let partner : HasPartner (equal_from equal e on) (list_at family (near e (opposite on)).entry) row = partners scans equalities key equal tells family e on consistent there row has in
@@ -96,7 +95,7 @@ module _ (scans : List (List ℕ)) (equalities : List Edge) (key : Keys) (equal 
     keeps = keeps_row;
   }
 
--- ---- steps one after the other
+-- ---- several steps, one after another
 
 pub stay_both : (key : Keys) (equalities : List Edge) (a b c : List (List ℕ)) → StaySifted key equalities a b → StaySifted key equalities b c → StaySifted key equalities a c
 stay_both key equalities a b c first second = record { stay = λ scans equal tells sifted. second.stay scans equal tells (first.stay scans equal tells sifted) }

@@ -1,4 +1,4 @@
--- There is a reduced family: rows without a partner go one by one.
+-- There is a reduced family: rows without a partner are removed one by one.
 use Rattle.std.proofs.Common.{◌≡◌, ℕ, zero, suc, Bool, true, ◌+◌, ◌<◌, ◌≤◌, List, [], ◌∷◌, length, set, refl, ap, sym, ◌∙◌, subst, arith, inl, inr}
 use Rattle.std.specs.Prelude.{◌⊎◌, ◌==◌, if◌then◌else◌}
 use Rattle.std.specs.List.{Contains}
@@ -68,7 +68,6 @@ still_ascends x (y ∷ ys) p = elim (cases_eq y x) [
       (all_in (λ z. y < z) (without x ys) (λ z has. all_has (λ z. y < z) ys z p.0 (before x ys z has)), still_ascends x ys p.1)
 ]
 
--- how many rows stand in the lists together
 abbrev total : List (List ℕ) → ℕ
 total [] = 0
 total (list ∷ lists) = length list + total lists
@@ -78,7 +77,6 @@ total-set [] e l h = absurd (omega arith)
 total-set (list ∷ lists) zero l h = omega arith
 total-set (list ∷ lists) (suc e) l h = omega (arith, total-set lists e l (omega arith))
 
--- a row that goes
 abbrev pub gone : List (List ℕ) → ℕ → ℕ → List (List ℕ)
 gone family e row = set family e (without row (list_at family e))
 
@@ -111,7 +109,6 @@ gone_family scans family e row h is = record {
   ];
 }
 
--- every consistent family is contained
 abbrev pub Contained : List (List ℕ) → List Edge → (Edge → ℕ → ℕ → Bool) → List (List ℕ) → Type 0
 Contained scans equalities equal family = (other : List (List ℕ)) → IsConsistent scans equalities equal other → (e row : ℕ) → Contains (list_at other e) row → Contains (list_at family e) row
 
@@ -124,7 +121,6 @@ gone_contained scans equalities equal family e row h all doomed other consistent
   | inr apart ↦ subst (λ l. Contains l z) (sym (gone_there family e row k apart)) (all other consistent k z has)
 ]
 
--- a row has a partner, or none
 abbrev pub Lacks : (ℕ → ℕ → Bool) → List ℕ → ℕ → Type 0
 Lacks equal partners row = (partner : ℕ) → Contains partners partner → equal row partner ≡ true → ⊥
 
@@ -145,7 +141,6 @@ side_or_bad equal rows partners = each_or_some (HasPartner equal partners) (Lack
 abbrev pub Some : List (List ℕ) → List Edge → (Edge → ℕ → ℕ → Bool) → Type 0
 Some scans equalities equal = (reduced : List (List ℕ)) × IsReduced scans equalities equal reduced
 
--- how a smaller family goes on
 abbrev pub Next : List (List ℕ) → List Edge → (Edge → ℕ → ℕ → Bool) → List (List ℕ) → Type 0
 Next scans equalities equal family = (smaller : List (List ℕ)) → total smaller < total family → IsFamily scans smaller → Contained scans equalities equal smaller → Some scans equalities equal
 

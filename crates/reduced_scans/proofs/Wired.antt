@@ -1,4 +1,4 @@
--- Uses that are added row by row, side by side and equality by equality.
+-- Uses are added row by row, side by side and equality by equality. These lemmas say which uses and values there are after each step.
 use Rattle.std.proofs.Common.{◌≡◌, ℕ, zero, suc, ◌+◌, ◌*◌, ◌<◌, ◌≤◌, Bool, true, false, List, [], ◌∷◌, ◌++◌, Some, length, get_or, refl, ap, sym, ◌∙◌, subst, arith, inl, inr, append-nil, append_assoc, length-append}
 use Rattle.std.specs.Prelude.{◌⊎◌, All, slice_get, slice_index}
 use Rattle.std.specs.List.{Contains}
@@ -18,7 +18,7 @@ use Rattle.reduced_scans.specs.Wiring.{AddsUses, AreWired, ValuesBeginWith, Clas
 use Rattle.reduced_scans.proofs.MarkedRows.{items_within}
 use Rattle.reduced_scans.proofs.Members.{in_front}
 
--- ---- classes that go on
+-- ---- the list of values keeps its beginning
 
 pub begins_same : (classes : Classes) → ValuesBeginWith classes classes
 begins_same classes = record { more = []; grew = sym (append-nil classes) }
@@ -44,7 +44,7 @@ use_later old new equality on cell item u begins is = record {
   needs = is.needs;
 }
 
--- ---- row by row
+-- ---- the uses of one more row
 
 pub adds_none : (equality : ℕ) (on : Bool) (first : ℕ) (cells list : List ℕ) (classes : Classes) (uses : List Use) → AddsUses equality on first cells list 0 classes classes uses uses
 adds_none equality on first cells list classes uses = record {
@@ -89,10 +89,9 @@ adds_one equality on first cells list count old mid new old_uses mid_uses new_us
       ];
     }
 
--- ---- equality by equality
+-- ---- the uses of one more equality
 
 module _ (scans : List (List ℕ)) (equalities : List Edge) (key : Keys) (number : ℕ) (e : Edge) (numbered : IsNumbered equalities number e) where
-  -- the uses of a side, where the cells are the keys of its column
   abbrev AddsSide : Bool → List ℕ → Classes → Classes → List Use → List Use → Type 0
   AddsSide on cells old new old_uses new_uses =
       AddsUses number on (first_item scans (near e on).entry) cells (list_at scans (near e on).entry) (length (list_at scans (near e on).entry)) old new old_uses new_uses
@@ -112,7 +111,6 @@ module _ (scans : List (List ℕ)) (equalities : List Edge) (key : Keys) (number
     is_use = use_later old new is.number is.on (key_on key (near is.edge is.on) (row_at scans (near is.edge is.on).entry is.place)) (first_item scans (near is.edge is.on).entry + is.place) u begins is.is_use;
   }
 
-  -- what a side adds stands for its rows
   side_sound : (on : Bool) (cells : List ℕ) (old new last : Classes) (old_uses new_uses : List Use) → AreKeysOf on cells → AddsSide on cells old new old_uses new_uses → ValuesBeginWith new last
       → (u : Use) → Contains new_uses u → Contains old_uses u ⊎ IsUseForRow scans equalities key last (number + 1) u
   side_sound on cells old new last old_uses new_uses keys adds begins u has = elim (adds.sound u has) [
@@ -180,7 +178,7 @@ module _ (scans : List (List ℕ)) (equalities : List Edge) (key : Keys) (number
           (subst (λ (f : Edge). place < length (list_at scans (near f on).entry) → (u : Use) × Contains new_uses u × IsUseFor new number on (key_on key (near f on) (row_at scans (near f on).entry place)) (first_item scans (near f on).entry + place) u) edges
           (this on place) low)
 
--- ---- all items and slots
+-- ---- all items and slots are within their numbers
 
 entry_low : (scans : List (List ℕ)) (entry place : ℕ) → place < length (list_at scans entry) → entry < length scans
 entry_low scans entry place low = elim (cases_lt entry (length scans)) [

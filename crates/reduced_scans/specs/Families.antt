@@ -1,18 +1,18 @@
--- Families of lists of rows in which each row has its partners, and the greatest of them.
+-- Families in which each row has its partners, and the greatest of these families. A family has for each entry a list of some of its scanned rows.
 use Rattle.std.specs.Prelude.{◌≡◌, ℕ, ◌<◌, Bool, true, List, length, slice_index}
 use Rattle.std.specs.List.{Contains}
 use Rattle.berge_tree.specs.declared.edges.Edge.{Edge}
 use Rattle.join_steps.specs.Lists.{list_at, IsAscending, IsFamily}
 
--- the row has a partner among these rows; below, each of some rows has one
+-- the row has a partner among `partners`; `HavePartners` says that each row of a list has one
 abbrev pub HasPartner : (ℕ → ℕ → Bool) → List ℕ → ℕ → Type 0
 HasPartner equal partners row = (partner : ℕ) × Contains partners partner × (equal row partner ≡ true)
 
 abbrev pub HavePartners : (ℕ → ℕ → Bool) → List ℕ → List ℕ → Type 0
 HavePartners equal rows partners = (row : ℕ) → Contains rows row → HasPartner equal partners row
 
--- a family in which each row has, for each equality at its entry, a partner in the list of the other entry. `equal e left right` says that the
--- two rows have the same value in the columns of the equality `e`
+-- a family in which each row has, for each equality at its entry, a partner in the list of the other entry. `equal e left right` says that
+-- the two rows have the same value in the columns of equality `e`
 pub record IsConsistent (scans : List (List ℕ)) (equalities : List Edge) (equal : Edge → ℕ → ℕ → Bool) (family : List (List ℕ))
     : Type 0 where
   pub is_family : IsFamily scans family
@@ -20,13 +20,13 @@ pub record IsConsistent (scans : List (List ℕ)) (equalities : List Edge) (equa
   pub from_right : (e : Edge) → Contains equalities e
       → HavePartners (λ right left. equal e left right) (list_at family e.right.entry) (list_at family e.left.entry)
 
--- the family is consistent, and every consistent family is contained in it
+-- the family `reduced` is consistent, and it contains the rows of every consistent family
 pub record IsReduced (scans : List (List ℕ)) (equalities : List Edge) (equal : Edge → ℕ → ℕ → Bool) (reduced : List (List ℕ)) : Type 0 where
   pub consistent : IsConsistent scans equalities equal reduced
   pub greatest : (other : List (List ℕ)) → IsConsistent scans equalities equal other
       → (entry row : ℕ) → Contains (list_at other entry) row → Contains (list_at reduced entry) row
 
--- a scanned row for each entry, which together satisfy every equality
+-- the choice has a scanned row for each entry, and its rows together satisfy every equality
 pub record IsMatch (scans : List (List ℕ)) (equalities : List Edge) (equal : Edge → ℕ → ℕ → Bool) (choice : List ℕ) : Type 0 where
   pub count : length choice ≡ length scans
   pub scanned : (entry : ℕ) → entry < length scans → Contains (list_at scans entry) (slice_index choice entry)
@@ -36,6 +36,6 @@ pub record IsMatch (scans : List (List ℕ)) (equalities : List Edge) (equal : E
 abbrev pub AreAscending : List (List ℕ) → Type 0
 AreAscending scans = (entry : ℕ) → IsAscending (list_at scans entry)
 
--- both columns of each equality are of entries below this number
+-- both entries of each equality are below `entries`
 abbrev pub NameEntries : ℕ → List Edge → Type 0
 NameEntries entries equalities = (e : Edge) → Contains equalities e → (e.left.entry < entries) × (e.right.entry < entries)

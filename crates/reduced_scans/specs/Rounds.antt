@@ -1,4 +1,4 @@
--- The reduced scans as a function. It works in rounds, and each round removes every row that lacks a partner.
+-- The reduced scans as a function, in rounds. Each round removes every row that lacks a partner.
 use Rattle.std.specs.Prelude.{ℕ, zero, suc, ◌+◌, Bool, not, ◌&&◌, ◌||◌, ◌==◌, List, [], ◌∷◌, length}
 use Rattle.std.specs.List.{filter, list_all, list_any}
 use Rattle.berge_tree.specs.declared.edges.Edge.{Edge}
@@ -8,7 +8,7 @@ use Rattle.sql_meaning.specs.Tables.{Tables}
 use Rattle.level_bounds.specs.Keys.{are_equal_at}
 use Rattle.join_steps.specs.Lists.{list_at, scans_of}
 
--- on each side where the equality has a column of this entry, the row has a partner in the other side's list
+-- if the equality has a column of this entry on a side, the row has a partner in the list of the other side
 abbrev pub finds_partners : (Edge → ℕ → ℕ → Bool) → List (List ℕ) → ℕ → ℕ → Edge → Bool
 finds_partners equal family entry row e =
     (not (e.left.entry == entry) || list_any (equal e row) (list_at family e.right.entry))
@@ -18,13 +18,13 @@ finds_partners equal family entry row e =
 abbrev pub finds_all : List Edge → (Edge → ℕ → ℕ → Bool) → List (List ℕ) → ℕ → ℕ → Bool
 finds_all es equal family entry row = list_all (finds_partners equal family entry row) es
 
--- a round: in each list the rows that have all partners in the family are kept. The first list is that of `entry`
+-- a round: the rows that have all their partners in `family` are kept in each list. The first list is that of `entry`
 abbrev pub round_from : List Edge → (Edge → ℕ → ℕ → Bool) → List (List ℕ) → ℕ → List (List ℕ) → List (List ℕ)
 round_from es equal family entry [] = []
 round_from es equal family entry (list ∷ lists) =
     filter (finds_all es equal family entry) list ∷ round_from es equal family (suc entry) lists
 
--- what is left of a family after so many rounds
+-- the rows of a family that are left after a number of rounds
 abbrev pub after_rounds : List Edge → (Edge → ℕ → ℕ → Bool) → ℕ → List (List ℕ) → List (List ℕ)
 after_rounds es equal zero family = family
 after_rounds es equal (suc count) family = after_rounds es equal count (round_from es equal family 0 family)
@@ -34,7 +34,7 @@ abbrev pub rows_in_all : List (List ℕ) → ℕ
 rows_in_all [] = 0
 rows_in_all (list ∷ lists) = length list + rows_in_all lists
 
--- what is left of the scans after a round for each row and one more, so that no further round would change it
+-- the rows of the scans that are left after as many rounds as there are rows, and one more. A further round would change nothing
 unfoldable pub reduced_of : Query → Tables → List (List ℕ)
 reduced_of query tables =
     after_rounds (equalities_of query) (are_equal_at tables) (rows_in_all (scans_of query tables) + 1) (scans_of query tables)

@@ -1,4 +1,5 @@
--- Which items of counted_sets stand for scanned rows, and which of its slots for values of columns. No public contract uses this file.
+-- The items, slots and uses of counted_sets for scanned rows. An item is a row of a list. A slot is a value on one side of an equality. A use
+-- says which slot a row gives and which slot it needs. No public contract uses this file.
 use Rattle.std.specs.Prelude.{◌≡◌, ◌≢◌, ◌⊎◌, ℕ, zero, suc, ◌+◌, ◌*◌, ◌<◌, ◌≤◌, ◌==◌, Bool, true, false, if◌then◌else◌, List, [], ◌∷◌, ◌++◌, AllPairs, Some, length, slice_get, slice_index, slice_index_or}
 use Rattle.std.specs.List.{Contains}
 use Rattle.berge_tree.specs.declared.edges.Edge.{Edge}
@@ -19,31 +20,31 @@ first_item (scan ∷ scans) (suc entry) = length scan + first_item scans entry
 abbrev pub row_at : List (List ℕ) → ℕ → ℕ → ℕ
 row_at scans entry place = slice_index (list_at scans entry) place
 
--- the rows whose items are marked. The item of the first row is `first`
+-- the rows of a list whose items are marked. The item of the list's first row is `first`
 abbrev pub marked_rows : (ℕ → Bool) → ℕ → List ℕ → List ℕ
 marked_rows kept first [] = []
 marked_rows kept first (row ∷ rows) = if kept first then row ∷ marked_rows kept (first + 1) rows else marked_rows kept (first + 1) rows
 
--- the rows of each list whose items are marked
+-- for each list, the rows whose items are marked
 abbrev pub marked_family : (ℕ → Bool) → ℕ → List (List ℕ) → List (List ℕ)
 marked_family kept first [] = []
 marked_family kept first (scan ∷ scans) = marked_rows kept first scan ∷ marked_family kept (first + length scan) scans
 
 -- ---- slots: two for each value of an equality, one for each side
 
--- the values in the order in which they were numbered, each as the number of its equality and its cell
+-- the values in the order in which they were numbered. Each value is a pair of the number of its equality and its cell
 abbrev pub Classes : Type 0
 Classes = List (ℕ × ℕ)
 
 abbrev pub ValuesAreDifferent : Classes → Type 0
 ValuesAreDifferent classes = AllPairs (λ a b. a ≢ b) classes
 
--- the new values begin with the old ones, so these keep their numbers
+-- the new list of values begins with the old list, so the old values keep their numbers
 pub record ValuesBeginWith (old new : Classes) : Type 0 where
   pub more : Classes
   pub grew : new ≡ old ++ more
 
--- a side of an equality: the left one if `true`. Below, the opposite side
+-- the column on a side of an equality: the left side if `true`. `opposite` is the other side
 abbrev pub near : Edge → Bool → Place
 near e true = e.left
 near e false = e.right
@@ -56,8 +57,8 @@ abbrev pub slot_of : ℕ → Bool → ℕ
 slot_of class true = 2 * class
 slot_of class false = 2 * class + 1
 
--- the use of an item for the equality with this number, on the side `on`, where its row has this cell. The item gives the value's slot for
--- this side, and needs its slot for the opposite side
+-- `u` is the use of an item whose row has the cell `cell` on the side `on` of an equality. The item gives the slot of its value on this side,
+-- and needs the slot of this value on the opposite side
 pub record IsUseFor (classes : Classes) (equality : ℕ) (on : Bool) (cell item : ℕ) (u : Use) : Type 0 where
   pub class : ℕ
   pub is_class : slice_get classes class ≡ Some (equality, cell)
@@ -65,7 +66,7 @@ pub record IsUseFor (classes : Classes) (equality : ℕ) (on : Bool) (cell item 
   pub gives : u.gives ≡ slot_of class on
   pub needs : u.needs ≡ slot_of class (opposite on)
 
--- the uses of the first `count` rows of a list are added, and the values that they need
+-- the uses of the first `count` rows of a list were added, and the values that the uses need were numbered
 pub record AddsUses (equality : ℕ) (on : Bool) (first : ℕ) (cells list : List ℕ) (count : ℕ)
     (old_classes new_classes : Classes) (old new : List Use) : Type 0 where
   pub begins : ValuesBeginWith old_classes new_classes
@@ -78,7 +79,7 @@ pub record AddsUses (equality : ℕ) (on : Bool) (first : ℕ) (cells list : Lis
   pub complete : (place : ℕ) → place < count
       → (u : Use) × Contains new u × IsUseFor new_classes equality on (slice_index cells (slice_index list place)) (first + place) u
 
--- the equality with this number
+-- equality `e` has the number m
 abbrev pub IsNumbered : List Edge → ℕ → Edge → Type 0
 IsNumbered equalities m e = (m < length equalities) × (slice_index_or equalities m e ≡ e)
 
@@ -86,12 +87,12 @@ IsNumbered equalities m e = (m < length equalities) × (slice_index_or equalitie
 abbrev pub key_on : Keys → Place → ℕ → ℕ
 key_on key side row = key side.entry side.column row
 
--- an equality holds of two rows of the lists if and only if they have the same key
+-- two rows of the lists satisfy an equality if and only if they have the same key
 abbrev pub TellsByKey : List (List ℕ) → List Edge → Keys → (Edge → ℕ → ℕ → Bool) → Type 0
 TellsByKey scans equalities key equal = (e : Edge) → Contains equalities e → (left right : ℕ) → Contains (list_at scans e.left.entry) left
     → Contains (list_at scans e.right.entry) right → equal e left right ≡ (key_on key e.left left == key_on key e.right right)
 
--- the use is that of a row on a side of one of the first `count` equalities
+-- `u` is the use of a row on a side of one of the first `count` equalities
 pub record IsUseForRow (scans : List (List ℕ)) (equalities : List Edge) (key : Keys) (classes : Classes) (count : ℕ) (u : Use) : Type 0 where
   pub number : ℕ
   pub edge : Edge
@@ -103,7 +104,7 @@ pub record IsUseForRow (scans : List (List ℕ)) (equalities : List Edge) (key :
   pub is_use : IsUseFor classes number on (key_on key (near edge on) (row_at scans (near edge on).entry place))
       (first_item scans (near edge on).entry + place) u
 
--- the uses are exactly those of the rows on both sides of the first `count` equalities
+-- `uses` are exactly the uses of the rows on both sides of the first `count` equalities
 pub record AreWired (scans : List (List ℕ)) (equalities : List Edge) (key : Keys) (classes : Classes) (count : ℕ)
     (uses : List Use) : Type 0 where
   pub sound : (u : Use) → Contains uses u → IsUseForRow scans equalities key classes count u

@@ -1,4 +1,5 @@
-//! Gives a number to each value that stands in a column of an equality. `wiring` makes two slots of each number.
+//! Gives a number to each value in the columns of each equality. `wiring` makes two slots of each number: one for the value on the left side
+//! of the equality, and one for the value on the right side.
 ghost use Rattle.std.specs.Prelude.{◌≡◌, ◌+◌, ◌^◌, ◌<◌, ◌≤◌, [], IfOk, OnOk, Some, length, slice_get};
 ghost use Rattle.reduced_scans.specs.Wiring.{ValuesAreDifferent, ValuesBeginWith};
 
@@ -7,8 +8,8 @@ use indexmap::IndexSet;
 use std::alloc::Global;
 use std::marker::Model;
 
-/// The values that were numbered so far, each as its cell with the number of its equality. Texts are equal if their numbers in the pool are
-/// equal. Contracts see these pairs as a list, in which the place of a pair is its number.
+/// The values that were numbered so far. Each value is a pair of the number of its equality and its cell. Texts are equal if their numbers in
+/// the pool are equal. In contracts this is the list of these pairs, and a pair's number is its place in the list.
 #[derive(Drop)]
 pub(crate) struct EqualityValues {
     pairs: IndexSet<(u32, u64)>,
@@ -23,7 +24,7 @@ impl Model for EqualityValues {
 }
 
 impl EqualityValues {
-    /// The empty list. It allocates nothing.
+    /// The empty list. `new` allocates nothing.
     pub(crate) fn new(alloc: Global) -> EqualityValues
         ensures { result ≡ [] }
     {
@@ -32,7 +33,7 @@ impl EqualityValues {
         }
     }
 
-    /// How many values were numbered. No pair of equality and cell stands twice.
+    /// How many values were numbered. The pairs of equality and cell are different.
     pub(crate) fn len(&self) -> usize
         ensures len { result ≡ length self.now }
         ensures different { ValuesAreDifferent self.now }
@@ -40,7 +41,7 @@ impl EqualityValues {
         self.pairs.len()
     }
 
-    /// The number of a value in this equality. A value that wasn't met yet gets the next number. Numbers that were given stay.
+    /// The number of a value in this equality. A new value gets the next number. The values before keep their numbers.
     pub(crate) fn number(&mut self, equality: u32, cell: u64) -> Result<u32, NoMemory>
         requires { length self.old < 2 ^ 31 }
         ensures class { IfOk result (λ class. slice_get self.new class ≡ Some (equality, cell)) }

@@ -12,24 +12,25 @@ ghost use Rattle.join_steps.specs.Lists.{list_at};
 ghost use Rattle.reduced_scans.specs.Rounds.{reduced_of};
 ghost use Rattle.reduced_scans.specs.Scans.{AreReducedScans, SatisfiesEqualities};
 
-/// A query over its tables has exactly one family of reduced scans.
+/// A query over its tables has exactly one family of reduced scans. A family has for each entry a list of some of its scanned rows.
 pub fn one_reduction()
     ensures some { (query : Query) (tables : Tables) → (reduced : List (List ℕ)) × AreReducedScans query tables reduced }
     ensures one { (query : Query) (tables : Tables) (a b : List (List ℕ))
         → AreReducedScans query tables a → AreReducedScans query tables b → a ≡ b }
 {}
 
-/// Repeated rounds reach the reduced scans. After a round for each scanned row and one more, no row lacks a partner. No removed row is in a
-/// family in which each row has its partners. So all reduced scans are this one family.
+/// Repeated rounds reach the reduced scans. A round removes all rows that lack a partner. If the number of rounds is the number of scanned
+/// rows plus one, no row lacks a partner at the end. A removed row is in no family in which each row has its partners. So all reduced scans
+/// are this one family.
 pub fn reduced_scans_are_by_rounds()
     ensures are { (query : Query) (tables : Tables) → AreReducedScans query tables (reduced_of query tables) }
     ensures no_others { (query : Query) (tables : Tables) (reduced : List (List ℕ)) → AreReducedScans query tables reduced
         → reduced ≡ reduced_of query tables }
 {}
 
-/// No row of the answer is lost. If scanned rows together satisfy all equalities, each of them is a reduced row. So the rows of each choice of
-/// the last level are reduced rows, in any order of the entries, and over the reduced scans this level is the same list. Its choices, as the
-/// values of the outputs, are the answer; each row occurs as often as in the answer.
+/// No row of the answer is lost. If one scanned row for each entry together satisfy all equalities, each of these rows is a reduced row. So
+/// the rows of each choice of the last level are reduced rows, in any order of the entries, and over the reduced scans this level is the same
+/// list. The values of the outputs in the choices of this level are the answer; each row occurs as often as in the answer.
 pub fn no_row_of_the_answer_is_lost()
     ensures choices { (query : Query) (tables : Tables) (reduced : List (List ℕ)) (choice : List ℕ) → NamesItsEntries query
         → AreReducedScans query tables reduced → SatisfiesEqualities query tables choice

@@ -3,10 +3,10 @@
 //! In: a query, its database, and the list of each entry's scan. Out: for each entry the list of its reduced rows, in file order, by
 //! `reduce_scans`.
 //!
-//! First, if the values of a column lie in a short range, semi-joins remove rows that have no match at all. Then each row that is left is
-//! linked to the values that it gives and needs, and a worklist removes the rows whose last match is gone.
+//! First, semi-joins remove rows that have no match at all, if the values on the other side of the equality lie in a short range. Then each
+//! remaining row is linked to the values that it gives and needs, and a worklist removes the rows whose last match was removed.
 //!
-//! Callers cite `AreReducedScans`, and `reduced_of` for the same lists as a function. The laws say that exactly one family of lists is
+//! Callers cite `AreReducedScans`, and `reduced_of` for the reduced scans as a function. The laws say that exactly one family of lists is
 //! reduced, that repeated rounds reach it, and that no row of the answer is lost.
 #![tactic(auto)]
 

@@ -25,7 +25,7 @@ use query_types::Query;
 use row_buf::RowBuf;
 use std::alloc::Global;
 
-// Marks the rows that stay; the marks of one list come behind those of the list before. The numbered values and their uses are freed.
+// Marks the rows that stay. The marks of a list come after the marks of the list before it. The numbered values and their uses are freed.
 fn marks_of(
     alloc: Global,
     db: &Database,
@@ -51,7 +51,7 @@ fn marks_of(
     Ok(marks)
 }
 
-// Counts the marked rows of a list. `first` is the place of the mark of its first row.
+// Counts the marked rows of a list. `first` is the place of the mark of the list's first row.
 fn marked_count(list: &[u32], marks: &RowBuf<bool>, first: u32) -> u64
     requires marks { first + length list.now ≤ length marks.now.items }
     requires few { length marks.now.items ≤ most_entries * most_rows }
@@ -67,7 +67,7 @@ fn marked_count(list: &[u32], marks: &RowBuf<bool>, first: u32) -> u64
     count
 }
 
-// The marked rows of a list, in a buffer that has room for exactly these.
+// The marked rows of a list, in a buffer whose capacity is their number.
 fn marked_rows(
     alloc: Global,
     list: &[u32],
@@ -113,17 +113,17 @@ fn marked_lists(
     Ok(lists)
 }
 
-/// Reduces the scans of a query. It returns the largest lists of scanned rows in which each row has, across each equality of its entry, a
+/// Reduces the scans of a query. The result is the largest lists of scanned rows in which each row has, across each equality of its entry, a
 /// match: a row with the same value in the list of the other entry. There is one list for each FROM entry, in file order.
 ///
-/// `scans` has the scan of each FROM entry; `equalities` are those that `split` of join_graph finds. The call has two steps:
+/// `scans` has the scan of each FROM entry, and `equalities` has the equalities that `split` of join_graph finds. The call has two steps:
 ///
 /// 1. Semi-joins along the equalities, from the first to the last and back, remove rows whose value the other side doesn't have. A semi-join
 ///    looks a value up by its place in the range of the other side's values. Where that range is too long, it removes nothing.
 /// 2. The values that are left get numbers, by one hash of each cell. Then a worklist removes rows without a match, until nothing changes.
 ///
-/// Time and memory are on average linear in the rows times their equalities. All memory except the answer's is freed before the call returns.
-/// The answer has no spare capacity, and neither has any of its lists.
+/// Time and memory are on average linear in the number of rows times the number of their equalities. All memory but that of the result is
+/// freed before the call returns. The result and its lists have no spare capacity.
 pub fn reduce_scans(
     alloc: Global,
     query: &Query,

@@ -22,7 +22,7 @@ use query_types::ColumnRef;
 use row_buf::RowBuf;
 use std::alloc::Global;
 
-// The rows of a list whose cell is one of the values.
+// The rows of a list whose cell is in `values`.
 fn rows_within(
     alloc: Global,
     cells: &[u64],
@@ -66,7 +66,7 @@ fn semi_join(
     Ok(Some(kept))
 }
 
-// The cells of a column of an equality.
+// The cells of the column on one side of an equality.
 fn cells_at<'a>(db: &'a Database, column: Place) -> &'a [u64]
     requires tables { AreTables db.now }
     requires column { IsColumnOf db.now (column_of column) }
@@ -109,7 +109,7 @@ fn sift_side(
     Ok(())
 }
 
-// Reduces both sides of an equality, each by the other.
+// Reduces the list of each side of an equality by the list of the other side.
 fn sift_equality(
     alloc: Global,
     db: &Database,
@@ -177,7 +177,7 @@ fn copies(alloc: Global, scans: &[RowBuf<u32>]) -> Result<Seq<RowBuf<u32>>, NoMe
     Ok(lists)
 }
 
-// A copy of these rows in a buffer of its own.
+// A copy of `list` in a new buffer.
 fn copy(alloc: Global, list: &[u32]) -> Result<RowBuf<u32>, NoMemory>
     ensures { IfOk result (λ rows. rows.items ≡ list.now) }
 {
@@ -188,7 +188,7 @@ fn copy(alloc: Global, list: &[u32]) -> Result<RowBuf<u32>, NoMemory>
 }
 
 /// The rows of each scan that are left after semi-joins along all equalities, from the first to the last and back. A semi-join removes rows
-/// that have no partner. It removes no row if the values of the other side lie too far apart.
+/// that have no partner. If the values of the other side lie too far apart, it removes no row.
 pub(crate) fn sifted(
     alloc: Global,
     db: &Database,

@@ -1,4 +1,4 @@
-//! The values of a column in the rows of a list, if they lie in a short range. A value is looked up by its place in the range.
+//! The set of a column's values in the rows of a list, if the values lie in a short range. A value is looked up by its place in the range.
 ghost use Rattle.std.specs.Prelude.{◌≡◌, ◌+◌, ◌-◌, ◌*◌, ◌<◌, ◌≤◌, true, All, IfOk, IfSome, length, slice_index};
 ghost use Rattle.limits.specs.Profile.{most_rows};
 ghost use Rattle.reduced_scans.specs.SemiJoins.{is_marked};
@@ -29,7 +29,7 @@ impl ValueSet {
     }
 }
 
-// The least and the greatest cell in these rows. For no rows they are `u64::MAX` and 0.
+// The least and the greatest cell in the rows of `list`. If `list` is empty, they are `u64::MAX` and 0.
 fn ends_of(cells: &[u64], list: &[u32]) -> (u64, u64)
     requires { All (λ row. row < length cells.now) list.now }
     ensures { All (λ row. (result.0 ≤ slice_index cells.now row) × (slice_index cells.now row ≤ result.1)) list.now }
@@ -44,7 +44,7 @@ fn ends_of(cells: &[u64], list: &[u32]) -> (u64, u64)
     (least, greatest)
 }
 
-// Marks the places of the cells in these rows. All of the cells lie in the range.
+// Marks the places of the cells of the rows of `list`. All these cells lie in the range.
 fn mark(cells: &[u64], list: &[u32], least: u64, marks: &mut [bool])
     requires rows { All (λ row. row < length cells.now) list.now }
     requires above { All (λ row. least ≤ slice_index cells.now row) list.now }
@@ -57,7 +57,7 @@ fn mark(cells: &[u64], list: &[u32], least: u64, marks: &mut [bool])
     }
 }
 
-/// The cells of a column in these rows, if their range has at most 64 + 8 * `rows` places; else `None`.
+/// The set of a column's cells in the rows of `list`, if their range has at most 64 + 8 * `rows` places; otherwise `None`.
 pub(crate) fn values_of(
     alloc: Global,
     cells: &[u64],

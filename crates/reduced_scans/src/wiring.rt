@@ -1,4 +1,6 @@
-//! Builds the uses of scanned rows: the slots that a row gives and needs for each equality at its entry.
+//! Builds the uses of scanned rows for counted_sets, which removes rows without a match. In the words of counted_sets, each row is an item,
+//! and a slot is a value on one side of an equality. A use says that a row gives the slot of its value on its own side, and needs the slot of
+//! this value on the other side.
 ghost use Rattle.std.specs.Prelude.{◌≡◌, ◌+◌, ◌*◌, ◌^◌, ◌<◌, ◌≤◌, ◌∷◌, ◌++◌, [], ℕ, All, List, OnOk, length};
 ghost use Rattle.limits.specs.Profile.{most_conjuncts, most_entries, most_rows};
 ghost use Rattle.berge_tree.specs.declared.edges.Edge.{Edge};
@@ -19,7 +21,7 @@ use join_steps::cells_of_column;
 use query_types::ColumnRef;
 use row_buf::RowBuf;
 
-// The slot of a value on a side.
+// The slot of the value with number `class` on the left or on the right side.
 fn slot_of(class: u32, on_left: bool) -> u32
     requires { class < 2 ^ 31 }
     ensures { result ≡ slot_of class on_left }
@@ -27,7 +29,7 @@ fn slot_of(class: u32, on_left: bool) -> u32
     if on_left { 2 * class } else { 2 * class + 1 }
 }
 
-// Adds the use of an item whose row has this cell.
+// Adds the use of `item`, whose row has the cell `cell` on one side of an equality.
 fn add_use(
     classes: &mut EqualityValues,
     uses: &mut RowBuf<Use>,
@@ -53,7 +55,7 @@ fn add_use(
     Ok(())
 }
 
-// Adds the uses of the rows of a list, for the cells of a column.
+// Adds the uses of the rows of a list for one side of an equality. `cells` are the cells of that side's column.
 fn add_side(
     classes: &mut EqualityValues,
     uses: &mut RowBuf<Use>,
@@ -77,7 +79,7 @@ fn add_side(
     Ok(())
 }
 
-/// The item of an entry's first row. Items are numbered list by list.
+/// The number of the item of an entry's first row. Items are numbered list by list.
 pub(crate) fn first_item(scans: &[RowBuf<u32>], entry: usize) -> u32
     requires entry { entry ≤ length scans.now }
     requires few { length scans.now ≤ most_entries }
@@ -92,7 +94,7 @@ pub(crate) fn first_item(scans: &[RowBuf<u32>], entry: usize) -> u32
     first
 }
 
-// Adds the uses of the rows of an entry, for one of its columns.
+// Adds the uses of the rows of an entry for one side of an equality, whose column is `column`.
 fn add_column(
     db: &Database,
     scans: &[RowBuf<u32>],

@@ -1,4 +1,4 @@
--- The laws of columns: P of the lemmas is that a number stands in the column.
+-- These are the laws about columns. They use the lemmas of Mapped and Ordered with this P: a number is in the column.
 use Rattle.std.proofs.Common.{◌≡◌, ℕ, ◌<◌, Bool, List, map, length, get_or, sym, ◌∙◌, arith}
 use Rattle.std.specs.List.{AllByRecursion, Contains, filter}
 use Rattle.std.proofs.lemmas.List.{get_or-map, length-map}

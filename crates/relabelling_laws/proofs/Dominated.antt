@@ -1,4 +1,4 @@
--- What dominates keys dominates other keys that are equal alike.
+-- A list that dominates keys also dominates other keys that are equal in the same rows.
 use Rattle.std.proofs.Common.{◌≡◌, ◌↔◌, ℕ, ◌≤◌, Bool, true, cond, eqb, List, [], ◌∷◌, map, length, refl, ap, sym, ◌∙◌, subst, arith, inl, inr}
 use Rattle.std.specs.List.{AllByRecursion, Contains, IsDistinct, count_by, filter}
 use Rattle.std.proofs.lemmas.Bool.{cases_Bool, eqb-true, eqb-false}
@@ -15,7 +15,6 @@ use Rattle.relabelling_laws.specs.Relabelling.{AreEqualAlike, IsOneToOne}
 use Rattle.relabelling_laws.proofs.Columns.{degrees_are, from_filter, from_map, its_own, keeps}
 use Rattle.relabelling_laws.proofs.Mapped.{All-different, count-mapped, different-mapped, map-mapped}
 
--- of the different keys, those that get one of these numbers
 sources : (ℕ → ℕ) → List ℕ → List ℕ → List ℕ
 sources f keys picked = filter (λ key. is_in picked (f key)) (different keys)
 
@@ -31,7 +30,6 @@ sources_distinct : (f : ℕ → ℕ) (keys picked : List ℕ) → IsDistinct eqb
 unfolding sources
 sources_distinct f keys picked = IsDistinct-filter (λ key. is_in picked (f key)) (different keys) (IsDistinct-different keys)
 
--- no more keys than numbers that they get
 sources_few : (f : ℕ → ℕ) (keys picked : List ℕ) → IsOneToOne f keys → length (sources f keys picked) ≤ length picked
 unfolding sources
 sources_few f keys picked one =
@@ -46,7 +44,6 @@ sources_few f keys picked one =
       count_by-is_in (different (map f keys)) (IsDistinct-different (map f keys)) picked,
     )
 
--- a list that dominates keys dominates what they get
 pub still_dominates : (s : List ℕ) (f : ℕ → ℕ) (keys : List ℕ) → IsOneToOne f keys → DominatesKeys s keys → DominatesKeys s (map f keys)
 still_dominates s f keys one dominates picked apart =
     let found : List ℕ = sources f keys picked in
@@ -60,7 +57,6 @@ still_dominates s f keys one dominates picked apart =
       running_sum-mono s (length found) (length picked) (sources_few f keys picked one),
     )
 
--- the other key of the first row that has a key
 first_other : (ℕ → ℕ) → (ℕ → ℕ) → List ℕ → ℕ → ℕ
 first_other key other [] n = 0
 first_other key other (row ∷ rows) n = cond (eqb (key row) n) (other row) (first_other key other rows n)

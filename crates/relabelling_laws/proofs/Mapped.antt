@@ -1,5 +1,5 @@
--- Lists of other numbers, where what is asked of the numbers of a list is answered alike: tests, counts, different numbers, degrees.
--- P holds of the numbers of the list.
+-- A function f replaces the numbers of a list. If a test or a function gives the same for a number and its new number, then filters, counts,
+-- different numbers and degrees of the lists correspond. P is a property of all numbers of the list.
 use Rattle.std.proofs.Common.{◌≡◌, ℕ, Bool, cond, not, eqb, List, [], ◌∷◌, map, refl, ap, sym, ◌∙◌, arith, inl, inr}
 use Rattle.std.specs.List.{AllByRecursion, count_by, filter, list_any, prefix_len, position_or_len}
 use Rattle.std.proofs.lemmas.Bool.{cases_Bool, eqb-true, eqb-false, eq-eqb, ne_eqb}
@@ -7,13 +7,11 @@ use Rattle.std.proofs.lemmas.List.Sums.{sum_by-cons}
 use Rattle.degree_sequences.specs.Degrees.{degree, different, in_falling_order, degree_list}
 use Rattle.degree_sequences.proofs.Counting.{All-filter}
 
--- two functions that agree
 pub map-mapped : {X Y Z : Type 0} (P : X → Type 0) (f : X → Y) (h : X → Z) (k : Y → Z) → ((x : X) → P x → k (f x) ≡ h x)
     → (xs : List X) → AllByRecursion P xs → map k (map f xs) ≡ map h xs
 map-mapped P f h k alike [] all = refl
 map-mapped P f h k alike (x ∷ xs) all = rw (alike x all.0, map-mapped P f h k alike xs all.1) refl
 
--- two tests that agree
 pub filter-mapped : {X Y : Type 0} (P : X → Type 0) (f : X → Y) (p : X → Bool) (q : Y → Bool) → ((x : X) → P x → q (f x) ≡ p x)
     → (xs : List X) → AllByRecursion P xs → filter q (map f xs) ≡ map f (filter p xs)
 filter-mapped P f p q alike [] all = refl
@@ -45,7 +43,6 @@ count-mapped P f p q alike (x ∷ xs) all =
       sum_by-cons (λ y. cond (p y) 1 0) x xs,
     )
 
--- numbers that get equal numbers are equal, and so equality is kept
 abbrev pub KeepsEqual : (ℕ → Type 0) → (ℕ → ℕ) → Type 0
 KeepsEqual P f = (a b : ℕ) → P a → P b → eqb (f a) (f b) ≡ eqb a b
 

@@ -1,4 +1,4 @@
--- Other numbers in order: what is first, what is frequent, where leaves begin.
+-- The new numbers compare as the old numbers do. So sorting, frequent numbers, and cuts (where leaves begin) commute with the replacement.
 use Rattle.std.proofs.Common.{◌≡◌, ℕ, suc, ◌<◌, Bool, List, [], ◌∷◌, map, length, get_or, take, drop, refl, ap, sym, ◌∙◌, arith, inl, inr}
 use Rattle.std.specs.List.{AllByRecursion, range_with_len}
 use Rattle.std.proofs.lemmas.Bool.{cases_Bool, cond_both}
@@ -21,7 +21,6 @@ pub length-in_order : (le : ℕ → ℕ → Bool) (s : List ℕ) → length (in_
 length-in_order le [] = refl
 length-in_order le (v ∷ s) = omega (arith, length-put_in_order le v (in_order le s), length-in_order le s)
 
--- two comparisons agree
 abbrev pub Compares : (ℕ → Type 0) → (ℕ → ℕ → Bool) → (ℕ → ℕ → Bool) → (ℕ → ℕ) → Type 0
 Compares P le other f = (a b : ℕ) → P a → P b → other (f a) (f b) ≡ le a b
 
@@ -33,7 +32,6 @@ module _ (P : ℕ → Type 0) (le other : ℕ → ℕ → Bool) (f : ℕ → ℕ
     | inr e ↦ rw (alike v w hv all.0, e, put_in_order-mapped v s hv all.1) refl
   ]
 
-  -- sorting by a comparison and giving other numbers commute
   pub in_order-mapped : (s : List ℕ) → AllByRecursion P s → in_order other (map f s) ≡ map f (in_order le s)
   in_order-mapped [] all = refl
   in_order-mapped (v ∷ s) all = ap (put_in_order other (f v)) (in_order-mapped s all.1)

@@ -1,4 +1,4 @@
--- The laws of lists over a filter column and a joined column.
+-- These are the laws about lists of a filter column and a joined column.
 use Rattle.std.proofs.Common.{◌≡◌, ◌⊎◌, ℕ, suc, eqb, subst, Bool, Some, None, Option, List, [], ◌∷◌, map, length, refl, ap, sym, ◌∙◌, arith, inl, inr}
 use Rattle.std.specs.List.{AllByRecursion, Contains, filter, zip}
 use Rattle.std.specs.Prelude.{unwrap_or}
@@ -47,7 +47,6 @@ absent_is accuracy f g column joined other value one one_key missing missing_val
     missing_is accuracy (map f column) (map g joined) other missing ∙ rest_is accuracy f g column joined one one_key
     ∙ sym (missing_is accuracy column joined value missing_value)
 
--- a value stands in a column, or it is missing
 pub stands_or_misses : (column : List ℕ) (value : ℕ) → Contains column value ⊎ (Contains column value → ⊥)
 stands_or_misses [] value = inr (λ has. omega (arith, has.1))
 stands_or_misses (first ∷ column) value = elim (cases_Bool (eqb first value)) [
@@ -58,7 +57,6 @@ stands_or_misses (first ∷ column) value = elim (cases_Bool (eqb first value)) 
   ])
 ]
 
--- a number that no number of the column gets is missing among those that they get
 other_misses : (f : ℕ → ℕ) (column : List ℕ) (other : Option ℕ) → ((a : ℕ) → Contains column a → Some (f a) ≡ other → ⊥)
     → IsMissing (map f column) other
 other_misses f column None never = tt

@@ -1,4 +1,5 @@
--- Rows of other filter values and other joined keys. P holds of the filter values, R of the joined keys.
+-- The filter values and the joined keys of rows are replaced by new numbers. P is a property of the filter values, and R is a property of the joined
+-- keys.
 use Rattle.std.proofs.Common.{◌≡◌, ℕ, Bool, false, eqb, Some, List, [], ◌∷◌, map, refl, ap, sym, ◌∙◌, subst, inl, inr}
 use Rattle.std.specs.List.{AllByRecursion, filter, list_any, zip}
 use Rattle.std.proofs.lemmas.Bool.{cases_Bool, cond_both, ne_eqb}
@@ -16,7 +17,6 @@ use Rattle.cond_stats.proofs.ValueLists.{of_frequent, of_others}
 use Rattle.relabelling_laws.proofs.Mapped.{KeepsEqual, any-mapped, degree-mapped, degree_list-mapped, filter-mapped, map-mapped}
 use Rattle.relabelling_laws.proofs.Ordered.{All-frequent, All-remaining, Compares, frequent-mapped, leaf_of-mapped, remaining-mapped}
 
--- rows with other numbers
 abbrev pub renamed : (ℕ → ℕ) → (ℕ → ℕ) → List (ℕ × ℕ) → List (ℕ × ℕ)
 renamed f g rows = map (λ row. (f row.0, g row.1)) rows
 
@@ -33,7 +33,6 @@ pub keys-renamed : (f g : ℕ → ℕ) (rows : List (ℕ × ℕ)) → joined_key
 keys-renamed f g [] = refl
 keys-renamed f g (row ∷ rows) = ap (λ (s : List ℕ). g row.1 ∷ s) (keys-renamed f g rows)
 
--- both numbers of a row
 abbrev pub OfRow : (ℕ → Type 0) → (ℕ → Type 0) → ℕ × ℕ → Type 0
 OfRow P R row = P row.0 × R row.1
 
@@ -54,7 +53,6 @@ All-keys_where P R p (row ∷ rows) all =
     cond_both (p row.0) (row ∷ filter (λ row. p row.0) rows) (filter (λ row. p row.0) rows) (λ s. AllByRecursion R (joined_keys s))
     (λ e. (all.0.1, All-keys_where P R p rows all.1)) (λ e. All-keys_where P R p rows all.1)
 
--- a value that no row has isn't frequent
 pub missing_not_frequent : (P R : ℕ → Type 0) (rows : List (ℕ × ℕ)) → AllByRecursion (OfRow P R) rows → (v : ℕ) → (P v → ⊥)
     → is_frequent rows v ≡ false
 missing_not_frequent P R rows all v missing =
@@ -68,7 +66,6 @@ node-is : (at_most : ℕ → ℕ → Bool) (k : ℕ) (rows : List (ℕ × ℕ)) 
 unfolding list_of_node
 node-is at_most k rows size leaf = refl
 
--- the rows that pass, with other numbers
 pub passing-mapped : (P R : ℕ → Type 0) (f g : ℕ → ℕ) (rows : List (ℕ × ℕ)) → AllByRecursion (OfRow P R) rows
     → (p q : ℕ → Bool) → ((v : ℕ) → P v → q (f v) ≡ p v) → keys_where q (renamed f g rows) ≡ map g (keys_where p rows)
 passing-mapped P R f g rows all p q alike =

@@ -1,7 +1,7 @@
 -- A column whose numbers are replaced by other numbers.
 use Rattle.std.specs.Prelude.{◌≡◌, ◌↔◌, ℕ, Bool, List, Option, None, Some, Contains, ⊤}
 
--- no two numbers of a column get the same number
+-- different numbers of a column get different numbers
 abbrev pub IsOneToOne : (ℕ → ℕ) → List ℕ → Type 0
 IsOneToOne f column = (a b : ℕ) → Contains column a → Contains column b → f a ≡ f b → a ≡ b
 
@@ -17,11 +17,12 @@ PassAlike passes other f column = (a : ℕ) → Contains column a → other (f a
 abbrev pub AreEqualAlike : (ℕ → ℕ) → (ℕ → ℕ) → List ℕ → Type 0
 AreEqualAlike key other rows = (i j : ℕ) → Contains rows i → Contains rows j → (key i ≡ key j) ↔ (other i ≡ other j)
 
--- a number of a column is `value` if and only if its new number is `other`. If one of these is `None`, no number of the column is the other
+-- a number of a column is `value` if and only if its new number is `other`. If `value` or `other` is `None`, no number of the column matches
+-- the other one either
 abbrev pub StandAlike : (ℕ → ℕ) → List ℕ → Option ℕ → Option ℕ → Type 0
 StandAlike f column other value = (a : ℕ) → Contains column a → (Some (f a) ≡ other) ↔ (Some a ≡ value)
 
--- no row of a column has the number, or there is no number
+-- no row of a column has the number, or the number is missing (`None`)
 abbrev pub IsMissing : List ℕ → Option ℕ → Type 0
 IsMissing column None = ⊤
 IsMissing column (Some value) = Contains column value → ⊥

@@ -1,4 +1,5 @@
-//! What changes in a column whose numbers are replaced, and that no list changes. Each call does nothing; its contract is the law.
+//! Laws about a column whose numbers are replaced by other numbers: what changes, and that no list changes. Each call does nothing; its
+//! contract is the law.
 ghost use Rattle.std.specs.Prelude.{◌≡◌, ◌↔◌, ℕ, Bool, List, Option, Some, Contains, length, map};
 ghost use Rattle.std.specs.List.{filter, zip};
 ghost use Rattle.degree_sequences.specs.Degrees.{degree, degree_list};
@@ -9,7 +10,8 @@ ghost use Rattle.cond_stats.specs.Lists.{compressed_degrees, list_of_node, list_
 ghost use Rattle.cond_stats.specs.Rows.{filter_values, joined_keys, keys_where};
 ghost use Rattle.relabelling_laws.specs.Relabelling.{AreEqualAlike, IsMissing, IsOneToOne, KeepsOrder, PassAlike, StandAlike};
 
-/// A new number occurs in a column as often as the old one did, and the frequent new numbers are those of the frequent old ones.
+/// A new number occurs in a column as often as the old number did. The frequent numbers of the new column are the new numbers of the old
+/// column's frequent numbers.
 pub fn columns_are_relabelled()
     ensures degree { (f : ℕ → ℕ) (column : List ℕ) (value : ℕ) → IsOneToOne f column → Contains column value
         → degree (map f column) (f value) ≡ degree column value }
@@ -18,8 +20,8 @@ pub fn columns_are_relabelled()
     ensures remaining { (f : ℕ → ℕ) (column : List ℕ) → IsOneToOne f column → remaining (map f column) ≡ map f (remaining column) }
 {}
 
-/// If the new numbers compare as the old ones do, the new cuts are the new numbers of the old cuts, and tests that pass alike give the same
-/// leaf.
+/// Cuts are the numbers at which leaves begin. If the new numbers compare as the old numbers do, the cuts of the new column are the new
+/// numbers of the old cuts. If a test of the new numbers passes exactly where a test of the old numbers does, both tests give the same leaf.
 pub fn leaves_are_relabelled()
     ensures cuts { (at_most other : ℕ → ℕ → Bool) (f : ℕ → ℕ) (column : List ℕ) → KeepsOrder at_most other f column
         → cuts other (map f column) ≡ map f (cuts at_most column) }
@@ -28,26 +30,26 @@ pub fn leaves_are_relabelled()
         → leaf_above other (map f column) other_passes ≡ leaf_above at_most column passes }
 {}
 
-/// No list of a filter column and a joined column changes if the numbers of both are replaced.
+/// The lists of a filter column and a joined column don't change if the numbers of both columns are replaced.
 pub fn lists_stay()
     ensures whole { (accuracy : ℕ) (g : ℕ → ℕ) (joined : List ℕ) → IsOneToOne g joined
         → compressed_degrees accuracy (map g joined) ≡ compressed_degrees accuracy joined }
-    // of a value that a row has
+    // the list of a value that a row has
     ensures value { (accuracy : ℕ) (f g : ℕ → ℕ) (column joined : List ℕ) (value : ℕ)
         → IsOneToOne f column → IsOneToOne g joined → Contains column value
         → list_of_value accuracy (zip (map f column) (map g joined)) (Some (f value))
         ≡ list_of_value accuracy (zip column joined) (Some value) }
-    // of a value that no row has, whatever stands for it on either side
+    // the list of a value that no row has, whatever number stands for it in the old and in the new numbers
     ensures absent { (accuracy : ℕ) (f g : ℕ → ℕ) (column joined : List ℕ) (other value : Option ℕ)
         → IsOneToOne f column → IsOneToOne g joined → IsMissing (map f column) other → IsMissing column value
         → list_of_value accuracy (zip (map f column) (map g joined)) other ≡ list_of_value accuracy (zip column joined) value }
-    // of any value, which is `value` in the old numbers and `other` in the new ones
+    // the list of any value, which is `value` in the old numbers and `other` in the new numbers
     ensures any_value { (accuracy : ℕ) (f g : ℕ → ℕ) (column joined : List ℕ) (other value : Option ℕ)
         → IsOneToOne f column → IsOneToOne g joined → StandAlike f column other value
         → list_of_value accuracy (zip (map f column) (map g joined)) other ≡ list_of_value accuracy (zip column joined) value }
     ensures rest { (accuracy : ℕ) (f g : ℕ → ℕ) (column joined : List ℕ) → IsOneToOne f column → IsOneToOne g joined
         → rest accuracy (zip (map f column) (map g joined)) ≡ rest accuracy (zip column joined) }
-    // of nodes and ranges, if the new filter values compare as the old ones do
+    // the lists of nodes and ranges, if the new filter values compare as the old values do
     ensures node { (at_most other : ℕ → ℕ → Bool) (accuracy : ℕ) (f g : ℕ → ℕ) (column joined : List ℕ) (size leaf : ℕ)
         → KeepsOrder at_most other f column → IsOneToOne g joined
         → list_of_node other accuracy (zip (map f column) (map g joined)) size leaf
@@ -64,20 +66,21 @@ pub fn missing_values_have_the_rest_list()
         → list_of_value accuracy (zip column joined) value ≡ rest accuracy (zip column joined) }
 {}
 
-/// A list dominates keys if and only if it dominates other keys that are equal in the same rows. Both kinds of keys have the same degrees.
+/// A list dominates keys if and only if it dominates other keys that are equal in the same rows. Both lists of keys have the same degrees.
 pub fn keys_are_relabelled()
     ensures column { (list : List ℕ) (f : ℕ → ℕ) (keys : List ℕ) → IsOneToOne f keys
         → DominatesKeys list (map f keys) ↔ DominatesKeys list keys }
     ensures rows { (list : List ℕ) (key other : ℕ → ℕ) (rows : List ℕ) → AreEqualAlike key other rows
         → DominatesKeys list (map key rows) ↔ DominatesKeys list (map other rows) }
-    // of the rows that pass a test
+    // the keys of the rows that pass a test
     ensures passing { (list : List ℕ) (key other : ℕ → ℕ) (rows : List ℕ) (passes : ℕ → Bool) → AreEqualAlike key other rows
         → DominatesKeys list (map key (filter passes rows)) ↔ DominatesKeys list (map other (filter passes rows)) }
     ensures degrees { (key other : ℕ → ℕ) (rows : List ℕ) → AreEqualAlike key other rows
         → degree_list (map key rows) ≡ degree_list (map other rows) }
 {}
 
-/// A test of the new filter numbers that passes alike selects the same rows. Their joined keys are the new numbers of the old joined keys.
+/// If a test of the new filter numbers passes in the same rows as a test of the old numbers, both tests select the same rows. The joined keys
+/// of these rows are the new numbers of the old joined keys.
 pub fn passing_rows_are_relabelled()
     ensures passing { (f g : ℕ → ℕ) (column joined : List ℕ) (passes other : ℕ → Bool) → PassAlike passes other f column
         → keys_where other (zip (map f column) (map g joined)) ≡ map g (keys_where passes (zip column joined)) }

@@ -1,10 +1,10 @@
-//! What stays the same if the numbers that stand for a column's values are replaced. The lists of a filter column and a joined column depend
-//! only on which numbers are equal, and on how the filter column's numbers compare.
+//! Laws about numbers that stand for a column's values: what stays the same if these numbers are replaced by others. The lists of a filter
+//! column and a joined column depend only on which numbers are equal, and on how the filter column's numbers compare.
 //!
-//! In: two columns, and one-to-one functions that give their numbers new ones. Out: laws, and nothing that runs. So a value may be its cell,
-//! the first row that has it, or any key that tells it from the other values: its list is the same.
+//! In: two columns, and one-to-one functions that replace their numbers. Out: laws; no code runs. So a value may be represented by its cell,
+//! by the first row that has it, or by any key that differs for different values: its list is the same.
 //!
-//! - Degrees and leaves stay. Frequent values and cuts are the new numbers of the old ones.
+//! - Degrees and leaves stay. Frequent values and cuts are the new numbers of the old frequent values and cuts.
 //! - No list changes: of all rows, of a value, of a value that no row has, of a node, of a range.
 //! - A list that dominates keys dominates all keys that are equal in the same rows.
 //!

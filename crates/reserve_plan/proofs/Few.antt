@@ -1,4 +1,4 @@
--- A plan within the limits of a program takes few bytes.
+-- A plan within the limits of the program takes less than 2^40 bytes.
 use Rattle.std.proofs.Common.{ℕ, zero, suc, ◌*◌, ◌^◌, ◌<◌, ◌≤◌, All, List, [], ◌∷◌, length, map, sum, drop, get_or, arith}
 use Rattle.limits.specs.Profile.{most_budget, most_entries, most_rows}
 use Rattle.std.proofs.lemmas.List.{length-drop, length-map}
@@ -22,7 +22,6 @@ at_within m [] i each = omega arith
 at_within m (n ∷ ns) zero each = All-head (λ n. n ≤ m) n ns each
 at_within m (n ∷ ns) (suc i) each = at_within m ns i (All-tail (λ n. n ≤ m) n ns each)
 
--- the chains of entries whose lists have so few rows
 chains_within : (lists entries : List ℕ) → All (λ rows. rows ≤ most_rows) lists → sum (map row_chain_bytes (map (λ entry. get_or lists entry 0) entries)) ≤ length entries * 64000000
 chains_within lists entries each =
     let whole = sum-map row_chain_bytes (map (λ entry. get_or lists entry 0) entries) in

@@ -1,7 +1,7 @@
--- How the proofs of this crate go: what was hard, and what closed it.
+-- How the proofs of this crate go: what was hard, and how it was solved.
 --
--- Levels are exact by `RowForest::reserve`. `&order[1..]` is `take (length - 1) (drop 1 order)` in goals, so one `take_all` stands in the
--- last answer.
+-- That levels have exactly the room asked for is a clause of `RowForest::reserve`. In goals `&order[1..]` is `take (length - 1) (drop 1
+-- order)`, so the last answer has one `take_all`.
 
 pub mod Roomy
 pub mod Few

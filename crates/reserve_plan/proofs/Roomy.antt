@@ -1,4 +1,4 @@
--- Buffers one by one.
+-- The buffers that are reserved have the rooms and the bytes that the definitions say.
 use Rattle.std.proofs.Common.{◌≡◌, ℕ, zero, suc, ◌+◌, ◌*◌, ◌<◌, ◌≤◌, max, List, [], ◌∷◌, length, map, sum, drop, get_or, refl, ap, sym, ◌∙◌, subst, arith}
 use Rattle.std.specs.List.{AllZip}
 use Rattle.std.proofs.lemmas.List.{drop_more, drop_all, length-map}
@@ -12,7 +12,7 @@ use Rattle.reserve_plan.specs.declared.reserved.TheConstants.{CHAINS_BYTES}
 use Rattle.reserve_plan.specs.Memory.{lists_bytes, row_chain_bytes, rooms_bytes}
 use Rattle.reserve_plan.specs.Rooms.{buffer_for, chains_for, greatest, rooms, HasRooms, IsRoomFor, IsRoomForKeys, IsRoomForLevel}
 
--- ---- lists one by one
+-- ---- two lists whose elements are related pairwise
 
 pub zip_long : {A B : Type 0} (R : A → B → Type 0) (xs : List A) (ys : List B) → AllZip R xs ys → length xs ≡ length ys
 zip_long R [] [] all = refl
@@ -32,7 +32,6 @@ zip_each [] (m ∷ ms) long each = absurd (omega arith)
 zip_each (n ∷ ns) [] long each = absurd (omega arith)
 zip_each (n ∷ ns) (m ∷ ms) long each = (each 0 (omega arith), zip_each ns ms (omega arith) (λ i low. each (suc i) (omega arith)))
 
--- where the relation holds of a lower number, too
 zip_less : {B : Type 0} (R : ℕ → B → Type 0) → ((n m : ℕ) (y : B) → n ≤ m → R m y → R n y) → (ns ms : List ℕ) (ys : List B) → AllZip ◌≤◌ ns ms → AllZip R ms ys → AllZip R ns ys
 zip_less R less [] [] ys low all = all
 zip_less R less [] (m ∷ ms) ys low all = absurd low
@@ -40,7 +39,7 @@ zip_less R less (n ∷ ns) [] ys low all = absurd low
 zip_less R less (n ∷ ns) (m ∷ ms) [] low all = absurd all
 zip_less R less (n ∷ ns) (m ∷ ms) (y ∷ ys) low all = (less n m y low.0 all.0, zip_less R less ns ms ys low.1 all.1)
 
--- ---- the greatest number
+-- ---- the loop that finds the greatest number
 
 pub greatest_more : (ns : List ℕ) (i now new : ℕ) → i < length ns → new ≡ max now (get_or ns i 0) → max now (greatest (drop i ns)) ≡ greatest ns → max new (greatest (drop (i + 1) ns)) ≡ greatest ns
 greatest_more ns i now new low is so_far =
@@ -52,7 +51,7 @@ greatest_all ns i now end so_far =
     let none : greatest (drop i ns) ≡ 0 = ap greatest (drop_all i ns end) in
     omega (arith, none, so_far)
 
--- ---- what was reserved
+-- ---- the reserved buffers have the rooms
 
 pub levels_have_room : (sizes : List ℕ) (levels : List Level) → levels ≡ empty_levels sizes → AllZip IsRoomForLevel sizes levels
 levels_have_room sizes levels is = subst (AllZip IsRoomForLevel sizes) (sym is) (each sizes)
@@ -76,7 +75,7 @@ buffers_have_room sizes buffers is = subst (AllZip IsRoomFor sizes) (sym is) (ea
     each [] = tt
     each (size ∷ sizes) = (record { empty = refl; room = omega arith }, each sizes)
 
--- ---- how many bytes that is
+-- ---- how many bytes the reserved buffers take
 
 buffer_capacities : (sizes : List ℕ) → map capacity (map buffer_for sizes) ≡ sizes
 buffer_capacities [] = refl
@@ -105,7 +104,7 @@ reserved_take order lists sizes chains held levels row keys chains_are count lev
     let long : length (map (λ entry. get_or lists entry 0) (drop 1 order)) ≡ length (drop 1 order) = length-map (drop 1 order) (λ entry. get_or lists entry 0) in
     rw (count, chained, linked, row_is, keys_are, long) refl
 
--- ---- less
+-- ---- lower numbers of rows need less room
 
 less_greatest : (ns ms : List ℕ) → AllZip ◌≤◌ ns ms → greatest ns ≤ greatest ms
 less_greatest [] [] low = omega arith

@@ -1,4 +1,5 @@
--- The bytes of a plan's buffers. A buffer takes its capacity times the size of an item. A list of buffers also takes some bytes for each of them.
+-- The bytes of a plan's buffers. A buffer takes its capacity times the size of an item. A list of buffers also takes some bytes for each
+-- buffer in it.
 use Rattle.std.specs.Prelude.{ℕ, ◌+◌, ◌*◌, max, List, length, map, sum, Vec, vec_capacity}
 use Rattle.row_buf.specs.declared.TheConstants.{BUFFER_BYTES, KEY_BYTES, ROW_NUMBER_BYTES}
 use Rattle.row_buf.specs.Rows.{Rows, capacity}
@@ -7,17 +8,17 @@ use Rattle.reserve_plan.specs.declared.reserved.Reserved.{Reserved}
 use Rattle.reserve_plan.specs.declared.reserved.TheConstants.{CHAINS_BYTES}
 use Rattle.reserve_plan.specs.Rooms.{Rooms, rooms}
 
--- ---- computed before, from the numbers of rows that are asked for
+-- ---- bytes that are computed before any memory is taken, from the numbers of rows
 
--- of a list of buffers of row numbers, one for each size, with room for so many rows
+-- the bytes of a list of buffers of row numbers. For each size there is a buffer with room for that many rows
 abbrev pub lists_bytes : List ℕ → ℕ
 lists_bytes sizes = BUFFER_BYTES * length sizes + ROW_NUMBER_BYTES * sum sizes
 
--- of the hash chains over so many rows; they have as many buckets as rows, and at least one
+-- the bytes of the hash chains of some rows; there are as many buckets as rows, and at least one
 abbrev pub row_chain_bytes : ℕ → ℕ
 row_chain_bytes rows = chain_bytes rows (max rows 1)
 
--- of a list of hash chains, one over so many rows for each size
+-- the bytes of a list of hash chains. For each size there are chains of that many rows
 abbrev pub chain_list_bytes : List ℕ → ℕ
 chain_list_bytes sizes = CHAINS_BYTES * length sizes + sum (map row_chain_bytes sizes)
 
@@ -25,17 +26,17 @@ abbrev pub rooms_bytes : Rooms → ℕ
 rooms_bytes rooms =
     chain_list_bytes rooms.chains + levels_bytes rooms.levels + ROW_NUMBER_BYTES * rooms.row + KEY_BYTES * rooms.keys
 
--- the bytes of a plan: of the lists of rows, one for each entry in FROM order, and of the buffers for its levels
+-- the bytes of a plan: those of the lists of rows, one for each entry in FROM order, and those of the buffers for its levels
 abbrev pub plan_bytes : List ℕ → List ℕ → List ℕ → ℕ
 plan_bytes order lists levels = lists_bytes lists + rooms_bytes (rooms order lists levels)
 
--- ---- counted afterwards, from the capacities of the buffers
+-- ---- bytes that are counted after the memory was taken, from the capacities of the buffers
 
--- of a list of buffers of row numbers
+-- the bytes of a list of buffers of row numbers
 abbrev pub buffers_bytes : {A : Type 0} → Vec (Rows ℕ) A → ℕ
 buffers_bytes buffers = BUFFER_BYTES * vec_capacity buffers + ROW_NUMBER_BYTES * sum (map capacity buffers.items)
 
--- of all buffers that are reserved for the levels of a plan
+-- the bytes of all buffers that are reserved for the levels of a plan
 abbrev pub reserved_bytes : Reserved → ℕ
 reserved_bytes reserved =
     CHAINS_BYTES * vec_capacity reserved.chains + sum (map chains_bytes reserved.chains.items) + forest_bytes reserved.levels

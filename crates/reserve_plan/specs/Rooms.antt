@@ -6,9 +6,9 @@ use Rattle.link_index.specs.Places.{Loaded}
 use Rattle.link_index.specs.Forest.{Level}
 use Rattle.reserve_plan.specs.declared.reserved.Reserved.{Reserved}
 
--- levels are numbered in the order of the plan
+-- how many items each buffer of a plan has to take. The levels stand in the order of the plan
 pub record Rooms : Type 0 where
-  -- for each level after the first, how many rows its chains take
+  -- for each level after the first, how many rows its chains (hash tables by which a join finds rows) take
   pub chains : List ℕ
   -- for each level, how many rows it takes
   pub levels : List ℕ
@@ -21,7 +21,8 @@ abbrev pub greatest : List ℕ → ℕ
 greatest [] = 0
 greatest (n ∷ ns) = max n (greatest ns)
 
--- the rooms of an order. `lists` says how many rows each entry's list has at most, in FROM order, and `levels` says it of each level
+-- the rooms of an order. `lists` says how many rows each entry's list has at most, in FROM order, and `levels` says how many rows each level
+-- has at most
 abbrev pub rooms : List ℕ → List ℕ → List ℕ → Rooms
 rooms order lists levels = record {
   chains = map (λ entry. slice_index lists entry) (drop 1 order);
@@ -30,26 +31,26 @@ rooms order lists levels = record {
   keys = greatest lists;
 }
 
--- an empty buffer that takes at least so many items
+-- an empty buffer that takes at least `count` items
 pub record IsRoomFor {T : Type 0} (count : ℕ) (buffer : Rows T) : Type 0 where
   pub empty : buffer.items ≡ []
   pub room : count ≤ buffer.spare
 
--- an empty buffer with memory for exactly so many row numbers
+-- an empty buffer with memory for exactly `size` row numbers
 abbrev pub buffer_for : ℕ → Rows ℕ
 buffer_for size = record { items = []; spare = size }
 
--- empty chains with room for so many rows, and with as many buckets, but at least one
+-- empty chains with room for exactly `rows` rows, and with as many buckets, but at least one
 abbrev pub chains_for : ℕ → Loaded
 chains_for rows = record { keys = []; room = rows; buckets = max rows 1 }
 
--- empty chains with room for at least so many rows, and with at least as many buckets and at least one
+-- empty chains with room for at least `count` rows, and with at least `count` buckets and at least one
 pub record IsRoomForKeys (count : ℕ) (chains : Loaded) : Type 0 where
   pub empty : chains.keys ≡ []
   pub room : count ≤ chains.room
   pub buckets : max count 1 ≤ chains.buckets
 
--- an empty level that takes at least so many rows
+-- an empty level that takes at least `count` rows
 pub record IsRoomForLevel (count : ℕ) (level : Level) : Type 0 where
   pub empty : level.rows ≡ []
   pub room : count ≤ level.spare

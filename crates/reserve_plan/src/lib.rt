@@ -1,16 +1,16 @@
-//! All memory of a plan, taken before its first row is looked at.
+//! All memory of a plan, taken before its first row is read.
 //!
 //! This is the stage after the order is chosen. In: an order of the FROM entries, and how many rows each entry's list and each level have at
-//! most. Out: buffers with room for that many. `reserve` is the last step of a query that can run out of memory: filling the buffers
+//! most. Out: buffers with room for that many rows. `reserve` is the last step of a query that can run out of memory: filling the buffers
 //! allocates nothing. `row_buffers` makes empty lists with room, for rows that aren't listed yet.
 //!
 //! Callers cite `rooms`, which says how many items each buffer of a plan has to take, and `HasRooms`. The bounds of a plan may be higher than
-//! the numbers of rows; `less_needs_less_room` says that there is room for the rows.
+//! the numbers of rows; `less_needs_less_room` says that there is room for the rows all the same.
 //!
-//! `plan_memory` tells how many bytes a plan takes, before anything is taken. `plan_bytes` defines this number: each buffer's capacity times
+//! `plan_memory` says how many bytes a plan takes, before any memory is taken. `plan_bytes` defines this number: each buffer's capacity times
 //! the size of an item, and the bytes of each list of buffers.
 //!
-//! In the greatest plan the levels take 1.92 GB, the chains 0.70 GB, and lists and keys 0.22 GB.
+//! In the greatest plan the levels take 1.92 GB, the chains (hash tables by which joins find rows) 0.70 GB, and lists and keys 0.22 GB.
 #![tactic(auto)]
 
 ghost use Rattle.std.specs.Prelude.{◌≡◌, ◌≤◌, List, ℕ, [], ◌∷◌};

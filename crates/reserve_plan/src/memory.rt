@@ -21,7 +21,7 @@ pub fn total(numbers: &[u64]) -> u128
     total
 }
 
-/// The bytes of the chains of this many rows.
+/// The bytes of the hash chains of this many rows.
 pub fn row_chain_bytes(rows: u64) -> u128
     ensures value { result ≡ row_chain_bytes rows }
     ensures small { result < 2 ^ 69 }
@@ -40,7 +40,7 @@ pub fn lists_memory(sizes: &[u64]) -> u128
     BUFFER_BYTES as u128 * sizes.len() as u128 + ROW_NUMBER_BYTES as u128 * total(sizes)
 }
 
-// The bytes of the chains for the rows of these entries, without those of the list of chains.
+// The bytes of the chains for the rows of these entries, without the bytes of the list of chains.
 fn chains_total(entries: &[u8], lists: &[u64]) -> u128
     requires few { length entries.now ≤ most_entries }
     requires entries { All (λ entry. entry < length lists.now) entries.now }
@@ -54,8 +54,8 @@ fn chains_total(entries: &[u8], lists: &[u64]) -> u128
     total
 }
 
-/// The bytes of a plan: those that `row_buffers` takes for the lists, and `reserve` for the levels. `lists` are the most rows of each entry's
-/// list, in FROM order, and `levels` the most rows of each level, in the order of the plan.
+/// The bytes of a plan: those that `row_buffers` takes for the lists, and those that `reserve` takes for the levels. `lists` has the most
+/// rows of each entry's list, in FROM order, and `levels` the most rows of each level, in the order of the plan.
 pub fn plan_memory(order: &[u8], lists: &[u64], levels: &[u64]) -> u128
     requires some { 0 < length order.now }
     requires few { (length order.now ≤ most_entries) × (length lists.now ≤ most_entries) × (length levels.now ≤ most_entries) }

@@ -8,7 +8,7 @@ pub const CHAINS_BYTES: usize = size_of::<Chains>();
 /// The buffers of a plan. `reserved_bytes` says how many bytes they hold.
 #[derive(Drop)]
 pub struct Reserved {
-    /// For each level after the first, the chains of its entry's rows.
+    /// For each level after the first, the chains of its entry's rows. Chains are a hash table by which a join finds rows.
     pub chains: Vec<Chains>,
     /// The levels, in the order of the plan.
     pub levels: RowForest,

@@ -2,11 +2,11 @@
 use Rattle.std.specs.Prelude.{ℕ, Bool, ◌==◌, ◌||◌, if◌then◌else◌, List, [], ◌∷◌, ◌++◌, map, codes}
 use Rattle.std.specs.List.{list_any, flat_map, join_with_byte}
 
--- a comma, CR, LF or a double quote
+-- whether a byte is a comma, CR, LF or a double quote
 abbrev pub is_special : ℕ → Bool
 is_special c = c == 44 || c == 13 || c == 10 || c == 34
 
--- a double quote twice, any other character once
+-- a double quote twice, any other byte once
 abbrev pub doubled_quote : ℕ → List ℕ
 doubled_quote c = if c == 34 then 34 ∷ (34 ∷ []) else c ∷ []
 
@@ -18,7 +18,7 @@ doubled field = flat_map doubled_quote field
 abbrev pub field_text : List ℕ → List ℕ
 field_text field = if list_any is_special field then 34 ∷ (doubled field ++ 34 ∷ []) else field
 
--- the same for a record's only field. An empty one is quoted, so that no record is an empty line
+-- the text of a record's only field. An empty field is quoted, so that no record is an empty line
 abbrev pub lone_field_text : List ℕ → List ℕ
 lone_field_text [] = 34 ∷ (34 ∷ [])
 lone_field_text (c ∷ cs) = field_text (c ∷ cs)

@@ -1,8 +1,8 @@
-//! Small cases of this crate's words.
+//! Examples of this crate's definitions.
 ghost use Rattle.std.specs.Prelude.{◌≡◌, ◌∷◌, [], codes};
 ghost use Rattle.row_printer.specs.Fields.{record_text};
 
-/// Theorems by computation. It does nothing.
+/// Examples, proved by computation. The call does nothing.
 pub fn examples()
     ensures plain { record_text (codes "1" ∷ codes "a b" ∷ []) ≡ codes "1,a b\r\n" }
     ensures quoted { record_text (codes "a,b" ∷ codes "1" ∷ []) ≡ codes "\"a,b\",1\r\n" }

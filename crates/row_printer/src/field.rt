@@ -1,4 +1,4 @@
-//! Writes fields, and quotes those that need it.
+//! Writes fields, in quotes if they need quotes.
 ghost use Rattle.std.specs.Prelude.{◌≡◌, ◌++◌, codes};
 ghost use Rattle.std.specs.List.{list_any};
 ghost use Rattle.base_io.specs.Devices.{growth};
@@ -55,8 +55,9 @@ fn put_quoted<N: Sink>(field: &[u8], buffer: &mut Buffer, sink: &mut N) -> Resul
     buffer.put(sink, QUOTE)
 }
 
-/// Writes a field of a record that has several fields. A field that holds a comma, CR, LF or a double quote is put in double quotes, and
-/// each double quote in it is doubled. If it answers `Failed`, the sink took a prefix of what waited and of the field's text.
+/// Writes a field of a record that has several fields. A field that holds a comma, CR, LF or a double quote is put in double quotes, and each
+/// double quote in the field is doubled. On `Failed`, the sink took a prefix of the text that waited in the buffer and then of the field's
+/// text.
 pub fn put_field<N: Sink>(field: &[u8], buffer: &mut Buffer, sink: &mut N) -> Result<(), Failed>
     ensures { Put (growth N.taken N.faults sink.old sink.new) buffer.old buffer.new (field_text field.now) result }
 {
@@ -67,8 +68,7 @@ pub fn put_field<N: Sink>(field: &[u8], buffer: &mut Buffer, sink: &mut N) -> Re
     }
 }
 
-/// Writes the field of a record that has only this one. An empty field is written as two double quotes, so that no record is an
-/// empty line.
+/// Writes the field of a record that has one field. An empty field is written as two double quotes, so that no record is an empty line.
 pub fn put_lone_field<N: Sink>(
     field: &[u8],
     buffer: &mut Buffer,

@@ -1,4 +1,4 @@
-//! Records of a printed CSV text, on their way through a buffer into a sink. No function here allocates memory.
+//! Writes the records of a CSV text through a buffer into a sink. No function here allocates memory.
 //!
 //! A caller writes a record field by field. It calls `put_field` for each field, `put_comma` between two fields, and `put_record_end`
 //! at the end. A record with only one field is written by `put_lone_field` and `put_record_end`.

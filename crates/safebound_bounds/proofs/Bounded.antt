@@ -1,4 +1,4 @@
--- What right values make of a query: each set has what its bound needs, the bounds are those that are meant, and they are never under.
+-- If the values of a call are right, each set has the lists that its bound needs, the bounds are those of the definition, and no bound is too low.
 use Rattle.std.proofs.Common.{◌≡◌, ◌⊎◌, inl, inr, ℕ, zero, suc, ◌+◌, ◌-◌, ◌<◌, ◌≤◌, ◌^◌, Bool, true, false, cond, eqb, List, [], ◌∷◌, ◌++◌, map, length, drop, get_or, Option, Some, None, option_map, find, refl, ap, sym, ◌∙◌, subst, sum, arith}
 use Rattle.std.specs.Prelude.{IsSome, IfOk, OnOk, Result, Ok, Err, unwrap_or}
 use Rattle.std.specs.List.{AllByRecursion, list_any, range_with_len}
@@ -39,7 +39,7 @@ use Rattle.safebound_bounds.proofs.MetRows.{HasAtLeast, all_rows, met_at_least, 
 some_of : {X : Type 0} (o : Option X) (x : X) → o ≡ Some x → IsSome o
 some_of o x e = rw e refl
 
--- ---- a list that is found
+-- ---- a list that was found has the properties of all lists
 
 pub found_at : (entry column : ℕ) (lists : List ColumnList) (P : ColumnList → Type 0) → ((i : ℕ) → i < length lists → P (list_at lists i)) → (l : ColumnList)
     → find (is_of entry column) lists ≡ Some l → P l × (is_of entry column l ≡ true)
@@ -57,7 +57,6 @@ found_at entry column (x ∷ lists) P each l e = by (is_of entry column x) refl 
     by false is h rest = rest h
 
 module _ (rows : List ℕ) (equalities : List Equality) (lists : List ColumnList) (runs : List Run) (right : IsRight rows equalities lists runs) where
-  -- a column with a list has runs that are right
   given_right : (entry column : ℕ) → list_any (is_of entry column) lists ≡ true → (l : ColumnList) × (find (is_of entry column) lists ≡ Some l) × AreRight (runs_of runs l)
   given_right entry column any = by (find (is_of entry column) lists) refl (found entry column lists any)
     where
@@ -65,7 +64,7 @@ module _ (rows : List ℕ) (equalities : List Equality) (lists : List ColumnList
       by None is some = absurd (cc some)
       by (Some l) is some = (l, is, (found_at entry column lists (λ x. AreRight (runs_of runs x)) right.runs_right l is).0)
 
-  -- ---- both columns of each equality
+  -- ---- both columns of each equality have a list
 
   edge_at : (es : List Equality) (k : ℕ) (d : Edge) → k < length es → get_or (edges_of es) k d ≡ edge_of (equality_at es k)
   edge_at [] k d low = absurd (omega arith)
@@ -87,7 +86,6 @@ module _ (rows : List ℕ) (equalities : List Equality) (lists : List ColumnList
         h (equality_at equalities k).right_entry (equality_at equalities k).right_column (right.equalities_right.each k here).right (right.listed k here).right,
       )
 
-  -- every set has what its bound needs
   pub all_listed : (held : EntryLists) → HoldsListed rows (length rows) lists runs held → SetIsListed held (edges_of equalities) (2 ^ length rows - 1)
   all_listed held h = record {
     rows = each_in_set (λ k. IsSome (rows_of held k)) (2 ^ length rows - 1) (λ k low has.
@@ -103,7 +101,6 @@ module _ (rows : List ℕ) (equalities : List Equality) (lists : List ColumnList
           some_of (list_held held entry column) (fitted (get_or rows entry 0) (list_of (runs_of runs l.0)))
           (h.columns entry column ∙ ap (λ (o : Option ColumnList). option_map (fitted (get_or rows entry 0)) (list_if runs o)) l.1)
 
-  -- the list of a column as it is known
   known_list : (entry column : ℕ) (l : ColumnList) → find (is_of entry column) lists ≡ Some l → (known rows lists runs).list entry column ≡ fitted (get_or rows entry 0) (list_of (runs_of runs l))
   known_list entry column l is = ap (λ (o : Option ColumnList). fitted_if (get_or rows entry 0) (list_if runs o)) is
 
@@ -119,7 +116,7 @@ module _ (rows : List ℕ) (equalities : List Equality) (lists : List ColumnList
   set_has_lists subset =
       each_named (HasList (known rows lists runs)) subset (edges_of equalities) (λ k d low joins. both_listed (HasList (known rows lists runs)) has_list k d low)
 
--- ---- never under
+-- ---- no bound is too low
 
 module _ (rows : List ℕ) (equalities : List Equality) (lists : List ColumnList) (runs : List Run) (right : IsRight rows equalities lists runs) where
   pub set_within : (subset : ℕ) (tables : ValuedTables) → ValuesFit rows (given lists runs) tables (edges_of equalities) subset → (choices : List (ℕ → ℕ))
@@ -130,7 +127,7 @@ module _ (rows : List ℕ) (equalities : List Equality) (lists : List ColumnList
       (set_has_lists (rows_in_set rows lists runs (edges_of equalities) subset) equalities lists runs
       (right_in_set rows lists runs (edges_of equalities) subset equalities right) subset) choices satisfy differ
 
--- ---- in 64 bits
+-- ---- bounds that are cut off at 64 bits
 
 narrowed_again : (xs : List ℕ) (f : ℕ → ℕ) → map in_64_bits (map (λ x. saturated (f x)) xs) ≡ map (λ x. in_64_bits (f x)) xs
 narrowed_again [] f = refl
@@ -138,25 +135,21 @@ narrowed_again (x ∷ xs) f =
     let same : in_64_bits (saturated (f x)) ≡ in_64_bits (f x) = omega arith in
     ap (λ y. y ∷ map in_64_bits (map (λ x. saturated (f x)) xs)) same ∙ ap (λ (ys : List ℕ). in_64_bits (f x) ∷ ys) (narrowed_again xs f)
 
--- the bounds that are told, in 64 bits, are those that are meant
 pub told_narrowed : (b : ℕ → EntryBounds) (es fs : List Edge) (n : ℕ) (bounds : List ℕ) → es ≡ fs → bounds ≡ bounds_in_sets b es n → map in_64_bits bounds ≡ all_bounds b fs n
 told_narrowed b es fs n bounds like is =
     ap (map in_64_bits) is
     ∙ narrowed_again (range_with_len 0 (2 ^ n)) (λ subset. bound_of_set (b subset) es subset)
     ∙ ap (λ (x : List Edge). all_bounds b x n) like
 
--- how many they are
 pub how_many : (b : ℕ → EntryBounds) (es : List Edge) (n : ℕ) (bounds : List ℕ) → bounds ≡ bounds_in_sets b es n → length bounds ≡ 2 ^ n
 how_many b es n bounds is = ap length is ∙ length-map-range_with_len (λ (subset : ℕ). bound_told (b subset) es subset) 0 (2 ^ n)
 
--- the whole room
 pub whole_filled : (b : ℕ → EntryBounds) (es fs : List Edge) (n : ℕ) (told bounds old new : List ℕ) (count : ℕ) → es ≡ fs → told ≡ bounds_in_sets b es n → bounds ≡ told
     → count ≡ length told → IsFilled (map in_64_bits bounds) old new (length bounds) → IsFilled (all_bounds b fs n) old new count
 whole_filled b es fs n told bounds old new count like is same counted filled =
     subst (λ (s : List ℕ). IsFilled s old new count) (ap (map in_64_bits) same ∙ told_narrowed b es fs n told like is)
     (subst (IsFilled (map in_64_bits bounds) old new) (ap length same ∙ sym counted) filled)
 
--- one bound, in 64 bits
 pub one_narrowed : (b : ℕ → EntryBounds) (es fs : List Edge) (subset bound result : ℕ) → es ≡ fs → bound ≡ bound_told (b subset) es subset → result ≡ in_64_bits bound
     → result ≡ bound_in b fs subset
 one_narrowed b es fs subset bound result like is told =
@@ -169,7 +162,6 @@ either_told n bound told low is = elim (cases_lt bound (2 ^ 64 - 1)) [
   | inr large ↦ inr (omega (arith, is, large))
 ]
 
--- what stands in the room
 pub told_in_room : (b : ℕ → EntryBounds) (es : List Edge) (n : ℕ) (old new : List ℕ) (count : ℕ) → IsFilled (all_bounds b es n) old new count → (subset : ℕ) → subset < 2 ^ n
     → get_or new subset 0 ≡ bound_in b es subset
 told_in_room b es n old new count filled subset fits =
@@ -209,11 +201,10 @@ module _ (rows : List ℕ) (equalities : List Equality) (lists : List ColumnList
       either_told (length choices) (bound_of_set (known_in rows lists runs (edges_of equalities) subset) (edges_of equalities) subset) bound
       (set_within rows equalities lists runs right subset tables fit choices satisfy differ) is
 
--- ---- where no list leaves rows without a value
+-- ---- if the sum of every list is at least its entry's row bound
 
 module _ (rows : List ℕ) (equalities : List Equality) (lists : List ColumnList) (runs : List Run) (right : IsRight rows equalities lists runs)
     (full : (i : ℕ) → i < length lists → IsFull rows runs (list_at lists i)) where
-  -- of a column with a list, each row has a value
   column_full : (entry column : ℕ) → list_any (is_of entry column) lists ≡ true → get_or rows entry 0 ≤ rows_with_value lists runs (record { entry = entry; column = column })
   column_full entry column any =
       let l = given_right rows equalities lists runs right entry column any in

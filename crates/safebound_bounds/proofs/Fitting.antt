@@ -1,4 +1,4 @@
--- Lists fitted to a number of rows: they fall, their elements are positive, and they sum to it.
+-- A list that is fitted to a number of rows falls, its elements are positive, and its sum is the number of rows.
 use Rattle.std.proofs.Common.{◌≡◌, ℕ, zero, suc, ◌+◌, ◌-◌, ◌<◌, ◌≤◌, min, List, [], ◌∷◌, ◌++◌, length, take, get_or, replicate, ap, sym, ◌∙◌, subst, sum, arith}
 use Rattle.std.specs.List.{AllByRecursion}
 use Rattle.std.proofs.lemmas.List.{append-nil, take_all, take_more}
@@ -32,7 +32,7 @@ falls_on (x ∷ []) v n fall all zero = omega (arith, first_of_run n v, all.0)
 falls_on (x ∷ (y ∷ s)) v n fall all zero = fall 0
 falls_on (x ∷ s) v n fall all (suc r) = falls_on s v n (λ k. fall (suc k)) all.1 r
 
--- ---- the list of right runs
+-- ---- the list of runs that are right
 
 front_falls : (runs : List Run) → AreRight runs → (n : ℕ) → n ≤ length runs → IsFalling (list_of (take n runs))
 front_falls runs right zero low r = omega arith
@@ -48,7 +48,7 @@ front_falls runs right (suc n) low r =
 pub right_falls : (runs : List Run) → AreRight runs → IsFalling (list_of runs)
 right_falls runs right = subst (λ (s : List Run). IsFalling (list_of s)) (take_all (length runs) runs (omega arith)) (front_falls runs right (length runs) (omega arith))
 
--- ---- a fitted list
+-- ---- the sum and the elements of a fitted list
 
 pub cut_sum : (s : List ℕ) (n : ℕ) → sum (cut_at s n) ≡ min (sum s) n
 cut_sum s n =
@@ -72,9 +72,9 @@ one_or_more (x ∷ s) all = (omega (arith, all.0), one_or_more s all.1)
 pub fitted_falls : (rows : ℕ) (s : List ℕ) → IsFalling s → IsFalling (fitted rows s)
 fitted_falls rows s fall = falls_on (cut_at s rows) 1 (rows - sum (cut_at s rows)) (IsFalling-cut_at s rows fall) (one_or_more (cut_at s rows) (positive-cut_at s rows fall))
 
--- ---- as it is made
+-- ---- the fitted list as the code makes it
 
--- the elements of a cut list are at least 1, and it has room for as many more as are left
+-- A list of positive elements is no longer than its sum. So there is room for as many ones as rows are left.
 pub no_longer : (s : List ℕ) → AllByRecursion (λ x. 0 < x) s → length s ≤ sum s
 no_longer s all = no_more_than_sum s (one_or_more s all)
 

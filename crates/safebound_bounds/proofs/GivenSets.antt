@@ -1,4 +1,4 @@
--- The values of a query in a set: the lists that are made there are those that are known in the set.
+-- The row bounds and lists that the code makes for a set are those of `known_in`.
 use Rattle.std.proofs.Common.{◌≡◌, ℕ, ◌-◌, ◌<◌, ◌^◌, List, length, ap, sym, ◌∙◌, subst}
 use Rattle.std.specs.Prelude.{IfErr, IfOk, OnOk, Result, Ok, Err}
 use Rattle.berge_tree.specs.declared.edges.Edge.{Edge}
@@ -25,7 +25,6 @@ use Rattle.safebound_bounds.proofs.InParts.{looks_at_parts}
 use Rattle.safebound_bounds.proofs.MetRows.{in_set_counted, right_in_set}
 
 module _ (rows : List ℕ) (equalities : List Equality) (lists : List ColumnList) (runs : List Run) (right : IsRight rows equalities lists runs) where
-  -- all sets have what their bounds need
   pub whole_listed : (held : EntryLists) (es : List Edge) → es ≡ edges_of equalities → HoldsListed rows (length rows) lists runs held → SetIsListed held es (2 ^ length rows - 1)
   whole_listed held es same holds =
       subst (λ (fs : List Edge). SetIsListed held fs (2 ^ length rows - 1)) (sym same) (all_listed rows equalities lists runs right held holds)
@@ -33,7 +32,6 @@ module _ (rows : List ℕ) (equalities : List Equality) (lists : List ColumnList
   pub looks : (es : List Edge) → es ≡ edges_of equalities → LooksAtParts (known_in rows lists runs (edges_of equalities)) es
   looks es same = subst (λ (fs : List Edge). LooksAtParts (known_in rows lists runs (edges_of equalities)) fs) (sym same) (looks_at_parts rows lists runs (edges_of equalities))
 
-  -- where no list leaves rows without a value
   pub full_told : {E : Type 0} (held : EntryLists) (es : List Edge) → HoldsListed rows (length rows) lists runs held → ((i : ℕ) → i < length lists → IsFull rows runs (list_at lists i))
       → (r : Result (List ℕ) E) → IfOk r (λ bounds. bounds ≡ bounds_of_sets (bounds_of held) es (length rows))
       → IfOk r (λ bounds. bounds ≡ bounds_in_sets (known_in rows lists runs (edges_of equalities)) es (length rows))
@@ -42,7 +40,7 @@ module _ (rows : List ℕ) (equalities : List Equality) (lists : List ColumnList
       (is ∙ ap (λ (b : EntryBounds). bounds_of_sets b es (length rows)) (bounds_known rows lists runs held holds))
   full_told held es holds full (Err e) is = tt
 
-  -- ---- one set
+  -- ---- the row bounds and lists of one set
 
   module _ (es edges : List Edge) (subset : ℕ) (same : es ≡ edges_of equalities) (edges_are : edges ≡ es) (made : List ℕ)
       (are : made ≡ rows_in_set rows lists runs edges subset) where
@@ -67,7 +65,7 @@ module _ (rows : List ℕ) (equalities : List Equality) (lists : List ColumnList
         is ∙ ap (λ (b : EntryBounds). bound_told b es subset) (bounds_known made lists runs held holds ∙ ap (λ (s : List ℕ). known s lists runs) made_are)
     told_here held holds (Err e) is = tt
 
--- ---- want of memory needs no cause
+-- ---- NoMemory needs no cause
 
 pub ok_always : {A E : Type 0} (P : Type 0) (r : Result A E) → P → OnOk r P
 ok_always P (Ok a) held = held
@@ -82,7 +80,7 @@ module _ {A : Type 0} (rows : List ℕ) (equalities : List Equality) (lists : Li
   wants_memory_within limit room (Ok a) h = tt
   wants_memory_within limit room (Err why) h = subst (IsWithinCause rows equalities lists runs limit room) (sym h) tt
 
--- ---- a cause for all bounds is one within a limit, and one of a set
+-- ---- a cause for which all bounds are refused is also one with a limit of work, and one for one set
 
 module _ (rows : List ℕ) (equalities : List Equality) (lists : List ColumnList) (runs : List Run) where
   within_cause : (limit room : ℕ) (why : Refusal) → IsBoundsCause rows equalities lists runs room why → IsWithinCause rows equalities lists runs limit room why

@@ -1,4 +1,4 @@
--- From row bounds and lists to entries' lists, one after another.
+-- Row bounds and lists are added to an `EntryLists`, one after another.
 use Rattle.std.proofs.Common.{◌≡◌, ◌≢◌, ◌⊎◌, inl, inr, ℕ, ◌+◌, ◌<◌, Bool, true, false, ◌||◌, cond, eqb, ltb, List, [], ◌∷◌, ◌++◌, length, get_or, Option, Some, None, option_map, find, refl, ap, sym, ◌∙◌, subst, arith}
 use Rattle.std.specs.Prelude.{IsSome, if◌then◌else◌, unwrap_or}
 use Rattle.std.specs.List.{list_any}
@@ -15,7 +15,7 @@ use Rattle.safebound_bounds.specs.Arguments.{is_of, runs_of}
 use Rattle.safebound_bounds.specs.Listed.{HoldsListed}
 use Rattle.safebound_bounds.specs.Meaning.{fitted, fitted_if, given, known, list_if}
 
--- ---- row bounds
+-- ---- adding the row bounds
 
 choose : {X : Type 0} (a b : Bool) (x : X) → a ≡ b → (if a then Some x else None) ≡ (if b then Some x else None)
 choose a b x e = ap (λ (t : Bool). if t then Some x else None) e
@@ -49,11 +49,10 @@ rows_more rows i bound old new held is set others lists = record {
 pub rows_there : (rows : List ℕ) (n : ℕ) (lists : List ColumnList) (runs : List Run) (held : EntryLists) → HoldsListed rows n lists runs held → (entry : ℕ) → entry < n → rows_of held entry ≡ Some (get_or rows entry 0)
 rows_there rows n lists runs held h entry low = h.entries entry ∙ choose (ltb entry n) true (get_or rows entry 0) (lt-ltb entry n low)
 
--- no lists yet, whatever the runs
 pub without_lists : (rows : List ℕ) (n : ℕ) (runs : List Run) (held : EntryLists) → HoldsListed rows n [] [] held → HoldsListed rows n [] runs held
 without_lists rows n runs held h = record { entries = h.entries; columns = h.columns }
 
--- ---- the list of a column
+-- ---- the search for the list of a column
 
 find_none : (entry column : ℕ) (lists : List ColumnList) → list_any (is_of entry column) lists ≡ false → find (is_of entry column) lists ≡ None
 find_none entry column [] none = refl
@@ -87,7 +86,7 @@ found entry column (l ∷ lists) any = by (is_of entry column l) any (λ h. foun
     by true h rest = refl
     by false h rest = rest h
 
--- ---- one more list
+-- ---- adding one more list
 
 pub not_held : (rows : List ℕ) (n : ℕ) (lists : List ColumnList) (runs : List Run) (held : EntryLists) (entry column : ℕ) → HoldsListed rows n lists runs held
     → list_any (is_of entry column) lists ≡ false → list_held held entry column ≡ None
@@ -127,7 +126,7 @@ module _ (rows : List ℕ) (n : ℕ) (lists : List ColumnList) (runs : List Run)
       at entry column true false e f = apart entry column (rw (e, f) refl) (inr (λ same. eqb-false x.column column f (sym same)))
       at entry column false t e f = apart entry column (rw e refl) (inl (λ same. eqb-false x.entry entry e (sym same)))
 
--- ---- as bounds of entries
+-- ---- the held row bounds and lists as one `EntryBounds`
 
 pub bounds_known : (rows : List ℕ) (lists : List ColumnList) (runs : List Run) (held : EntryLists) → HoldsListed rows (length rows) lists runs held → bounds_of held ≡ known rows lists runs
 bounds_known rows lists runs held h =

@@ -1,4 +1,5 @@
--- What is known in a set doesn't look past the parts into which it falls: no equality of the set joins an entry of a part with another one.
+-- Let no equality of a set join an entry of a part of the set with an entry outside the part. Then the entries of the part have the same row
+-- bounds and lists in the part as in the set.
 use Rattle.std.proofs.Common.{◌≡◌, ℕ, Bool, true, false, not, ◌&&◌, cond, eqb, List, [], ◌∷◌, length, get_or, refl, ap, sym, ◌∙◌, inl, inr}
 use Rattle.std.specs.Prelude.{if◌then◌else◌, min}
 use Rattle.std.specs.List.{AllByRecursion}
@@ -18,10 +19,9 @@ use Rattle.safebound_bounds.specs.Meaning.{fewer_at, fitted_if, given, known_in,
 use Rattle.safebound_bounds.proofs.MetRows.{in_set_at, in_set_past}
 use Rattle.safebound_bounds.proofs.SameBounds.{HaveOneBound, HaveOneList, same_bound}
 
--- ---- an entry of a part
+-- ---- the row bound of an entry of a part
 
 module _ (lists : List ColumnList) (runs : List Run) (subset part : ℕ) (within : IsWithin part subset) (entry : ℕ) (has : has_entry part entry ≡ true) where
-  -- both sides of an equality are in the part, or none is
   abbrev OnOneSide : Edge → Type 0
   OnOneSide e = has_entry part e.left.entry ≡ has_entry part e.right.entry
 
@@ -54,7 +54,7 @@ module _ (lists : List ColumnList) (runs : List Run) (subset part : ℕ) (within
   met_in_part (e ∷ es) unjoined n =
       one_more e (equalities_within part es) (equalities_within subset es) (joins_within subset e) (joins_within part e) refl refl unjoined (λ h m. met_in_part es h m) n
 
--- ---- a part, and the rest
+-- ---- the row bounds and lists of all entries of a part, and of the other entries
 
 module _ (rows : List ℕ) (lists : List ColumnList) (runs : List Run) (es : List Edge) where
   module _ (subset part : ℕ) (within : IsWithin part subset) (unjoined : AreUnjoined es subset part) where

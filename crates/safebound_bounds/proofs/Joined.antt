@@ -1,5 +1,5 @@
--- Choices that satisfy the equalities of a set choose rows that have values there: so they are choices of such rows, which fit what is known
--- in the set.
+-- A choice that satisfies the equalities of a set takes rows that have values in the columns of these equalities. So the row bounds and lists of the
+-- set have to fit these rows alone, and they do.
 use Rattle.std.proofs.Common.{◌≡◌, ℕ, ◌<◌, ◌≤◌, Bool, true, false, ◌&&◌, eqb, List, [], ◌∷◌, length, map, get_or, Option, Some, None, refl, sym, subst, arith, inl, inr}
 use Rattle.std.specs.Prelude.{if◌then◌else◌, is_some, unwrap_or}
 use Rattle.std.specs.List.{AllByRecursion, Contains, filter, range_with_len}
@@ -42,11 +42,9 @@ module _ (tables : ValuedTables) where
   abbrev with_values : List Edge → ℕ → List ℕ
   with_values es entry = filter (has_values entry es) (range_with_len 0 (tables.rows entry))
 
-  -- the key of a row with a value
   abbrev key : ℕ → ℕ → ℕ → ℕ
   key entry column row = unwrap_or (value_at entry column row) 0
 
-  -- such a row has a value at each place of its entry
   module _ (entry row : ℕ) where
     at_one : (p : Place) → has_value entry row p ≡ true → p.entry ≡ entry → value_at p.entry p.column row ≡ Some (key p.entry p.column row)
     at_one p has here = by (eqb p.entry entry) refl has
@@ -72,7 +70,7 @@ module _ (tables : ValuedTables) where
           ]
         ]
 
-  -- ---- a choice that satisfies equalities
+  -- ---- a choice that satisfies the equalities takes rows with values
 
   module _ (choice : ℕ → ℕ) where
     abbrev AreMatched : Edge → Type 0
@@ -123,7 +121,7 @@ module _ (tables : ValuedTables) where
     are_scanned es entries choices all.1,
   )
 
-  -- ---- what is known in a set fits these rows
+  -- ---- the row bounds and lists in a set fit the rows with values
 
   module _ (rows : List ℕ) (lists : List ColumnList) (runs : List Run) (es : List Edge) (subset : ℕ) (fit : ValuesFit rows (given lists runs) tables es subset) where
     abbrev own : List Edge
@@ -132,7 +130,8 @@ module _ (tables : ValuedTables) where
     abbrev tested : ℕ → List ℕ
     tested = with_values own
 
-    -- of a column that the set's equalities name, the keys of these rows, and how many they are
+    -- Let a column be one that the set's equalities name. A key is at most as frequent among the rows with values as in the column, and these rows
+    -- are at most as many as the column's values.
     few_keys : (p : Place) → Contains (places_of own) p
         → ((a : ℕ) → degree (map (key p.entry p.column) (tested p.entry)) a ≤ degree (present (tables.values p.entry p.column)) a)
         × (length (tested p.entry) ≤ length (present (tables.values p.entry p.column)))

@@ -1,4 +1,5 @@
--- How many rows of each entry the equalities of a set can join: no more than it has, and no fewer than have values in all of the columns.
+-- `rows_met` is how many rows of an entry the equalities of a set can join. This number is at most the entry's row bound. It is at least the number
+-- of rows that have values in all the columns.
 use Rattle.std.proofs.Common.{◌≡◌, ℕ, suc, ◌+◌, ◌<◌, ◌≤◌, min, Bool, true, false, cond, eqb, List, [], ◌∷◌, length, map, get_or, refl, sym, subst, inl, inr, arith}
 use Rattle.std.specs.Prelude.{if◌then◌else◌}
 use Rattle.std.specs.List.{AllByRecursion, range_with_len}
@@ -15,7 +16,7 @@ use Rattle.safebound_bounds.specs.declared.arguments.Equality.{Equality}
 use Rattle.safebound_bounds.specs.Causes.{AreEqualitiesRight, AreListsRight, IsRight}
 use Rattle.safebound_bounds.specs.Meaning.{fewer_at, rows_in_set, rows_met, rows_with_value}
 
--- ---- one entry
+-- ---- the number for one entry
 
 module _ (lists : List ColumnList) (runs : List Run) (entry : ℕ) where
   fewer_at_most : (p : Place) (n : ℕ) → fewer_at lists runs entry p n ≤ n
@@ -31,7 +32,6 @@ module _ (lists : List ColumnList) (runs : List Run) (entry : ℕ) where
       let left : ℕ = fewer_at lists runs entry e.left n in
       omega (arith, met_at_most es (fewer_at lists runs entry e.right left), fewer_at_most e.right left, fewer_at_most e.left n)
 
-  -- so many rows have a value in the column, if it is one of the entry's
   abbrev pub HasAtLeast : ℕ → Place → Type 0
   HasAtLeast m p = p.entry ≡ entry → m ≤ rows_with_value lists runs p
 
@@ -48,7 +48,6 @@ module _ (lists : List ColumnList) (runs : List Run) (entry : ℕ) where
       met_at_least es m (fewer_at lists runs entry e.right (fewer_at lists runs entry e.left n))
       (fewer_at_least e.right m (fewer_at lists runs entry e.left n) (fewer_at_least e.left m n low has.0) has.1.0) has.1.1
 
-  -- one equality more
   pub met_one : (subset : ℕ) (e : Edge) (es : List Edge) (n : ℕ)
       → rows_met lists runs entry (equalities_within subset es) (rows_met lists runs entry (equalities_within subset (e ∷ [])) n)
       ≡ rows_met lists runs entry (equalities_within subset (e ∷ es)) n
@@ -59,7 +58,7 @@ module _ (lists : List ColumnList) (runs : List Run) (entry : ℕ) where
       by true = refl
       by false = refl
 
--- ---- all entries
+-- ---- the numbers for all entries
 
 module _ (rows : List ℕ) (lists : List ColumnList) (runs : List Run) (es : List Edge) (subset : ℕ) where
   abbrev met_of : ℕ → ℕ
@@ -80,7 +79,6 @@ module _ (rows : List ℕ) (lists : List ColumnList) (runs : List Run) (es : Lis
     | inr past ↦ omega (arith, in_set_past entry past)
   ]
 
-  -- fewer rows are right where more are
   pub right_in_set : (equalities : List Equality) → IsRight rows equalities lists runs → IsRight (rows_in_set rows lists runs es subset) equalities lists runs
   right_in_set equalities right = record {
     rows_right = record {
@@ -100,6 +98,5 @@ module _ (rows : List ℕ) (lists : List ColumnList) (runs : List Run) (es : Lis
       let here : f i ≡ x = subst (λ (k : ℕ). f k ≡ x) (omega arith) (same 0 (omega arith)) in
       rw (here, same_list_of f xs (i + 1) (λ k low. subst (λ (n : ℕ). f n ≡ get_or xs k 0) (omega arith) (same (suc k) (omega arith)))) refl
 
-  -- where each entry keeps its rows, all is as it was
   pub all_rows : ((entry : ℕ) → entry < length rows → met_of entry ≡ get_or rows entry 0) → rows_in_set rows lists runs es subset ≡ rows
   all_rows same = same_list_of met_of rows 0 (λ k low. subst (λ (n : ℕ). met_of n ≡ get_or rows k 0) (omega arith) (same k low))

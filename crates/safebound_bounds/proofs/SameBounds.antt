@@ -1,4 +1,4 @@
--- Bounds of entries that agree on a set's row bounds and lists give the set one bound.
+-- If two `EntryBounds` have the same row bounds and lists for a set, the set has the same bound by both.
 use Rattle.std.proofs.Common.{◌≡◌, ℕ, ◌-◌, List, [], ◌∷◌, refl, ap}
 use Rattle.std.specs.List.{AllByRecursion}
 use Rattle.std.proofs.Math.Path.{fun_ext}

@@ -1,4 +1,4 @@
--- How many rows runs are of, run by run.
+-- The number of rows that runs count is added up run by run.
 use Rattle.std.proofs.Common.{◌≡◌, ℕ, ◌+◌, ◌*◌, ◌<◌, ◌≤◌, ◌^◌, List, length, take, ap, ◌∙◌, sum, arith}
 use Rattle.std.proofs.lemmas.List.{take_more}
 use Rattle.safebound_lists.specs.declared.runs.Run.{Run}

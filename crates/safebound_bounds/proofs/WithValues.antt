@@ -1,5 +1,5 @@
--- Rows that have a value in each joined column: their keys stand no more often than the values, so a list that dominates the values and is
--- cut at so many rows dominates these keys.
+-- These lemmas are about the rows that have a value in each joined column. A key is at most as frequent among these rows as among the values of the
+-- column. So a list that dominates the values, cut at the number of these rows, dominates their keys.
 use Rattle.std.proofs.Common.{◌≡◌, ℕ, zero, suc, ◌+◌, ◌-◌, ◌<◌, ◌≤◌, Bool, true, false, cond, eqb, List, [], ◌∷◌, ◌++◌, length, map, get_or, replicate, Option, Some, None, refl, sym, subst, sum, arith, inl, inr}
 use Rattle.std.specs.Prelude.{unwrap_or}
 use Rattle.std.specs.List.{Contains, IsDistinct, filter, range_with_len, sum_by}
@@ -39,12 +39,11 @@ no_more_pass t i (suc n) = by (t i) (no_more_pass t (i + 1) n)
 pub few_pass : (t : ℕ → Bool) (n : ℕ) → length (filter t (range_with_len 0 n)) ≤ n
 few_pass t n = no_more_pass t 0 n
 
--- ---- how often a key stands
+-- ---- how often a key occurs
 
 degree-cons : (key : ℕ) (keys : List ℕ) (a : ℕ) → degree (key ∷ keys) a ≡ cond (eqb key a) 1 0 + degree keys a
 degree-cons key keys a = sum_by-cons (λ (k : ℕ). cond (eqb k a) 1 0) key keys
 
--- the rows that pass have a value, which is their key
 module _ (t : ℕ → Bool) (key : ℕ → ℕ) where
   abbrev HaveKeys : ℕ → List (Option ℕ) → Type 0
   HaveKeys i values = (k : ℕ) → k < length values → t (i + k) ≡ true → get_or values k None ≡ Some (key (i + k))
@@ -91,7 +90,6 @@ module _ (t : ℕ → Bool) (key : ℕ → ℕ) where
       by false is None first rest = rest
       by false is (Some x) first rest = omega (arith, rest)
 
-  -- from the first row on
   pub keys_are_values : (values : List (Option ℕ)) → ((k : ℕ) → k < length values → t k ≡ true → get_or values k None ≡ Some (key k))
       → ((a : ℕ) → degree (passing 0 (length values)) a ≤ degree (present values) a) × (length (filter t (range_with_len 0 (length values))) ≤ length (present values))
   keys_are_values values have =
@@ -102,7 +100,6 @@ module _ (t : ℕ → Bool) (key : ℕ → ℕ) where
 
 -- ---- lists that dominate
 
--- no picked keys stand more often than there are keys
 weighs_within : (keys picked : List ℕ) → IsDistinct eqb picked → sum_by (degree keys) picked ≤ length keys
 weighs_within keys picked distinct =
     omega (
@@ -121,7 +118,6 @@ module _ (keys others : List ℕ) (fewer : (a : ℕ) → degree keys a ≤ degre
   weighs_less : (picked : List ℕ) → sum_by (degree keys) picked ≤ sum_by (degree others) picked
   weighs_less picked = sum_by-le-sum_by (degree keys) (degree others) picked fewer
 
-  -- a list that dominates all values dominates fewer keys, also where it is cut at no fewer rows than there are keys
   pub cut_dominates : (rows : ℕ) → length keys ≤ rows → (o : Option (List ℕ)) → DominatesKeys (unwrap_or o []) others → DominatesKeys (fitted_if rows o) keys
   cut_dominates rows within None dominates = keys_dominated [] keys (λ picked distinct. omega (arith, weighs_less picked, degrees_dominated [] others dominates picked distinct))
   cut_dominates rows within (Some list) dominates =

@@ -21,7 +21,7 @@ no_equality = record { left_entry = 0; left_column = 0; right_entry = 0; right_c
 abbrev pub equality_at : List Equality → ℕ → Equality
 equality_at equalities i = slice_index_or equalities i no_equality
 
--- both entries exist, and they are different
+-- both entries of the equality exist, and they are different
 pub record IsEqualityRight (entries : ℕ) (equality : Equality) : Type 0 where
   pub left : equality.left_entry < entries
   pub right : equality.right_entry < entries
@@ -35,7 +35,7 @@ no_list = record { entry = 0; column = 0; first = 0; length = 0 }
 abbrev pub list_at : List ColumnList → ℕ → ColumnList
 list_at lists i = slice_index_or lists i no_list
 
--- the list is of this column
+-- whether the list is that of this column
 abbrev pub is_of : ℕ → ℕ → ColumnList → Bool
 is_of entry column list = list.entry == entry && list.column == column
 
@@ -43,12 +43,12 @@ is_of entry column list = list.entry == entry && list.column == column
 abbrev pub no_values : ℕ
 no_values = 2 ^ 64 - 1
 
--- the runs of a list exist. If it has no runs, `first` says that no row has a value in the column
+-- the runs of a list exist. If the list has no runs, its field `first` says that no row has a value in the column
 pub record AreRunsThere (runs : ℕ) (list : ColumnList) : Type 0 where
   pub there : 0 < list.length → list.first + list.length ≤ runs
   pub marked : list.length ≡ 0 → list.first ≡ no_values
 
--- the list's entry exists, its runs exist, and no earlier list is of the same column
+-- the list's entry exists, its runs exist, and no earlier list is that of the same column
 pub record IsListRight (entries runs : ℕ) (before : List ColumnList) (list : ColumnList) : Type 0 where
   pub entry : list.entry < entries
   pub runs_there : AreRunsThere runs list
@@ -66,7 +66,7 @@ runs_of runs list = take list.length (drop list.first runs)
 abbrev pub AreRunsRightAt : List ColumnList → List Run → ℕ → Type 0
 AreRunsRightAt lists runs i = AreRight (runs_of runs (list_at lists i))
 
--- the place of the first wrong run in the first list that has one
+-- the place of the first wrong run in the first list that has a wrong run
 pub record IsWrongRun (lists : List ColumnList) (runs : List Run) (place : ℕ) : Type 0 where
   pub list : ℕ
   pub first_list : IsFirstWrong (AreRunsRightAt lists runs) (length lists) list

@@ -1,4 +1,4 @@
--- What a query's values say of the entries in a set. No public contract uses this file.
+-- The row bounds and lists in a set, from the values of the code. No public contract uses this file.
 use Rattle.std.specs.Prelude.{◌≡◌, ℕ, ◌^◌, ◌<◌, ◌≤◌, List, length, slice_index}
 use Rattle.std.specs.List.{sum}
 use Rattle.berge_tree.specs.declared.edges.Edge.{Edge}
@@ -11,16 +11,16 @@ use Rattle.safebound_bounds.specs.Arguments.{runs_of}
 use Rattle.safebound_bounds.specs.Causes.{IsRight}
 use Rattle.safebound_bounds.specs.Meaning.{edges_of, known_in}
 
--- the values are right, these are their equalities, and the set is of their entries
+-- the values are right, `es` are their equalities, and the set is one of their entries
 pub record AreGiven (given : Given) (es : List Edge) (subset : ℕ) : Type 0 where
   pub right : IsRight given.rows.now given.equalities.now given.lists.now given.runs.now
   pub edges : es ≡ edges_of given.equalities.now
   pub fits : subset < 2 ^ length given.rows.now
 
--- what the values say of the entries in a set
+-- the row bounds and lists of the entries in a set
 abbrev pub known_by : Given → ℕ → EntryBounds
 known_by given subset = known_in given.rows.now given.lists.now given.runs.now (edges_of given.equalities.now) subset
 
--- a list sums to at least its entry's row bound
+-- the sum of a list is at least its entry's row bound
 abbrev pub IsFull : List ℕ → List Run → ColumnList → Type 0
 IsFull rows runs list = slice_index rows list.entry ≤ sum (list_of (runs_of runs list))

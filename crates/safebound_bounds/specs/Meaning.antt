@@ -1,4 +1,4 @@
--- What the values of a query mean: bounds of its entries, and equalities.
+-- What the arguments of a call mean: equalities, and row bounds and lists of entries.
 use Rattle.std.specs.Prelude.{ℕ, ◌-◌, ◌^◌, ◌==◌, if◌then◌else◌, min, List, [], ◌∷◌, ◌++◌, length, map, find, replicate, slice_index, Option, Some, None, unwrap_or}
 use Rattle.std.specs.List.{range_with_len, sum}
 use Rattle.degree_sequences.specs.RunningSums.{cut_at}
@@ -22,12 +22,13 @@ edge_of e = record {
 abbrev pub edges_of : List Equality → List Edge
 edges_of equalities = map edge_of equalities
 
--- a list for so many rows. It is cut if it sums to more. If it sums to less, the other rows have no value, and each of them counts as a key of
--- its own. (No bound uses these keys in a column that the set's equalities name: there `rows` doesn't count rows without a value.)
+-- a list fitted to `rows` rows. If the list's sum is above `rows`, it is cut. If its sum is below, the other rows have no value, and each of
+-- them counts as a key of its own. (No bound uses these keys in a column that the set's equalities name: rows without a value aren't counted
+-- there.)
 abbrev pub fitted : ℕ → List ℕ → List ℕ
 fitted rows list = cut_at list rows ++ replicate (rows - sum (cut_at list rows)) 1
 
--- the list that is given for a column: the first list of that column
+-- the list that was handed in for a column: the first list of that column
 abbrev pub list_if : List Run → Option ColumnList → Option (List ℕ)
 list_if runs None = None
 list_if runs (Some list) = Some (list_of (runs_of runs list))
@@ -35,7 +36,7 @@ list_if runs (Some list) = Some (list_of (runs_of runs list))
 abbrev pub given : List ColumnList → List Run → ℕ → ℕ → Option (List ℕ)
 given lists runs entry column = list_if runs (find (is_of entry column) lists)
 
--- what is known of entries that have so many rows each
+-- the row bounds and lists of entries with these numbers of rows
 abbrev pub fitted_if : ℕ → Option (List ℕ) → List ℕ
 fitted_if rows None = []
 fitted_if rows (Some list) = fitted rows list
@@ -46,41 +47,41 @@ known rows lists runs = record {
   list = λ entry column. fitted_if (slice_index rows entry) (given lists runs entry column);
 }
 
--- ---- in a set
+-- ---- row bounds and lists in a set
 
 -- how many rows of an entry have a value in a column, at most: the sum of its list
 abbrev pub rows_with_value : List ColumnList → List Run → Place → ℕ
 rows_with_value lists runs p = sum (unwrap_or (given lists runs p.entry p.column) [])
 
--- a row bound of an entry, or the number of its rows with a value in this column, if the column is the entry's and the number is smaller
+-- `rows`, or, if the column is the entry's, at most the number of rows with a value in this column
 abbrev pub fewer_at : List ColumnList → List Run → ℕ → Place → ℕ → ℕ
 fewer_at lists runs entry p rows = if p.entry == entry then min rows (rows_with_value lists runs p) else rows
 
--- the least of a row bound of an entry and, for each of its columns that the equalities name, the number of its rows with a value there
+-- the least of these numbers: `rows`, and for each of the entry's columns that the equalities name, the number of rows with a value in it
 abbrev pub rows_met : List ColumnList → List Run → ℕ → List Edge → ℕ → ℕ
 rows_met lists runs entry [] rows = rows
 rows_met lists runs entry (e ∷ es) rows = rows_met lists runs entry es (fewer_at lists runs entry e.right (fewer_at lists runs entry e.left rows))
 
--- at most how many rows of each entry all equalities of a set can join: a row without a value matches no row
+-- for each entry, how many of its rows the equalities of a set can join at most. A row without a value matches no row
 abbrev pub rows_in_set : List ℕ → List ColumnList → List Run → List Edge → ℕ → List ℕ
 rows_in_set rows lists runs es subset =
     map (λ entry. rows_met lists runs entry (equalities_within subset es) (slice_index rows entry)) (range_with_len 0 (length rows))
 
--- what is known of the entries in a set: the rows that count there, and lists that are fitted to them
+-- the row bounds and lists of the entries in a set: the rows that the set's equalities can join, and lists that are fitted to these numbers of rows
 abbrev pub known_in : List ℕ → List ColumnList → List Run → List Edge → ℕ → EntryBounds
 known_in rows lists runs es subset = known (rows_in_set rows lists runs es subset) lists runs
 
--- the greatest bound of 64 bits, which stands for every number from there on
+-- the greatest bound of 64 bits. It means 2^64 - 1 or more
 abbrev pub no_bound : ℕ
 no_bound = 2 ^ 64 - 1
 
 abbrev pub in_64_bits : ℕ → ℕ
 in_64_bits bound = min bound no_bound
 
--- the bound of a set, by what is known in it
+-- the bound of a set, by the row bounds and lists in the set
 abbrev pub bound_in : (ℕ → EntryBounds) → List Edge → ℕ → ℕ
 bound_in b es subset = in_64_bits (bound_of_set (b subset) es subset)
 
--- the bounds of all sets of n entries, each at the number whose bits are the set
+-- the bounds of all sets of n entries. The bound of a set stands at the index whose bits are the set's entries
 abbrev pub all_bounds : (ℕ → EntryBounds) → List Edge → ℕ → List ℕ
 all_bounds b es n = map (bound_in b es) (range_with_len 0 (2 ^ n))

@@ -12,7 +12,7 @@ pub record ValuedTables : Type 0 where
   pub rows : ℕ → ℕ
   pub values : ℕ → ℕ → List (Option ℕ)
 
--- the values that are there
+-- the values of a column, without the missing ones
 abbrev pub present : List (Option ℕ) → List ℕ
 present [] = []
 present (None ∷ values) = present values
@@ -22,7 +22,7 @@ present (Some value ∷ values) = value ∷ present values
 abbrev pub value_of : ValuedTables → (ℕ → ℕ) → ℕ → ℕ → Option ℕ
 value_of tables choice entry column = slice_index_or (tables.values entry column) (choice entry) None
 
--- both rows have a value there, and it is the same
+-- both values are there, and they are equal
 abbrev pub Match : Option ℕ → Option ℕ → Type 0
 Match None right = ⊥
 Match (Some left) None = ⊥
@@ -33,12 +33,13 @@ pub record SatisfiesValues (tables : ValuedTables) (entries : List ℕ) (es : Li
   pub rows : AllByRecursion (λ entry. choice entry < tables.rows entry) entries
   pub equal : AllByRecursion (λ e. Match (value_of tables choice e.left.entry e.left.column) (value_of tables choice e.right.entry e.right.column)) es
 
--- the list that is given for a column dominates the values that are there. Each row has a place in the column, with or without a value
+-- the list that was handed in for a column dominates the column's values, without the missing ones. The column has a value, or a missing
+-- value, for each row
 pub record FitsColumn (given : ℕ → ℕ → Option (List ℕ)) (tables : ValuedTables) (entry column : ℕ) : Type 0 where
   pub values : DominatesKeys (unwrap_or (given entry column) []) (present (tables.values entry column))
   pub one_each : length (tables.values entry column) ≡ tables.rows entry
 
--- each entry of a set has at most so many rows, and each column that an equality of the set names fits its list
+-- each entry of a set has at most as many rows as its row bound, and each column that an equality of the set names fits its list
 pub record ValuesFit (rows : List ℕ) (given : ℕ → ℕ → Option (List ℕ)) (tables : ValuedTables) (es : List Edge) (subset : ℕ) : Type 0 where
   pub entries : AllByRecursion (λ entry. tables.rows entry ≤ slice_index rows entry) (entries_of_set subset)
   pub columns : EachNamedColumn (FitsColumn given tables) (equalities_within subset es)

@@ -1,4 +1,4 @@
--- The work of a call for all bounds. It is a measure, and not a number of steps.
+-- The work of a call for all bounds. Work is a measure for a limit, and not a number of steps.
 use Rattle.std.specs.Prelude.{ℕ, ◌+◌, ◌*◌, ◌^◌, List, map, find, Option, Some, None}
 use Rattle.std.specs.List.{range_with_len, sum}
 use Rattle.berge_tree.specs.declared.edges.Edge.{Edge}
@@ -19,7 +19,7 @@ runs_listed lists p = length_if (find (is_of p.entry p.column) lists)
 abbrev pub runs_joined : List ColumnList → Edge → ℕ
 runs_joined lists e = runs_listed lists e.left + runs_listed lists e.right
 
--- the work of a turn of a set: 1, and the runs of the set's equalities
+-- the work of a turn of a set: 1, plus the runs of the set's equalities
 abbrev pub turn_work : List ColumnList → List Edge → ℕ → ℕ
 turn_work lists es subset = 1 + sum (map (runs_joined lists) (equalities_within subset es))
 

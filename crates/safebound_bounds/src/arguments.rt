@@ -1,4 +1,4 @@
-//! The equalities and lists that a caller hands in, beside row bounds and runs.
+//! The equalities and lists that a caller hands in. Row bounds and runs are the other arguments.
 
 /// An equality between columns of two different entries.
 #[repr(C)]
@@ -13,7 +13,7 @@ pub struct Equality {
 /// The value of `first` in a list without runs, for a column in which no row has a value.
 pub const NO_VALUES: u64 = u64::MAX;
 
-/// The list of an entry's column: `length` of the call's runs, from the run at place `first` on.
+/// The list of an entry's column: `length` runs of the call's array of runs, from place `first` on.
 #[repr(C)]
 #[derive(Clone, Copy, Debug, PartialEq, Eq)]
 pub struct ColumnList {

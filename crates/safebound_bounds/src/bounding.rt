@@ -75,7 +75,7 @@ fn first_wrong(
     Ok(())
 }
 
-// The bounds of all sets if no list leaves rows without a value. What is known is then the same in every set.
+// The bounds of all sets, if every list counts as many rows as its entry's row bound. Then row bounds and lists are the same in every set.
 fn full_bounds(alloc: Global, parts: &Parts, given: &Given) -> Result<Seq<u128>, NoMemory>
     requires right { IsRight given.now.rows.now given.now.equalities.now given.now.lists.now given.now.runs.now }
     requires edges { parts.now.equalities ≡ edges_of given.now.equalities.now }
@@ -86,7 +86,7 @@ fn full_bounds(alloc: Global, parts: &Parts, given: &Given) -> Result<Seq<u128>,
     bounds_of_sets(alloc, parts, &entries, given.rows.len() as u8)
 }
 
-// The bounds of all sets, whether or not lists leave rows without a value.
+// The bounds of all sets. Rows may lack values.
 fn told_bounds(alloc: Global, parts: &Parts, given: &Given) -> Result<Seq<u128>, NoMemory>
     requires right { IsRight given.now.rows.now given.now.equalities.now given.now.lists.now given.now.runs.now }
     requires edges { parts.now.equalities ≡ edges_of given.now.equalities.now }
@@ -128,7 +128,7 @@ fn fill(alloc: Global, parts: &Parts, given: &Given, into: &mut [u64]) -> Result
     Ok(bounds.len() as u64)
 }
 
-// Refuses wrong values, and a buffer with too little room for the bounds.
+// Refuses wrong values, and a buffer that is too small for the bounds.
 fn may_write(
     rows: &[u64],
     equalities: &[Equality],
@@ -150,12 +150,12 @@ fn may_write(
     Ok(())
 }
 
-/// Writes the bounds of all sets of entries, in rows, each at the number whose bits are the set. It answers how many bounds these are. A bound
-/// of 2^64 - 1 stands for every number from there on.
+/// Writes the bounds of all sets of entries, in rows. The bound of a set is written at the index whose bits are the set's entries. The result
+/// is how many bounds were written. A bound of 2^64 - 1 means 2^64 - 1 or more.
 ///
-/// No bound is too low for tables that the row bounds and lists fit, even if rows are without values. Of all choices of one row for each entry
-/// of a set, no more satisfy the set's equalities than its bound says (SafeBound, SIGMOD 2023; Degree Sequence Bound, ICDT 2023). A comparison
-/// with a value that isn't there isn't true (SQL-92, 8.2).
+/// No bound is too low, if the row bounds and lists fit the tables. Rows may lack values. Take the choices (one row for each entry of a set)
+/// that satisfy the set's equalities. They are at most as many as the set's bound (SafeBound, SIGMOD 2023; Degree Sequence Bound, ICDT 2023).
+/// A comparison with a missing value isn't true (SQL-92, 8.2).
 pub fn bounds(
     alloc: Global,
     rows: &[u64],
@@ -187,7 +187,7 @@ pub fn bounds(
     fill(alloc, &parts, &given, into)
 }
 
-// Refuses a call whose work passes the limit.
+// Refuses a call whose work is above the limit.
 fn may_work(alloc: Global, parts: &Parts, given: &Given, limit: u64) -> Result<(), Refusal>
     requires right { IsRight given.now.rows.now given.now.equalities.now given.now.lists.now given.now.runs.now }
     requires edges { parts.now.equalities ≡ edges_of given.now.equalities.now }
@@ -204,7 +204,7 @@ fn may_work(alloc: Global, parts: &Parts, given: &Given, limit: u64) -> Result<(
     Ok(())
 }
 
-/// Does what `bounds` does, if its work is within a limit. The work is counted first. If it passes the limit, no set is bounded.
+/// Does what `bounds` does, if the work is within a limit. The work is counted first. If it is above the limit, no set is bounded.
 pub fn bounds_within(
     alloc: Global,
     rows: &[u64],
@@ -239,7 +239,7 @@ pub fn bounds_within(
     fill(alloc, &parts, &given, into)
 }
 
-/// The bound of one set of entries alone, in rows: what `bounds` writes at its number. No other set is bounded.
+/// The bound of one set of entries, in rows: the number that `bounds` writes for this set. No other set is bounded.
 pub fn set_bound(
     alloc: Global,
     rows: &[u64],

@@ -1,4 +1,4 @@
-//! Finds the first wrong value. No function here allocates memory.
+//! Finds the first wrong value that a caller handed in. No function here allocates memory.
 ghost use Rattle.std.specs.Prelude.{◌≡◌, ◌<◌, ◌≤◌, ◌↔◌, ℕ, find, length, IsTrue, MatchOption};
 ghost use Rattle.std.specs.List.{list_any};
 ghost use Rattle.safebound_lists.specs.First.{IsFirstWrong};
@@ -41,7 +41,7 @@ pub(crate) fn first_wrong_equality(entries: usize, equalities: &[Equality]) -> O
     None
 }
 
-// Whether a column has one of the lists.
+// Whether one of `lists` is that of the column.
 fn is_listed(lists: &[ColumnList], entry: u32, column: u32) -> bool
     ensures { result ≡ list_any (is_of entry column) lists.now }
 {

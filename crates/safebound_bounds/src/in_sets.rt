@@ -1,5 +1,5 @@
-//! What is known of the entries in a set. A row that has no value in a column that an equality of the set names joins with no row, so it isn't
-//! counted.
+//! The row bounds and lists of the entries in a set. If an equality of the set names a column, a row without a value in this column joins
+//! with no row, so the row isn't counted.
 ghost use Rattle.std.specs.Prelude.{◌≡◌, ◌∷◌, [], ◌<◌, ◌≤◌, ℕ, length, true, IfOk};
 ghost use Rattle.std.specs.List.{sum};
 ghost use Rattle.limits.specs.Profile.{most_entries};
@@ -29,7 +29,7 @@ pub(crate) struct Given<'a> {
     pub runs: &'a [Run],
 }
 
-// How many rows these runs count.
+// How many rows the runs count.
 fn total(runs: &[Run]) -> u64
     requires { AreRight runs.now }
     ensures { result ≡ sum (list_of_runs runs.now) }
@@ -53,7 +53,7 @@ fn rows_with_value(lists: &[ColumnList], runs: &[Run], place: Place) -> u64
     }
 }
 
-// A row bound of an entry, or the number of its rows with a value in this column, if the column is the entry's and the number is smaller.
+// `rows`, or, if the column at `place` is the entry's, at most the number of rows with a value in this column.
 fn fewer_at(lists: &[ColumnList], runs: &[Run], entry: u8, place: Place, rows: u64) -> u64
     requires there { (i : ℕ) → i < length lists.now → AreRunsThere (length runs.now) (list_at lists.now i) }
     requires right { (i : ℕ) → i < length lists.now → AreRunsRightAt lists.now runs.now i }
@@ -65,7 +65,7 @@ fn fewer_at(lists: &[ColumnList], runs: &[Run], entry: u8, place: Place, rows: u
     rows.min(rows_with_value(lists, runs, place))
 }
 
-// A row bound of an entry, lowered by an equality if both entries of the equality are in the set.
+// `rows`, a row bound of an entry, lowered by an equality if both entries of the equality are in the set.
 fn met_at(
     lists: &[ColumnList],
     runs: &[Run],
@@ -144,7 +144,7 @@ impl KnownInSets for Given<'_> {
     }
 }
 
-// Whether the list sums to at least its entry's row bound.
+// Whether the sum of the list is at least its entry's row bound.
 fn is_full(rows: &[u64], runs: &[Run], list: ColumnList) -> bool
     requires entry { list.entry < length rows.now }
     requires there { AreRunsThere (length runs.now) list }
@@ -154,7 +154,8 @@ fn is_full(rows: &[u64], runs: &[Run], list: ColumnList) -> bool
     total(own_runs(runs, list)) >= rows[list.entry as usize]
 }
 
-/// Whether no list leaves rows without a value. If so, what is known is the same in every set.
+/// Whether the sum of every list is at least its entry's row bound, so that no row lacks a value. Then row bounds and lists are the same in
+/// every set.
 pub(crate) fn are_full(rows: &[u64], lists: &[ColumnList], runs: &[Run]) -> bool
     requires lists { (i : ℕ) → i < length lists.now → IsRightListAt (length rows.now) (length runs.now) lists.now i }
     requires runs { (i : ℕ) → i < length lists.now → AreRunsRightAt lists.now runs.now i }

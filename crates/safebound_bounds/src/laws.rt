@@ -1,4 +1,4 @@
-//! A law on bounds where rows may be without values. The call does nothing.
+//! A law on bounds of tables whose rows may lack values. The call does nothing.
 ghost use Rattle.std.specs.Prelude.{◌≡◌, ◌<◌, ◌≤◌, ◌^◌, ℕ, List, [], length, slice_index};
 ghost use Rattle.std.specs.List.{AllByRecursion};
 ghost use Rattle.berge_tree.specs.declared.edges.Edge.{Edge};
@@ -13,8 +13,8 @@ ghost use Rattle.safebound_bounds.specs.Causes.{IsRight};
 ghost use Rattle.safebound_bounds.specs.Meaning.{edges_of, given, known, known_in};
 ghost use Rattle.safebound_bounds.specs.Values.{SatisfiesValues, ValuedTables, ValuesFit};
 
-/// Bounds are never under, even if rows are without values. Of all choices of one row for each entry of a set, no more satisfy the set's
-/// equalities than its bound says, by what is known in the set. If no equality joins entries of the set, all rows of its entries count.
+/// No bound is too low, even if rows lack values. The choices (one row for each entry of a set) that satisfy the set's equalities are at most
+/// as many as the set's bound by `known_in`. If no equality joins entries of the set, all rows of its entries count.
 pub fn rows_without_values_join_with_nothing()
     ensures never_under { (rows : List ℕ) (equalities : List Equality) (lists : List ColumnList) (runs : List Run)
         → IsRight rows equalities lists runs → (subset : ℕ) → subset < 2 ^ length rows → (tables : ValuedTables)

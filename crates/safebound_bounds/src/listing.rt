@@ -1,4 +1,4 @@
-//! Makes what is known of the entries, from values that are right.
+//! Makes the row bounds and lists of the entries, from arguments that are right.
 ghost use Rattle.std.specs.Prelude.{◌≡◌, [], ◌<◌, ◌≤◌, ℕ, length, IfOk};
 ghost use Rattle.std.specs.List.{sum};
 ghost use Rattle.limits.specs.Profile.{greatest_rows, most_entries};
@@ -17,7 +17,7 @@ use piece_math::Pieces;
 use safebound_lists::{Run, pieces_of};
 use std::alloc::Global;
 
-// The list of a column, fitted to this many rows.
+// The list of a column, fitted to a number of rows: cut if its sum is above `rows`, and filled up with ones if its sum is below.
 fn fitted(alloc: Global, rows: u64, runs: &[Run]) -> Result<Pieces, NoMemory>
     requires rows { rows ≤ greatest_rows }
     requires right { AreRight runs.now }
@@ -85,7 +85,7 @@ fn edge_of(equality: Equality) -> Edge
     }
 }
 
-/// The parts of a query that has these equalities and no other conjuncts.
+/// The parts of a query whose conjuncts are these equalities alone.
 pub(crate) fn parts_of(alloc: Global, equalities: &[Equality]) -> Result<Parts, NoMemory>
     requires { (i : ℕ) → i < length equalities.now → IsEqualityRight most_entries (equality_at equalities.now i) }
     ensures { IfOk result (λ parts. parts.equalities ≡ edges_of equalities.now) }

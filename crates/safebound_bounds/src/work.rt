@@ -1,4 +1,4 @@
-//! Counts the work of a call for all bounds, before the call begins it.
+//! Counts the work of a call for all bounds, before the call does the work.
 ghost use Rattle.std.specs.Prelude.{◌≡◌, ◌+◌, ◌^◌, ◌<◌, ◌≤◌, if◌then◌else◌, ℕ, length, map, slice_index, IfOk};
 ghost use Rattle.limits.specs.Profile.{most_conjuncts, most_entries};
 ghost use Rattle.join_graph.specs.Kept.{joins_within};
@@ -28,7 +28,7 @@ fn runs_joined(lists: &[ColumnList], edge: Edge) -> u128
     u128::from(runs_listed(lists, edge.left)) + u128::from(runs_listed(lists, edge.right))
 }
 
-// How many runs both columns of each equality have.
+// For each equality, how many runs the lists of its two columns have.
 fn runs_of_each(alloc: Global, lists: &[ColumnList], edges: &[Edge]) -> Result<Seq<u128>, NoMemory>
     ensures are { IfOk result (λ each. each ≡ map (runs_of_both lists.now) edges.now) }
     ensures few { IfOk result (λ each. (i : ℕ) → slice_index each i < 2 ^ 65) }
@@ -40,7 +40,7 @@ fn runs_of_each(alloc: Global, lists: &[ColumnList], edges: &[Edge]) -> Result<S
     Ok(each)
 }
 
-// The work, with the runs of an equality added if it is one of the set's.
+// The work, plus the runs of an equality, if both its entries are in the set.
 fn with_runs(work: u128, subset: EntrySet, edge: Edge, runs: u128) -> u128
     requires { work + runs < 2 ^ 128 }
     ensures { result ≡ (if joins_within subset edge then work + runs else work) }
@@ -91,7 +91,7 @@ fn work_of_sets(lists: &[ColumnList], parts: &Parts, each: &[u128], entries: u8)
     work
 }
 
-/// The work of all sets of so many entries.
+/// The work of all sets of `entries` entries.
 pub(crate) fn work(
     alloc: Global,
     lists: &[ColumnList],

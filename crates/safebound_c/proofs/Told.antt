@@ -1,4 +1,4 @@
--- A status of 0 tells that all was done.
+-- If the status is 0, the call did what it was asked for.
 use Rattle.std.proofs.Common.{◌≡◌, ℕ, sym, ◌∙◌, subst, arith}
 use Rattle.std.specs.Prelude.{IfOk, Result, Ok, Err, OnErr, OnOk}
 use Rattle.safebound_lists.specs.declared.refusal.Refusal.{Refusal}
@@ -35,12 +35,10 @@ pub done_so : (P : Type 0) (answer : Result ℕ Refusal) (status : ℕ) → stat
 done_so P (Ok count) status is zero h = h
 done_so P (Err why) status is zero h = absurd (refused_so why (sym is ∙ zero))
 
--- where a call writes no room, nothing changes
 pub kept_always : (P : Type 0) (answer : Result ℕ Refusal) → P → OnErr answer P
 kept_always P (Ok count) held = tt
 kept_always P (Err why) held = held
 
--- and then the number behind `detail` is the one that was asked for
 pub done_at : (P : ℕ → Type 0) (answer : Result ℕ Refusal) (status told old : ℕ) → status ≡ status_of answer → told ≡ detail_of answer old → status ≡ 0 → IfOk answer P → P told
 done_at P (Ok count) status told old is tells zero h = subst P (sym tells) h
 done_at P (Err why) status told old is tells zero h = absurd (refused_so why (sym is ∙ zero))

@@ -11,13 +11,13 @@ use Rattle.joined_tables.specs.declared.joins.Join.TheVariants.{Anti, Full, Left
 abbrev pub join_of : ℕ → Option Join
 join_of kind = if kind == 1 then Some Left else if kind == 2 then Some Right else if kind == 3 then Some Full else if kind == 4 then Some Semi else if kind == 5 then Some Anti else None
 
--- the bound that is answered for a kind of join
+-- `bound` is the result for a kind of join
 pub record IsJoined (kind inner left right bound : ℕ) : Type 0 where
   pub join : Join
   pub named : join_of kind ≡ Some join
   pub exact : bound ≡ in_64_bits (most_joined join inner left right)
 
--- why no bound is answered: no kind of join has the number
+-- why the call is refused: no kind of join has the number
 abbrev pub IsKindCause : ℕ → Refusal → Type 0
 IsKindCause kind (refusal.JoinKind given) = (given ≡ kind) × (join_of kind ≡ None)
 IsKindCause kind _ = ⊥

@@ -1,4 +1,4 @@
--- Which status a call gives for each answer, and which number it writes to `*detail`.
+-- Which status a call returns for each answer, and which number it writes to `*detail`. An answer is a number or a refusal.
 use Rattle.std.specs.Prelude.{◌≡◌, ℕ, List, Result, Ok, Err, IfErr, IfOk, OnErr}
 use Rattle.safebound_lists.specs.declared.refusal.Refusal.{Refusal}
 use Rattle.safebound_lists.specs.declared.refusal.Refusal.TheVariants as refusal
@@ -33,7 +33,7 @@ status_of_refusal (refusal.Join place) = 32
 status_of_refusal (refusal.Set given) = 33
 status_of_refusal (refusal.JoinKind given) = 34
 
--- the number in `*detail` after a refusal. A refusal without a number leaves the old one there
+-- the number in `*detail` after a refusal. A refusal without a number leaves the old number there
 abbrev pub detail_of_refusal : Refusal → ℕ → ℕ
 detail_of_refusal (refusal.Room needed) old = needed
 detail_of_refusal refusal.NoMemory old = old
@@ -60,7 +60,7 @@ detail_of_refusal (refusal.Join place) old = place
 detail_of_refusal (refusal.Set given) old = given
 detail_of_refusal (refusal.JoinKind given) old = given
 
--- An answer is a number or a refusal. The number is how many elements were written, or what the call was asked for.
+-- An answer is a number or a refusal. The number is how many elements were written, or the number that the call computes.
 abbrev pub status_of : Result ℕ Refusal → ℕ
 status_of (Ok count) = done
 status_of (Err why) = status_of_refusal why
@@ -69,8 +69,8 @@ abbrev pub detail_of : Result ℕ Refusal → ℕ → ℕ
 detail_of (Ok count) old = count
 detail_of (Err why) old = detail_of_refusal why old
 
--- The status and `*detail` (`before` and `after` the call) tell an answer, and the answer is right. If it is a number, `Done` holds of it. If
--- it is a refusal, its cause holds, and the caller's buffer has the elements that it had (`old` and `new`).
+-- The status and `*detail` (`before` and `after` the call) say which answer the call has, and the answer is right. If it is a number, `Done`
+-- holds for this number. If it is a refusal, its cause holds, and the elements of the caller's buffer are unchanged (`old` and `new`).
 pub record TellsAnswer {A : Type 0} (Done : ℕ → Type 0) (Cause : Refusal → Type 0) (old new : List A) (before status after : ℕ) : Type 0 where
   pub answer : Result ℕ Refusal
   pub told : status ≡ status_of answer

@@ -1,4 +1,4 @@
--- The library's version as C reads it.
+-- The library's version as a text of C.
 use Rattle.std.specs.Prelude.{ℕ, List, [], ◌∷◌}
 
 -- 0.3.0 and a 0 at its end

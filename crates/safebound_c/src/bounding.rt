@@ -16,10 +16,10 @@ use safebound_bounds::{ColumnList, Equality, bounds, bounds_within, set_bound};
 use safebound_lists::Run;
 use std::alloc::Global;
 
-/// Writes the bounds of all sets of entries, in rows, each at the number whose bits are the set.
+/// Writes the bounds of all sets of entries, in rows. The bound of a set is written at the index whose bits are the set's entries.
 ///
-/// No bound is too low for tables that the row bounds and lists fit, even if rows are without values. Of all choices of one row for each entry
-/// of a set, no more satisfy the set's equalities than its bound says, or the bound is 2^64 - 1.
+/// No bound is too low, if the row bounds and lists fit the tables. Rows may lack values. Take the choices (one row for each entry of a set)
+/// that satisfy the set's equalities. They are at most as many as the set's bound, or the bound is 2^64 - 1.
 #[unsafe(no_mangle)]
 pub extern "C" fn safebound_bounds(
     alloc: Global,

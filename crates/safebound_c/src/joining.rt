@@ -34,7 +34,7 @@ fn join_named(kind: u64) -> Option<Join>
     }
 }
 
-// How many rows a joined table has at most, where the inner join has at most `inner` rows, and the tables `left` and `right`.
+// How many rows a joined table has at most, if the inner join has at most `inner` rows, and the tables have at most `left` and `right` rows.
 fn rows_of_kind(kind: u64, inner: u64, left: u64, right: u64) -> Result<u64, Refusal>
     ensures done { IfOk result (IsJoined kind inner left right) }
     ensures never_under { IfOk result (λ rows. (join : Join) → join_of kind ≡ Some join
@@ -53,8 +53,8 @@ fn rows_of_kind(kind: u64, inner: u64, left: u64, right: u64) -> Result<u64, Ref
 /// Writes to `detail` how many rows an outer join, a semi-join or an anti-join of two tables has at most. A `kind` that is no number of a join
 /// is refused, and `detail` is then the kind.
 ///
-/// The bound is never too low. Let the inner join have at most `inner` rows, and the tables at most `left` and `right`. Then the joined table
-/// has at most `detail` rows. The number 2^64 - 1 says that no bound is known, as an argument and as the answer.
+/// The bound is never too low. Let the inner join have at most `inner` rows, and the tables at most `left` and `right` rows. Then the joined
+/// table has at most `detail` rows. As an argument and as the result, the number 2^64 - 1 says that no bound is known.
 #[unsafe(no_mangle)]
 pub extern "C" fn safebound_joined_rows(
     kind: u64,

@@ -14,7 +14,7 @@ use crate::status::told;
 use safebound_lists::{Run, append, compress, cut, degrees, greater_of, lesser_of};
 use std::alloc::Global;
 
-/// Writes the degree sequence of a column's keys, as runs whose degrees fall.
+/// Writes the degree sequence of a column's keys, as runs with falling degrees.
 #[unsafe(no_mangle)]
 pub extern "C" fn safebound_degrees(
     alloc: Global,
@@ -61,7 +61,8 @@ pub extern "C" fn safebound_append(
     told(append(alloc, runs, others, into), detail)
 }
 
-/// Writes the list whose running sums are the lesser of two lists' running sums. It dominates the rows that satisfy both lists' conditions.
+/// Writes the list whose running sums are the lesser of two lists' running sums. This list dominates the rows that satisfy the conditions of
+/// both lists.
 #[unsafe(no_mangle)]
 pub extern "C" fn safebound_lesser(
     alloc: Global,
@@ -77,7 +78,8 @@ pub extern "C" fn safebound_lesser(
     told(lesser_of(alloc, runs, others, into), detail)
 }
 
-/// Writes the greater of two lists, rank by rank. It dominates the rows of either list, for example those of either of two values.
+/// Writes the greater of two lists, rank by rank. The result dominates the rows of each of the two lists alone: for example the rows of
+/// either of two values.
 #[unsafe(no_mangle)]
 pub extern "C" fn safebound_greater(
     alloc: Global,
@@ -93,7 +95,7 @@ pub extern "C" fn safebound_greater(
     told(greater_of(alloc, runs, others, into), detail)
 }
 
-/// Writes a list that is cut at `rows`. It dominates any `rows` or fewer of the rows that the list dominates.
+/// Writes a list that is cut at `rows`. If the list dominates some rows, the cut list dominates any `rows` or fewer of these rows.
 #[unsafe(no_mangle)]
 pub extern "C" fn safebound_cut(
     alloc: Global,

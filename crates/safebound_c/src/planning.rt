@@ -40,7 +40,8 @@ pub extern "C" fn safebound_tree(
     told(tree(alloc, bounds, budget, into), detail)
 }
 
-/// The bytes that an engine's buffers take for an order: those of a list of rows for each entry, of the levels and of the chains.
+/// The bytes that an engine's buffers take for an order: the bytes of a list of rows for each entry, of the levels, and of the chains (hash
+/// tables of rows).
 #[unsafe(no_mangle)]
 pub extern "C" fn safebound_memory(rows: &[u64], levels: &[Level], detail: &mut u64) -> u32
     ensures exact { TellsAnswer (IsOrderMemory rows.now levels.now) (IsOrderMemoryCause rows.now levels.now)

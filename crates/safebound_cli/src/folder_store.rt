@@ -1,4 +1,4 @@
-//! A store over real files.
+//! A store that reads real files.
 ghost use Rattle.std.specs.Prelude.{◌≡◌, ◌≤◌, IfOk, None, length};
 
 use base_io::{Store, StoreError};
@@ -14,8 +14,8 @@ struct Opened<F> {
     place: u64,
 }
 
-/// A store of files whose names are relative to the working folder. Contracts know nothing of their bytes. The file that was read last
-/// stays open. The store counts every failure of the system, and an absent file is one.
+/// A store of files whose names are relative to the working folder. Contracts say nothing about the bytes of the files. The file that was
+/// read last stays open. The store counts every failed read, and a read of an absent file is a failed read.
 #[derive(Drop)]
 pub struct FolderStore<'a, R: Files> {
     rt: &'a R,

@@ -1,10 +1,10 @@
-//! A sink over a real stream.
+//! A sink that writes to a real stream.
 ghost use Rattle.std.specs.Prelude.{◌≡◌, None};
 
 use base_io::{Failed, Sink};
 use std::io::Write;
 
-/// A stream whose failed writes are counted. Contracts know nothing of the bytes that it took.
+/// A stream whose failed writes are counted. Contracts say nothing about the bytes that the stream took.
 #[derive(Drop)]
 pub struct StreamSink<W> {
     stream: W,

@@ -1,4 +1,5 @@
--- What holds of streams that tell a name before their bytes holds of the bytes alone.
+-- In these proofs a stream's text begins with a number, the name of its room, and then has the bytes. What is proved about these streams is also true
+-- of the streams of the bytes alone.
 use Rattle.std.proofs.Common.{◌≡◌, ℕ, List, [], ◌∷◌, ◌++◌, Option, None, Some, Result, Ok, Err, refl, ap, sym, ◌∙◌, subst}
 use Rattle.std.specs.Prelude.{IsOkAnd, codes}
 use Rattle.base_io.specs.Devices.{Growth, Reading}
@@ -11,13 +12,11 @@ use Rattle.prepared_runs.specs.RunOutcome.{RunOutcome}
 use Rattle.safebound_top.specs.OutcomeTexts.{notes_text, out_text}
 use Rattle.prepared_runs.specs.Verdict.{verdict}
 
--- what stands behind the name
 abbrev pub behind : Option (List ℕ) → Option (List ℕ)
 behind None = None
 behind (Some []) = Some []
 behind (Some (name ∷ text)) = Some text
 
--- a stream that begins with this name and these bytes, and one that begins with the bytes alone
 abbrev pub with_name : ℕ → List ℕ → Option (List ℕ) → ℕ → ℕ → Growth
 with_name name before after faults faults_after = record {
   taken_before = Some (name ∷ before);
@@ -34,7 +33,7 @@ without_name before after faults faults_after = record {
   faults_after = faults_after;
 }
 
--- ---- each way to grow
+-- ---- each way in which a stream may grow
 
 prefix_behind : (name : ℕ) (before : List ℕ) (after : Option (List ℕ)) (text : List ℕ)
     → GrewByPrefix (Some (name ∷ before)) after text → GrewByPrefix (Some before) (behind after) text
@@ -84,18 +83,16 @@ was_cut_and_told_behind : (name : ℕ) (before : List ℕ) (after : Option (List
 was_cut_and_told_behind name before after f f' None line h = h
 was_cut_and_told_behind name before after f f' (Some text) line h = cut_behind name before after text line h
 
--- a line that was told after a text, if there is a text
 told_after_behind : (name : ℕ) (before : List ℕ) (after : Option (List ℕ)) (f f' : ℕ) (text : Option (List ℕ)) (line : List ℕ)
     → GrewOrWasCut (grown (Some (name ∷ before)) text) after f f' line → GrewOrWasCut (grown (Some before) text) (behind after) f f' line
 told_after_behind name before after f f' None line h = tells_behind name before after f f' line h
 told_after_behind name before after f f' (Some text) line h = tells_behind name (before ++ text) after f f' line h
 
--- if P implies Q, a result with P is a result with Q
 and_more : {A E : Type 0} (P Q : A → Type 0) (r : Result A E) → ((x : A) → P x → Q x) → IsOkAnd r P → IsOkAnd r Q
 and_more P Q (Ok x) more h = more x h
 and_more P Q (Err e) more h = h
 
--- ---- what an accepted call leaves, by how the call ended
+-- ---- the streams after an accepted call, for each way in which the call may end
 
 abbrev pub LeftByDone : Growth → Growth → RunOutcome → Type 0
 LeftByDone out notes outcome = GrewWhole notes (notes_text outcome) × GrewWhole out (out_text outcome)
@@ -109,7 +106,6 @@ LeftByCutOut out notes line outcome = WasCut out (out_text outcome)
 
 -- ---- the headline
 
--- the call as the streams tell it, and the same call with streams of the bytes alone
 module _ (words : List (List ℕ)) (status : Status) (store : Reading)
     (out_name : ℕ) (out_before : List ℕ) (out_after : Option (List ℕ)) (o o' : ℕ)
     (notes_name : ℕ) (notes_before : List ℕ) (notes_after : Option (List ℕ)) (n n' : ℕ) where

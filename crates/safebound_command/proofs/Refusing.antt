@@ -1,4 +1,4 @@
--- More words than a command line has are refused as Usage, and that is the whole course of such a call.
+-- A call with more words than any command line has is refused as Usage, and does nothing else.
 use Rattle.std.proofs.Common.{◌≡◌, ℕ, ◌<◌, List, [], ◌∷◌, length, None, Some, refl, sym, subst}
 use Rattle.base_io.specs.Devices.{Growth}
 use Rattle.base_io.specs.Files.{Files}
@@ -18,7 +18,6 @@ use Rattle.safebound_command.specs.Command.{read_from, stream}
 use Rattle.safebound_command.proofs.Behind.{tells_behind, with_name, without_name}
 use Rattle.safebound_command.proofs.SameRooms.{prefix_name}
 
--- a stream that told this name and this text, and was then told a line
 module _ (name : ℕ) (before : List ℕ) (name' : ℕ) (text : List ℕ) (f f' : ℕ) (line : List ℕ) (told : StatusTold (with_name name before (Some (name' ∷ text)) f f') line) where
   pub told_name : name' ≡ name
   told_name = prefix_name name before (Some (name' ∷ text)) line told.tells.prefix

@@ -1,4 +1,4 @@
--- However a call ends, its streams still tell the name with which they began.
+-- However a call ends, the texts of its streams still begin with the names of their rooms.
 use Rattle.std.proofs.Common.{◌≡◌, ℕ, List, [], ◌∷◌, ◌++◌, Option, None, Some, Result, Ok, Err, refl, ap, subst, ◌∙◌}
 use Rattle.std.specs.Prelude.{IsOkAnd, codes}
 use Rattle.base_io.specs.Devices.{Reading}
@@ -17,7 +17,6 @@ use Rattle.prepared_runs.specs.Verdict.{verdict}
 use Rattle.demo_files.specs.Files.{demo_files}
 use Rattle.safebound_command.proofs.Behind.{LeftByCutNotes, LeftByCutOut, LeftByDone, headline_behind, named_call, with_name, without_name}
 
--- the name that a stream tells
 abbrev pub name_in : Option (List ℕ) → ℕ
 name_in None = 0
 name_in (Some []) = 0
@@ -50,7 +49,6 @@ told_after_name : (name : ℕ) (before : List ℕ) (after : Option (List ℕ)) (
 told_after_name name before after f f' None line h = prefix_name name before after line h.prefix
 told_after_name name before after f f' (Some text) line h = prefix_name name (before ++ text) after line h.prefix
 
--- Q holds if it follows from P, and P holds of the result's value
 from_ok : {A E : Type 0} (P : A → Type 0) (Q : Type 0) (r : Result A E) → ((x : A) → P x → Q) → IsOkAnd r P → Q
 from_ok P Q (Ok x) so h = so x h
 from_ok P Q (Err e) so h = absurd h
@@ -61,7 +59,6 @@ module _ (words : List (List ℕ)) (store : Reading) (files : Files) (tells : st
   abbrev call_with : Status → Call
   call_with s = named_call words s store out_name out_before out_after o o' notes_name notes_before notes_after n n'
 
-  -- both streams still tell their names
   abbrev Same : Type 0
   Same = (name_in out_after ≡ out_name) × (name_in notes_after ≡ notes_name)
 
@@ -111,14 +108,12 @@ module _ (words : List (List ℕ)) (store : Reading) (files : Files) (tells : st
   same_names status.NoMemory h =
       (out_name_kept (h.want_of_memory_leaves_its_line refl).1, told_name (codes "error memory\n") (h.want_of_memory_leaves_its_line refl).0)
 
--- whichever store was read, it tells its files
 pub files_told : (shop : Option ℕ) (store : Reading) (files : Files) → store.files ≡ Some files → (told : Files) × ((store_read shop store).files ≡ Some told)
 files_told None store files is = (files, is)
 files_told (Some number) store files is = (demo_files number, refl)
 
--- ---- over rooms: the names are the same, and the streams that began empty have the headline
+-- ---- with rooms: the names are the same, and the headline holds for the streams that were empty at first
 
--- a call whose streams told names and texts before it, and others after it
 module _ (words : List (List ℕ)) (status : Status) (shop : Option ℕ) (store : Reading)
     (out_name : ℕ) (out_before : List ℕ) (out_name' : ℕ) (out_text : List ℕ) (o o' : ℕ)
     (notes_name : ℕ) (notes_before : List ℕ) (notes_name' : ℕ) (notes_text : List ℕ) (n n' : ℕ) where

@@ -1,4 +1,4 @@
--- What one call of `safebound_command` answers: it runs the program over files in memory.
+-- How a call of `safebound_command` ends: the program is run over files in memory, or the words are refused.
 use Rattle.std.specs.Prelude.{ℕ, ◌≡◌, ◌⊎◌, ◌<◌, ◌≤◌, List, [], length, take, Some}
 use Rattle.std.specs.List.{Any}
 use Rattle.std.specs.Str.{IsUtf8}
@@ -9,7 +9,7 @@ use Rattle.outcomes.specs.declared.status.Status.{Status}
 use Rattle.safebound_top.specs.Headline.{Headline}
 use Rattle.prepared_runs.specs.Shops.{shop_of, store_read}
 
--- a store that tells its files; no read of it fails
+-- a store whose files are known, and in which no read fails
 abbrev pub read_from : Files → Files → ℕ → ℕ → Reading
 read_from files after misses_before misses_after = record {
   files = Some files;
@@ -20,7 +20,7 @@ read_from files after misses_before misses_after = record {
   misses_after = misses_after;
 }
 
--- a stream that began empty and has taken this text; `faults` of its writes failed
+-- a stream that was empty at first and has taken `text`; `faults` of its writes failed
 abbrev pub stream : List ℕ → ℕ → Growth
 stream text faults = record {
   taken_before = Some [];
@@ -45,8 +45,8 @@ pub record TextIsWithin (w : Written) (faults : ℕ) : Type 0 where
   pub within : w.count ≤ length w.room
   pub full : 0 < faults → w.count ≡ length w.room
 
--- The program was run. The code is its exit status, and both texts stand in their rooms. The headline holds of the run, over a store that
--- tells just these files and never fails. `misses` is how often the run asked it for a file that it doesn't have.
+-- The program was run. The code is its exit status, and both texts are in their rooms. The headline holds for the run, with a store that has
+-- exactly these files and whose reads never fail. `misses` is how often the run asked the store for a file that it doesn't have.
 pub record Ran (words : List (List ℕ)) (files : Files) (out notes : Written) (misses code : ℕ) : Type 0 where
   pub status : Status
   pub told : code ≡ code_of status
@@ -63,13 +63,13 @@ pub record Ran (words : List (List ℕ)) (files : Files) (out notes : Written) (
     notes = stream (text_of notes) notes_faults;
   })
 
--- The program was not run, since a word isn't UTF-8. The code is 15, and both texts are empty.
+-- The program was not run, since a word isn't UTF-8. The code is 15, and nothing was written.
 pub record HasBadWord (words : List (List ℕ)) (out notes : Written) (code : ℕ) : Type 0 where
   pub told : code ≡ 15
   pub word : Any (λ word. ¬ (IsUtf8 word)) words
   pub no_out : out.count ≡ 0
   pub no_notes : notes.count ≡ 0
 
--- the program was run, or a word isn't UTF-8. Copying the words takes no memory. If the run lacks memory, its exit status says so
+-- the program was run, or a word isn't UTF-8. Copying the words takes no memory. If the run ran out of memory, its exit status says so
 abbrev pub CallEnds : List (List ℕ) → Files → Written → Written → ℕ → Type 0
 CallEnds words files out notes code = ((misses : ℕ) × Ran words files out notes misses code) ⊎ HasBadWord words out notes code

@@ -9,7 +9,7 @@ use outcomes::NO_WORDS;
 use slice_devices::SliceFile;
 use std::alloc::Global;
 
-/// Runs the program over these files, with the two rooms as its two streams. Answers its exit status.
+/// Runs the program over these files. The buffers `out` and `notes` are its two streams. The result is the exit status.
 #[unsafe(no_mangle)]
 pub extern "C" fn safebound_command(
     alloc: Global,

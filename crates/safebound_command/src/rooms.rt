@@ -10,7 +10,7 @@ use safebound_words::MOST_WORDS;
 use slice_devices::{SliceFile, SliceSink, SliceStore};
 use std::alloc::Global;
 
-/// How a run ended, how many bytes of each room it wrote, and how many names it asked for that no file has.
+/// How a run ended: its status, how many bytes it wrote into each room, and how often it asked for a file that isn't among the files.
 #[derive(Clone, Copy, Debug)]
 pub(crate) struct Ended {
     pub status: Status,
@@ -43,7 +43,7 @@ pub(crate) fn run_over(
     }
 }
 
-/// Refuses a command line that has too many words. It reads no file, and writes only to the room for notes.
+/// Refuses a command line that has too many words. No file is read, and only the room for notes is written.
 pub(crate) fn refuse_over(
     words: &[&[u8]],
     files: &[SliceFile<'_>],

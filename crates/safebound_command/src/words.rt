@@ -7,16 +7,16 @@ use arrayvec::ArrayVec;
 use safebound_words::MOST_WORDS;
 use std::str;
 
-/// Why the words aren't handed on to the program.
+/// Why the program isn't run with the words.
 #[derive(Clone, Copy, Debug, PartialEq, Eq)]
 pub(crate) enum NoWords {
-    /// One of them isn't UTF-8.
+    /// A word isn't UTF-8.
     NotUtf8,
-    /// There are more than `MOST_WORDS`: no command line of the program has so many.
+    /// There are more than `MOST_WORDS` words. No command of the program has as many.
     TooMany,
 }
 
-// Whether each of these words is UTF-8.
+// Whether each word is UTF-8.
 fn are_texts(words: &[&[u8]]) -> bool
     ensures { result ≡ false → Any (λ w. ¬ (IsUtf8 w)) (map (λ w. w.now) words.now) }
 {
@@ -28,7 +28,7 @@ fn are_texts(words: &[&[u8]]) -> bool
     true
 }
 
-/// The words, each as a text.
+/// The words as texts.
 pub(crate) fn texts<'a>(words: &[&'a [u8]]) -> Result<ArrayVec<&'a str, MOST_WORDS>, NoWords>
     ensures same { IfOk result (λ texts. map (λ t. t.now) texts.items ≡ map (λ w. w.now) words.now) }
     ensures not_utf8 { result ≡ Err no_words.NotUtf8 → Any (λ w. ¬ (IsUtf8 w)) (map (λ w. w.now) words.now) }

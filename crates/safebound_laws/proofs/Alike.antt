@@ -1,33 +1,26 @@
--- A plan from the file of a query's tables, and one over these tables.
+-- A plan from the statistics file of a query's tables prints the same as a plan from these tables.
 use Rattle.std.proofs.Common.{◌≡◌, ℕ, ◌<◌, ◌≤◌, List, Bool, true, false, Option, None, Some, Result, Ok, Err, refl, ap, sym, ◌∙◌}
-use Rattle.std.specs.Prelude.{length, nat_le, if◌then◌else◌}
+use Rattle.std.specs.Prelude.{nat_le, if◌then◌else◌}
 use Rattle.limits.specs.Profile.{most_accuracy, most_file}
 use Rattle.base_io.specs.Files.{Files}
 use Rattle.csv_tables.specs.Rows.{Row}
 use Rattle.csv_tables.specs.declared.types.Database.{Database}
-use Rattle.stats_file_bounds.specs.FileStatistics.{stats_file_statistics}
-use Rattle.stats_file_exactness.proofs.Exactness.{bounds_same, none_missing, scans_same}
-use Rattle.stats_file_bounds.specs.Plans.{stats_file_plan, planned_by_file, unless_missing, where_told}
+use Rattle.stats_file_bounds.specs.Bounds.{scan_bounds_of_file}
+use Rattle.stats_file_exactness.proofs.Exactness.{none_missing, scans_same, sets_same}
 use Rattle.stats_file_of_query.proofs.Rules.{file_keeps}
 use Rattle.stats_file_of_query.specs.Databases.{IsOverSchema}
 use Rattle.stats_file_of_query.specs.Files.{file_of_query}
-use Rattle.gathered_stats.specs.Statistics.{statistics_of}
-use Rattle.join_graph.specs.Conjuncts.{equalities_of}
 use Rattle.order_search.specs.declared.refusal.PlanError.{PlanError}
-use Rattle.outcomes.specs.Errors.{plan_refusal, stats_refusal}
+use Rattle.outcomes.specs.Errors.{stats_refusal}
 use Rattle.outcomes.specs.Reads.{◌>>=◌, seen, told}
 use Rattle.outcomes.specs.declared.names.FileId.TheVariants as file
 use Rattle.outcomes.specs.declared.refusal.Refusal.{Refusal}
 use Rattle.outcomes.specs.declared.refusal.Refusal.TheVariants as refusal
-use Rattle.planning.specs.Plans.{planned, planned_from}
-use Rattle.plans.specs.declared.left_deep.Plan.{Plan}
-use Rattle.query_bounds.specs.Bounds.{entry_bounds, scan_bounds}
+use Rattle.planning.specs.Bounds.{set_bounds_of}
 use Rattle.query_types.specs.declared.types.Query.{Query}
-use Rattle.reserve_plan.specs.Memory.{plan_bytes}
 use Rattle.schema_types.proofs.Valid.{declares_valid}
 use Rattle.schema_types.specs.Validity.{IsValid}
 use Rattle.schema_types.specs.declared.types.Schema.{Schema}
-use Rattle.set_bounds.specs.AllSets.{in_every_set}
 use Rattle.sql_meaning.specs.Tables.{tables_of}
 use Rattle.stats_answers.proofs.ByteNames.{declared_bytes}
 use Rattle.stats_answers.proofs.StatsAnswers.{written}
@@ -38,29 +31,22 @@ use Rattle.table_files.specs.EntryTables.{entry_rows, tables_in}
 use Rattle.table_files.proofs.EntryLaws.{two_steps}
 use Rattle.table_files.specs.Stage.{tables_stage}
 use Rattle.table_files.specs.TableFile.{read}
-use Rattle.safebound_words.specs.Commands.{over_query, plan_by}
+use Rattle.safebound_words.specs.Commands.{over_query}
 use Rattle.safebound_words.specs.declared.command.Work.{Work}
 use Rattle.safebound_words.specs.declared.command.Aim.TheVariants as aims
 use Rattle.safebound_words.specs.declared.command.Work.TheVariants as works
-use Rattle.prepared_runs.specs.StatsFiles.{stats_file_plan_stage, stats_file_refusal, stats_file_plan_within, stats_of_text, stats_stage, stats_file_of_tables}
+use Rattle.prepared_runs.specs.StatsFiles.{made_from_file, plan_from_file_asked, stats_file_plan_stage, stats_of_text, stats_stage, stats_file_of_tables, unless_missing}
 use Rattle.prepared_runs.specs.Limits.{within_limit}
-use Rattle.prepared_runs.specs.RunOutcome.{RunOutcome, Planned, PlannedFromStats}
+use Rattle.prepared_runs.specs.RunOutcome.{RunOutcome, Planned}
 use Rattle.safebound_top.specs.OutcomeTexts.{out_text}
-use Rattle.prepared_runs.specs.Shapes.{planned_by, shape_bytes}
+use Rattle.prepared_runs.specs.Shapes.{answer_of, planned_by, planned_within, shape_bytes}
 use Rattle.prepared_runs.specs.Sources.{sets_by, scans_by}
 use Rattle.prepared_runs.specs.Verdict.{aim_run, command_run, plan_asked, plan_stage, query_stage, run_asked, schema_stage, work_run}
-use Rattle.prepared_runs.specs.declared.shapes.AnyPlan.TheVariants as shaped
-use Rattle.safebound_words.specs.declared.command.ListSource.TheVariants as sources
-use Rattle.safebound_words.specs.declared.command.OutText.TheVariants as out
-use Rattle.safebound_words.specs.declared.command.PlanWork.{PlanWork}
-use Rattle.safebound_words.specs.declared.command.Shape.TheVariants as shapes
+use Rattle.prepared_runs.specs.declared.shapes.AnyPlan.{AnyPlan}
+use Rattle.safebound_words.specs.declared.command.PlanTerms.{PlanTerms}
 use Rattle.safebound_top.proofs.Promises.{declares, query_of_schema}
-use Rattle.safebound_laws.specs.Printed.{printed}
+use Rattle.safebound_laws.specs.Printed.{plan_of_columns, printed}
 use Rattle.safebound_laws.proofs.Databases.{database_found}
-
--- the work that `plan` asks for
-abbrev task : ℕ → ℕ → Option ℕ → PlanWork
-task budget accuracy memory = record { budget = budget; accuracy = accuracy; source = sources.Columns; shape = shapes.Order; memory = memory; out = out.Nothing }
 
 -- ---- a limit of memory
 
@@ -69,64 +55,51 @@ test_alike : (test : Bool) (r : Refusal) (x y : RunOutcome) → printed x ≡ pr
 test_alike true r x y same = ap (λ (p : Option (List ℕ) × Option (List ℕ)). Ok p) same
 test_alike false r x y same = refl
 
--- outcomes that print the same print the same within the same limit too
 limits_alike : (memory : Option ℕ) (bytes : ℕ) (x y : RunOutcome) → printed x ≡ printed y
     → seen printed (within_limit memory bytes x) ≡ seen printed (within_limit memory bytes y)
 limits_alike None bytes x y same = ap (λ (p : Option (List ℕ) × Option (List ℕ)). Ok p) same
 limits_alike (Some limit) bytes x y same = test_alike (nat_le bytes limit) (refusal.MemoryLimit bytes) x y same
 
--- ---- from the query on
+-- ---- the stages after the query
 
-module _ (query : Query) (file : StatsFile) (rows : List (List Row)) (budget accuracy : ℕ) (memory : Option ℕ) where
-  -- the outcome of a plan from the file, and of a plan from the tables
-  by_file : Result Plan PlanError → Result RunOutcome Refusal
-  by_file answer = told stats_file_refusal (where_told answer) >>= λ plan. stats_file_plan_within query file plan memory
+module _ (query : Query) (file : StatsFile) (rows : List (List Row)) (terms : PlanTerms) (accuracy : ℕ) where
+  by_file : Result AnyPlan PlanError → Result RunOutcome Refusal
+  by_file answer = planned_within terms.memory (made_from_file terms query file) answer
 
-  by_tables : Result Plan PlanError → Result RunOutcome Refusal
-  by_tables answer = told plan_refusal (seen (λ plan. shaped.OrderPlan plan) answer)
-      >>= λ plan. within_limit memory (shape_bytes plan) (Planned (run_asked (task budget accuracy memory) query rows plan))
+  by_tables : Result AnyPlan PlanError → Result RunOutcome Refusal
+  by_tables answer = planned_within terms.memory (λ plan. Planned (run_asked (plan_of_columns terms accuracy) query rows plan)) answer
 
-  print_alike : (answer : Result Plan PlanError) → seen printed (by_file answer) ≡ seen printed (by_tables answer)
+  print_alike : (answer : Result AnyPlan PlanError) → seen printed (by_file answer) ≡ seen printed (by_tables answer)
   unfolding by_file by_tables
   print_alike (Ok plan) =
-      limits_alike memory (plan_bytes plan.order plan.scans plan.levels)
-      (PlannedFromStats (record { query = query; file = file; plan = plan; memory = memory }))
-      (Planned (run_asked (task budget accuracy memory) query rows (shaped.OrderPlan plan))) refl
+      limits_alike terms.memory (shape_bytes plan) (made_from_file terms query file plan) (Planned (run_asked (plan_of_columns terms accuracy) query rows plan)) refl
   print_alike (Err e) = refl
 
 module _ (schema : Schema) (query : Query) (db : Database) (over : IsOverSchema schema query db) (accuracy : ℕ) (least : 0 < accuracy)
-    (most : accuracy ≤ most_accuracy) (budget : ℕ) (memory : Option ℕ) where
+    (most : accuracy ≤ most_accuracy) (terms : PlanTerms) where
   abbrev file_of : StatsFile
   file_of = file_of_query schema query (tables_of db) accuracy
 
-  same_plan : planned_by_file query file_of budget ≡ planned query (tables_of db) accuracy budget
-  unfolding planned_by_file planned
+  -- the plan from the file is the one over the tables
+  same_plan : plan_from_file_asked terms query file_of ≡ plan_asked (plan_of_columns terms accuracy) schema query (tables_of db)
+  unfolding planned_by sets_by scans_by
   same_plan =
-      ap (λ bounds. planned_from (in_every_set bounds) (scan_bounds query (stats_file_statistics query file_of)) (equalities_of query) (length query.from) budget)
-      (bounds_same schema query db over accuracy least most)
-      ∙ ap (λ scans. planned_from (in_every_set (entry_bounds query (statistics_of (tables_of db) accuracy))) scans (equalities_of query) (length query.from) budget)
-      (scans_same schema query db over accuracy least most)
+      ap (λ sets. answer_of terms.shape sets (scan_bounds_of_file query file_of) terms.budget) (sets_same schema query db over accuracy least most)
+      ∙ ap (λ scans. answer_of terms.shape (set_bounds_of query (tables_of db) accuracy) scans terms.budget) (scans_same schema query db over accuracy least most)
 
-  filed_same : stats_file_plan query file_of budget ≡ where_told (planned query (tables_of db) accuracy budget)
-  unfolding stats_file_plan
-  filed_same =
-      ap (λ missing. unless_missing missing (planned_by_file query file_of budget)) (none_missing schema query db over accuracy least most)
-      ∙ ap where_told same_plan
-
-  from_file : stats_file_plan_stage query file_of budget memory ≡ by_file query file_of (entry_rows db) budget accuracy memory (planned query (tables_of db) accuracy budget)
+  from_file : stats_file_plan_stage terms query file_of ≡ by_file query file_of (entry_rows db) terms accuracy (plan_asked (plan_of_columns terms accuracy) schema query (tables_of db))
   unfolding stats_file_plan_stage by_file
-  from_file = rw filed_same refl
+  from_file =
+      ap (λ missing. unless_missing missing >>= λ there. planned_within terms.memory (made_from_file terms query file_of) (plan_from_file_asked terms query file_of))
+      (none_missing schema query db over accuracy least most)
+      ∙ ap (planned_within terms.memory (made_from_file terms query file_of)) same_plan
 
-  asked_same : plan_asked (task budget accuracy memory) schema query (tables_of db) ≡ seen (λ plan. shaped.OrderPlan plan) (planned query (tables_of db) accuracy budget)
-  unfolding planned planned_by sets_by scans_by
-  asked_same = refl
-
-  from_tables : tables_in (entry_rows db) ≡ tables_of db
-      → plan_stage (task budget accuracy memory) schema query (entry_rows db) ≡ by_tables query file_of (entry_rows db) budget accuracy memory (planned query (tables_of db) accuracy budget)
+  from_tables : tables_in (entry_rows db) ≡ tables_of db → plan_stage (plan_of_columns terms accuracy) schema query (entry_rows db)
+      ≡ by_tables query file_of (entry_rows db) terms accuracy (plan_asked (plan_of_columns terms accuracy) schema query (tables_of db))
   unfolding plan_stage by_tables
   from_tables tables =
-      ap (λ answer. told plan_refusal answer >>= λ plan. within_limit memory (shape_bytes plan) (Planned (run_asked (task budget accuracy memory) query (entry_rows db) plan)))
-      (ap (plan_asked (task budget accuracy memory) schema query) tables ∙ asked_same)
+      ap (planned_within terms.memory (λ plan. Planned (run_asked (plan_of_columns terms accuracy) query (entry_rows db) plan)))
+      (ap (plan_asked (plan_of_columns terms accuracy) schema query) tables)
 
   read_back : (name : List ℕ) (files : Files) → HasByteColumns schema → read file.Stats most_file name files ≡ Ok (file_text schema file_of)
       → stats_stage name schema files ≡ Ok file_of
@@ -137,15 +110,15 @@ module _ (schema : Schema) (query : Query) (db : Database) (over : IsOverSchema 
 
   pub works_alike : (name : List ℕ) (files : Files) → HasByteColumns schema → tables_in (entry_rows db) ≡ tables_of db
       → tables_stage schema query.from files ≡ Ok (entry_rows db) → read file.Stats most_file name files ≡ Ok (file_text schema file_of)
-      → seen printed (work_run (works.PlanFromStats name budget memory) schema query files) ≡ seen printed (work_run (works.Plan (task budget accuracy memory)) schema query files)
+      → seen printed (work_run (works.PlanFromStats name terms) schema query files) ≡ seen printed (work_run (works.Plan (plan_of_columns terms accuracy)) schema query files)
   works_alike name files columns tables rows there =
-      ap (λ stats. seen printed (stats >>= λ stats. stats_file_plan_stage query stats budget memory)) (read_back name files columns there)
+      ap (λ stats. seen printed (stats >>= λ stats. stats_file_plan_stage terms query stats)) (read_back name files columns there)
       ∙ ap (seen printed) from_file
-      ∙ print_alike query file_of (entry_rows db) budget accuracy memory (planned query (tables_of db) accuracy budget)
+      ∙ print_alike query file_of (entry_rows db) terms accuracy (plan_asked (plan_of_columns terms accuracy) schema query (tables_of db))
       ∙ sym (ap (seen printed) (from_tables tables))
-      ∙ sym (ap (λ rows. seen printed (rows >>= plan_stage (task budget accuracy memory) schema query)) rows)
+      ∙ sym (ap (λ rows. seen printed (rows >>= plan_stage (plan_of_columns terms accuracy) schema query)) rows)
 
--- ---- from the words' request on
+-- ---- the stages of the whole command
 
 module _ (schema_file query_file : List ℕ) (files : Files) (schema : Schema) (query : Query) (schema_is : schema_stage schema_file files ≡ Ok schema)
     (query_is : query_stage query_file schema files ≡ Ok query) where
@@ -155,9 +128,8 @@ module _ (schema_file query_file : List ℕ) (files : Files) (schema : Schema) (
       ap (λ (s : Result Schema Refusal). s >>= λ s. aim_run (aims.Query query_file work) s files) schema_is
       ∙ ap (λ (q : Result Query Refusal). q >>= λ q. work_run work schema q files) query_is
 
--- ---- what `stats` writes
+-- ---- the file that `stats` writes
 
--- the schema, the query and the rows that a file of statistics is made of
 pub record FileMade (schema_file query_file : List ℕ) (accuracy : ℕ) (files : Files) (written : RunOutcome) : Type 0 where
   pub schema : Schema
   pub schema_is : schema_stage schema_file files ≡ Ok schema
@@ -184,15 +156,15 @@ file_made schema_file query_file accuracy files written ran =
       is = cc (filed.2);
     }
 
--- ---- both commands
+-- ---- both commands print the same
 
-pub files_alike : (schema_file query_file stats_file : List ℕ) (accuracy budget : ℕ) (memory : Option ℕ) (files : Files) (written : RunOutcome) (text : List ℕ)
+pub files_alike : (schema_file query_file stats_file : List ℕ) (accuracy : ℕ) (terms : PlanTerms) (files : Files) (written : RunOutcome) (text : List ℕ)
     → 0 < accuracy → accuracy ≤ most_accuracy
     → command_run (over_query None schema_file query_file (works.WriteStats accuracy)) files ≡ Ok written → out_text written ≡ Some text
     → read file.Stats most_file stats_file files ≡ Ok text
-    → seen printed (command_run (over_query None schema_file query_file (works.PlanFromStats stats_file budget memory)) files)
-    ≡ seen printed (command_run (over_query None schema_file query_file (plan_by out.Nothing budget accuracy false false false memory)) files)
-files_alike schema_file query_file stats_file accuracy budget memory files outcome text least most ran wrote there =
+    → seen printed (command_run (over_query None schema_file query_file (works.PlanFromStats stats_file terms)) files)
+    ≡ seen printed (command_run (over_query None schema_file query_file (works.Plan (plan_of_columns terms accuracy))) files)
+files_alike schema_file query_file stats_file accuracy terms files outcome text least most ran wrote there =
     let made = file_made schema_file query_file accuracy files outcome ran in
     let schema = made.schema in
     let query = made.query in
@@ -205,7 +177,7 @@ files_alike schema_file query_file stats_file accuracy budget memory files outco
     let those : file_text schema (file_of_query schema query (tables_in made.rows) accuracy) ≡ text = cc in
     let is : text ≡ file_text schema (file_of_query schema query (tables_of found.database) accuracy)
     = sym those ∙ ap (λ tables. file_text schema (file_of_query schema query tables accuracy)) tables in
-    ap (seen printed) (asked_work schema_file query_file files schema query made.schema_is made.query_is (works.PlanFromStats stats_file budget memory))
-    ∙ works_alike schema query found.database found.over accuracy least most budget memory stats_file files columns found.tables_are
+    ap (seen printed) (asked_work schema_file query_file files schema query made.schema_is made.query_is (works.PlanFromStats stats_file terms))
+    ∙ works_alike schema query found.database found.over accuracy least most terms stats_file files columns found.tables_are
     (made.rows_are ∙ ap (λ rows. Ok rows) found.rows_are) (there ∙ ap (λ text. Ok text) is)
-    ∙ sym (ap (seen printed) (asked_work schema_file query_file files schema query made.schema_is made.query_is (works.Plan (task budget accuracy memory))))
+    ∙ sym (ap (seen printed) (asked_work schema_file query_file files schema query made.schema_is made.query_is (works.Plan (plan_of_columns terms accuracy))))

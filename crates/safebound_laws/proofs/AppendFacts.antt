@@ -1,4 +1,4 @@
--- The verdict of an append, stage by stage.
+-- These lemmas follow the verdict of an append stage by stage.
 use Rattle.std.proofs.Common.{◌≡◌, ℕ, ◌+◌, ◌≤◌, true, List, length, Some, Result, Ok, inl, inr, refl, ap, sym, ◌∙◌, subst, arith}
 use Rattle.std.specs.Prelude.{IfOk, nat_le}
 use Rattle.std.proofs.lemmas.Bool.{cases_Bool}
@@ -40,7 +40,6 @@ module _ (schema : Schema) (stats : StatsFile) (table before : ℕ) (rows : List
   abbrev made : RunOutcome
   made = Appended (record { schema = schema; table = table; rows = rows; file = file_after stats table rows })
 
-  -- there is an outcome only if the rows are few enough, and the outcome is `made`
   grown_so : (outcome : RunOutcome) → grown_stage schema stats table before rows ≡ Ok outcome → (before + length rows ≤ most_rows) × (outcome ≡ made)
   unfolding grown_stage
   grown_so outcome is = elim (cases_Bool (nat_le (before + length rows) most_rows)) [

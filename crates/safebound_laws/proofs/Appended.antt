@@ -1,4 +1,4 @@
--- The file that an append writes keeps the rules, and has sections of the same tables.
+-- The statistics file that an append writes keeps the rules, and has sections of the same tables as the file before.
 use Rattle.std.proofs.Common.{◌≡◌, ℕ, ◌<◌, ◌==◌, false, cond, List, [], ◌∷◌, length, map, find, Option, None, Some, Ok, inl, inr, refl, ap, sym, ◌∙◌, subst, arith}
 use Rattle.std.specs.Str.{IsUtf8}
 use Rattle.std.specs.List.{IsDistinct}
@@ -45,7 +45,6 @@ no_texts : IsPool []
 unfolding IsDistinct
 no_texts = record { utf8 = All-nil IsUtf8; once = tt }
 
--- if the answer is a section, this section was found
 found_section : (found : Option TableStats) (section : TableStats) → or_missing found ≡ Ok section → found ≡ Some section
 found_section None section is = absurd (cc)
 found_section (Some s) section is = (let same : s ≡ section = cc in ap Some same)
@@ -104,7 +103,7 @@ module _ (files : Files) (schema_file stats_file name rows_file : List ℕ) (out
     room = λ i d low same. omega (arith, grows.few, as_many, section_alone name grows.schema grows.before keeps grows.section (sym its_section) i d low same);
   }
 
-  -- ---- the file
+  -- ---- the statistics file after the append
 
   pub after_keeps : KeepsRules grows.schema grows.after
   after_keeps =
@@ -117,7 +116,7 @@ module _ (files : Files) (schema_file stats_file name rows_file : List ℕ) (out
   pub after_read : stats_answer grows.schema (file_text grows.schema grows.after) ≡ Ok grows.after
   after_read = written grows.schema grows.after valid columns after_keeps
 
--- ---- the tables of its sections
+-- ---- the tables of the file's sections
 
 module _ (file : StatsFile) (table : ℕ) (new : List Row) where
   abbrev one : TableStats → TableStats
@@ -137,7 +136,6 @@ module _ (file : StatsFile) (table : ℕ) (new : List Row) where
         (rest.0, rw e rest.1))
   ]
 
-  -- a table that has a section after the append had one before
   pub section_before : (t : ℕ) (section : TableStats) → find (λ (s : TableStats). s.table == t) (file_after file table new).tables ≡ Some section
       → (old : TableStats) × (find (λ (s : TableStats). s.table == t) file.tables ≡ Some old)
   section_before t section found = found_before file.tables t section found

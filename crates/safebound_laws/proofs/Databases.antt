@@ -1,4 +1,4 @@
--- Whatever tables are read, some database has their rows.
+-- For any tables that are read, there is a database with their rows.
 use Rattle.std.proofs.Common.{◌≡◌, ℕ, ◌<◌, List, [], ◌∷◌, length, Ok, refl, ap, sym, ◌∙◌, subst}
 use Rattle.std.specs.List.{AllByRecursion, IsDistinct}
 use Rattle.std.specs.Str.{IsUtf8}
@@ -32,9 +32,8 @@ use Rattle.table_files.proofs.SameTables.{first_place, same_tables, some_slot}
 use Rattle.table_files.proofs.StagedFiles.{table_ok}
 use Rattle.safebound_laws.proofs.TableCells.{IsPool, TableFound, table_found}
 
--- ---- tables one after another
+-- ---- the cells of tables, one table after another
 
--- cells of tables with these rows, over a pool that grew
 record EachFound (schema : Schema) (numbers : List ℕ) (rows : List (List Row)) (old : List (List ℕ)) : Type 0 where
   new : List (List ℕ)
   cells : List Cells
@@ -44,7 +43,6 @@ record EachFound (schema : Schema) (numbers : List ℕ) (rows : List (List Row))
   same : rows_of_tables new cells ≡ rows
   few : AllByRecursion HasFewRows cells
 
--- one table more, before the others
 more_found : (schema : Schema) (number : ℕ) (numbers bytes : List ℕ) (rows : List Row) (others : List (List Row)) (old : List (List ℕ))
     → rows_of_file (table_at schema number) bytes ≡ Ok rows → (one : TableFound (table_at schema number) rows old) → EachFound schema numbers others one.new
     → EachFound schema (number ∷ numbers) (rows ∷ others) old
@@ -85,7 +83,6 @@ no_texts : IsPool []
 unfolding IsDistinct
 no_texts = record { utf8 = All-nil IsUtf8; once = tt }
 
--- a database of the query over its schema, each of whose entries has these rows
 pub record DatabaseFound (schema : Schema) (query : Query) (rows : List (List Row)) : Type 0 where
   pub database : Database
   pub rows_are : rows ≡ entry_rows database

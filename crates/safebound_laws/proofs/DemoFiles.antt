@@ -1,4 +1,4 @@
--- No file of `demo` is absent, and no read of its store fails: it never ends with a read fault.
+-- No file of `demo` is absent, and no read of its store fails, so `demo` never ends with a read fault.
 use Rattle.std.proofs.Common.{◌≡◌, inl, inr, ℕ, List, Option, None, Some, Result, Ok, Err, refl, ap, sym, ◌∙◌, subst, arith}
 use Rattle.std.specs.Prelude.{codes}
 use Rattle.base_io.specs.Causes.{Rose}
@@ -44,7 +44,7 @@ use Rattle.prepared_runs.proofs.LimitFacts.{within_misses}
 use Rattle.table_files.proofs.StagedFiles.{told_ok}
 use Rattle.safebound_top.proofs.Promises.{query_of_schema}
 
--- ---- no reader tells of an absent file
+-- ---- no reader of a text gives the refusal Missing
 
 schemas_miss : {A : Type 0} (r : Result A SchemaError) → MissesNothing (told schema_refusal r)
 schemas_miss (Ok schema) id e = cc
@@ -89,9 +89,9 @@ module _ (number : ℕ) where
     plan_misses : (schema : Schema) (query : Query) (rows : List (List Row)) → MissesNothing (plan_stage task schema query rows)
     unfolding plan_stage
     plan_misses schema query rows =
-        then_misses (told plan_refusal (plan_asked task schema query (tables_in rows))) (λ plan. within_limit task.memory (shape_bytes plan) (Planned (run_asked task query rows plan)))
+        then_misses (told plan_refusal (plan_asked task schema query (tables_in rows))) (λ plan. within_limit task.terms.memory (shape_bytes plan) (Planned (run_asked task query rows plan)))
         (plans_miss (plan_asked task schema query (tables_in rows)))
-        (λ plan _. within_misses task.memory (shape_bytes plan) (Planned (run_asked task query rows plan)))
+        (λ plan _. within_misses task.terms.memory (shape_bytes plan) (Planned (run_asked task query rows plan)))
 
     query_misses : (schema : Schema) (query : Query) → schema_answer schema_text ≡ Ok schema → IsOf schema query
         → MissesNothing (work_run (works.Plan task) schema query (demo_files number))

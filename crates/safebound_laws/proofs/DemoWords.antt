@@ -1,4 +1,4 @@
--- The words of `demo` ask what those of an audit ask.
+-- `demo` reads and plans the same as an audit of the shop's texts.
 use Rattle.std.proofs.Common.{◌≡◌, ℕ, List, [], ◌∷◌, None, Some, Result, refl, ap, sym, ◌∙◌}
 use Rattle.std.specs.Prelude.{codes, false}
 use Rattle.base_io.specs.Files.{Files}
@@ -14,7 +14,6 @@ use Rattle.prepared_runs.specs.Verdict.{command_run, or_usage, verdict}
 abbrev audit_words : List (List ℕ)
 audit_words = codes "audit" ∷ codes "schema.sql" ∷ codes "query.sql" ∷ []
 
--- what an audit of the shop's texts asks for
 abbrev audit : Command
 audit = over_query None (codes "schema.sql") (codes "query.sql") (plan_by out_text.Audit 1000000 1 false false false None)
 
@@ -22,7 +21,6 @@ audit_is : command_of audit_words ≡ Some audit
 unfolding command_of kind_of over_files parts_from reading_of
 audit_is = refl
 
--- over the same files, the number of a shop changes nothing of what is read and planned
 same_run : (number : ℕ) (files : Files) → command_run (demo_of number) files ≡ command_run audit files
 unfolding command_run
 same_run number files = refl

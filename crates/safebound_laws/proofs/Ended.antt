@@ -1,4 +1,4 @@
--- The outcome of a call that ended with Done. And two readings of the same bytes give the same file.
+-- A call that ended with Done has an outcome, whose texts are in its streams. Two readings of the same bytes give the same file.
 use Rattle.std.proofs.Common.{◌≡◌, ℕ, List, ◌++◌, Option, Some, Result, Ok, Err, refl, ap, sym, ◌∙◌, subst}
 use Rattle.std.specs.Prelude.{IsOkAnd, IfOk}
 use Rattle.std.proofs.lemmas.List.{append_cancel_left}
@@ -39,7 +39,7 @@ use Rattle.safebound_top.specs.Promise.{DeclaresSchema}
 use Rattle.safebound_top.proofs.Promises.{declares}
 use Rattle.safebound_laws.specs.FileCalls.{IsDone, Took}
 
--- ---- values
+-- ---- the value of a result
 
 ok_and : {A E : Type 0} (P : A → Type 0) (r : Result A E) → IsOkAnd r P → (x : A) × (r ≡ Ok x) × P x
 ok_and P (Ok x) h = (x, refl, h)
@@ -54,7 +54,7 @@ same_some a b e = cc
 pub same_ok : {A E : Type 0} (a b : A) → ◌≡◌ {A = Result A E} (Ok a) (Ok b) → a ≡ b
 same_ok a b e = cc
 
--- ---- the call
+-- ---- the outcome of the call, and its texts in the streams
 
 module _ (call : Call) (command : Command) (files : Files) (done : IsDone call command files) where
   pub record Ended : Type 0 where
@@ -83,9 +83,8 @@ module _ (call : Call) (command : Command) (files : Files) (done : IsDone call c
   pub ranges : HasRanges command.aim
   ranges = has_ranges call.words command asked
 
--- ---- bytes
+-- ---- bytes that were written and read
 
--- if a sink grew by a text and took these bytes, they are the text
 pub took_text : (sink : Growth) (text bytes : List ℕ) → Grew sink text → Took sink bytes → text ≡ bytes
 took_text sink text bytes grew (before, was, now) =
     let both : Some (before ++ text) ≡ Some (before ++ bytes) = sym (ap (λ (s : Option (List ℕ)). appended s text) was) ∙ sym grew ∙ now in
@@ -104,7 +103,6 @@ module _ (files : Files) (name : List ℕ) (schema : Schema) (said : DeclaresSch
   pub byte_columns : HasByteColumns schema
   byte_columns = declared_bytes said.text schema said.declares.is
 
--- if a file has the text of a statistics file, reading it gives this statistics file
 pub stats_are : (name : List ℕ) (schema : Schema) (files : Files) (stats file : StatsFile) → IsValid schema → HasByteColumns schema → KeepsRules schema file
     → file_of files name ≡ Some (file_text schema file) → stats_stage name schema files ≡ Ok stats → stats ≡ file
 unfolding stats_stage

@@ -1,4 +1,4 @@
--- What is known of the bytes of a statistics file: what `stats` wrote, and what each append made of it.
+-- These records say what is known about the bytes of a statistics file: after `stats` wrote them, and after each append.
 use Rattle.std.proofs.Common.{◌≡◌, ℕ, ◌<◌, ◌≤◌, ◌==◌, ◌++◌, cond, List, [], ◌∷◌, length, Option, None, Some, option_map, Ok, inl, inr, refl, ap, sym, ◌∙◌, subst, append_assoc, append-nil}
 use Rattle.std.specs.List.{filter_map, flat_map, range_with_len}
 use Rattle.std.proofs.Math.Path.{fun_ext}
@@ -48,7 +48,6 @@ use Rattle.safebound_laws.specs.FilePlans.{AddEach, Added, AddsRowsOfFile, with_
 use Rattle.safebound_laws.proofs.Appended.{after_keeps, its_section, rows_read, section_before, table_there}
 use Rattle.safebound_laws.proofs.Ended.{byte_columns, ended, is_valid, ranges, same_schema, stats_are, took_text}
 
--- they are the text of a file that keeps the rules, stands for these tables of a query, and has sections of the query's tables alone
 pub record Known (schema : Schema) (query : Query) (bytes : List ℕ) (tables : Tables) : Type 0 where
   pub file : StatsFile
   pub is : bytes ≡ file_text schema file
@@ -56,7 +55,7 @@ pub record Known (schema : Schema) (query : Query) (bytes : List ℕ) (tables : 
   pub stands : StandsFor query file tables
   pub of : IsOfTables query file
 
--- ---- what `stats` wrote
+-- ---- the bytes that `stats` wrote
 
 some_of : {A B : Type 0} (f : A → B) (o : Option A) (y : B) → option_map f o ≡ Some y → (x : A) × (o ≡ Some x) × (y ≡ f x)
 some_of f None y e = absurd (cc e)
@@ -74,7 +73,6 @@ module _ (schema : Schema) (query : Query) (tables : Tables) (accuracy : ℕ) wh
       let same : its.0 ≡ table = ap (λ (one : TableStats). one.table) (sym made.2) ∙ eqb-true section.table table there.1 in
       (made.0, subst (λ t. first_entry query t ≡ Some made.0) same made.1)
 
--- the query that `stats` read, over the tables that it read, and what is known of the bytes
 pub record FromStats (made : StatsCall) (bytes : List ℕ) (schema : Schema) : Type 0 where
   pub query : Query
   pub database : Database
@@ -129,23 +127,21 @@ module _ (made : StatsCall) (schema : Schema) (bytes : List ℕ) (wrote : WroteS
       let valid : IsValid made_from.schema = subst IsValid (sym read) (is_valid made.files made.schema_file schema wrote.declares) in
       subst (FromStats made bytes) read (from_read made_from.schema made_from.query made_from.rows valid made_from.query_is made_from.rows_are made_from.is)
 
--- ---- what an append made of it
+-- ---- the bytes that one append wrote
 
--- the tables with the new rows of one append, as appended_stats says it
+-- the tables with the added rows of one append are the tables with new rows of appended_stats
 has_added : (query : Query) (tables : Tables) (table : ℕ) (rows : List Row) → HasNewRows query table rows tables (with_added query tables (record { table = table; rows = rows } ∷ []))
 has_added query tables table rows entry low = elim (cases_Bool (table_of query entry == table)) [
   | inl e ↦ rw e (ap (λ (s : List Row). tables entry ++ s) (append-nil rows))
   | inr e ↦ rw e (append-nil (tables entry))
 ]
 
--- one addition and then more is the same as all of them together
 added_then : (query : Query) (tables : Tables) (one : Added) (more : List Added) → with_added query (with_added query tables (one ∷ [])) more ≡ with_added query tables (one ∷ more)
 added_then query tables one more = fun_ext (λ entry.
     let first : List Row = cond (table_of query entry == one.table) one.rows [] in
     let later : List Row = flat_map (λ (next : Added). cond (table_of query entry == next.table) next.rows []) more in
     ap (λ (s : List Row). (tables entry ++ s) ++ later) (append-nil first) ∙ append_assoc (tables entry) first later)
 
--- what an append added, and what is known of the bytes that it wrote
 pub record FromAppend (query : Query) (tables : Tables) (append : AppendCall) (schema : Schema) : Type 0 where
   pub added : Added
   pub adds : AddsRowsOfFile schema append added

@@ -3,10 +3,9 @@ use Rattle.std.proofs.Common.{◌≡◌, ℕ, ◌<◌, false, List, length, Some
 use Rattle.appended_stats.specs.Appended.{alone}
 use Rattle.csv_tables.specs.Rows.{Row}
 use Rattle.stats_file_bounds.proofs.Telling.{IsThere, is_there, section_is}
-use Rattle.stats_file_bounds.specs.FileStatistics.{stats_file_statistics}
+use Rattle.stats_file_bounds.specs.Bounds.{scan_bounds_of_file}
 use Rattle.stats_file_bounds.specs.Found.{is_missing, pair_in, section_for}
-use Rattle.stats_file_bounds.specs.Plans.{planned_by_file}
-use Rattle.stats_file_exactness.proofs.Exactness.{KnowsTables, bounds_known, scans_known}
+use Rattle.stats_file_exactness.proofs.Exactness.{KnowsTables, scans_known, sets_known}
 use Rattle.stats_file_exactness.proofs.Sections as sections
 use Rattle.stats_file_exactness.proofs.Sections.{IsSectionOf, found_is}
 use Rattle.stats_file_of_query.proofs.SameSections.{first_is}
@@ -14,29 +13,29 @@ use Rattle.stats_file_of_query.specs.Files.{file_of_query}
 use Rattle.stats_file_of_query.specs.Needs.{table_of}
 use Rattle.stats_file_of_query.specs.Pairs.{pair_in_table}
 use Rattle.stats_file_of_query.specs.Standing.{StandsFor, section_of}
-use Rattle.gathered_stats.specs.Statistics.{statistics_of}
 use Rattle.join_graph.proofs.FromEntries.{names_its_entries}
-use Rattle.join_graph.specs.Conjuncts.{equalities_of}
-use Rattle.plan_nearness.proofs.LevelsNear.{levels_near}
 use Rattle.plan_nearness.specs.Nearness.{FiltersNoEntry}
-use Rattle.planning.specs.Plans.{planned as planned_over, planned_from}
-use Rattle.plans.specs.declared.left_deep.Plan.{Plan}
-use Rattle.query_bounds.specs.Bounds.{entry_bounds, scan_bounds}
+use Rattle.planning.specs.Bounds.{set_bounds_of}
 use Rattle.query_types.specs.declared.types.Query.{Query}
 use Rattle.schema_types.specs.declared.types.Schema.{Schema}
-use Rattle.set_bounds.specs.AllSets.{in_every_set}
 use Rattle.sql_meaning.specs.Tables.{Tables, row_counts, tables_of}
 use Rattle.stats_file.specs.Rules.{KeepsRules}
 use Rattle.stats_file.specs.declared.types.Pair.{Pair}
 use Rattle.stats_file.specs.declared.types.StatsFile.{StatsFile}
 use Rattle.stats_file.specs.declared.types.TableStats.{TableStats}
 use Rattle.safebound_top.specs.Promise.{AsksQuery}
+use Rattle.prepared_runs.specs.Shapes.{answer_of, planned_by}
+use Rattle.prepared_runs.specs.Sources.{scans_by, sets_by, sourced}
+use Rattle.prepared_runs.specs.StatsFiles.{plan_from_file_asked}
+use Rattle.prepared_runs.specs.declared.shapes.AnyPlan.{AnyPlan}
+use Rattle.safebound_words.specs.declared.command.ListSource.TheVariants as sources
 use Rattle.safebound_laws.specs.FileCalls.{PlanCall, PlannedFrom, StatsCall, WroteStats}
 use Rattle.safebound_laws.specs.FilePlans.{IsOver, PlanIsNear, PlanIsOfTables}
 use Rattle.safebound_laws.proofs.KnownBytes.{FromStats, from_stats}
+use Rattle.safebound_laws.proofs.NearRuns.{parts_near}
 use Rattle.safebound_laws.proofs.OtherQueries.{stands_for_other}
 use Rattle.safebound_laws.proofs.Planned as planned_facts
-use Rattle.safebound_laws.proofs.Planned.{PlanMade, moved}
+use Rattle.safebound_laws.proofs.Planned.{moved}
 
 module _ (schema : Schema) (bytes : List ℕ) (made : StatsCall) (planned : PlanCall) (wrote : WroteStats made schema bytes) (from : PlannedFrom schema bytes planned) where
   start : FromStats made bytes schema
@@ -48,7 +47,7 @@ module _ (schema : Schema) (bytes : List ℕ) (made : StatsCall) (planned : Plan
   abbrev outcome_query : Query
   outcome_query = (planned_facts.its made schema bytes start bytes (tables_of start.database) start.known planned from).query
 
-  abbrev plan : Plan
+  abbrev plan : AnyPlan
   plan = (planned_facts.its made schema bytes start bytes (tables_of start.database) start.known planned from).plan
 
   abbrev file : StatsFile
@@ -102,18 +101,18 @@ module _ (schema : Schema) (bytes : List ℕ) (made : StatsCall) (planned : Plan
     pairs = pairs_known;
   }
 
-  plans_same : planned_by_file outcome_query file planned.budget ≡ planned_over outcome_query tables made.accuracy planned.budget
-  unfolding planned_by_file planned_over
+  plans_same : plan_from_file_asked planned.terms outcome_query file
+      ≡ planned_by planned.terms.shape (sourced sources.Columns schema outcome_query tables) made.accuracy planned.terms.budget
+  unfolding planned_by sets_by scans_by
   plans_same =
-      ap (λ bounds. planned_from (in_every_set bounds) (scan_bounds outcome_query (stats_file_statistics outcome_query file)) (equalities_of outcome_query) (length outcome_query.from) planned.budget)
-      (bounds_known outcome_query file tables made.accuracy knows)
-      ∙ ap (λ scans. planned_from (in_every_set (entry_bounds outcome_query (statistics_of tables made.accuracy))) scans (equalities_of outcome_query) (length outcome_query.from) planned.budget)
+      ap (λ sets. answer_of planned.terms.shape sets (scan_bounds_of_file outcome_query file) planned.terms.budget) (sets_known outcome_query file tables made.accuracy knows)
+      ∙ ap (λ scans. answer_of planned.terms.shape (set_bounds_of outcome_query tables made.accuracy) scans planned.terms.budget)
       (scans_known outcome_query file tables made.accuracy knows)
 
-  of_tables : planned_over outcome_query tables made.accuracy planned.budget ≡ Ok plan
+  of_tables : planned_by planned.terms.shape (sourced sources.Columns schema outcome_query tables) made.accuracy planned.terms.budget ≡ Ok plan
   of_tables =
-      sym plans_same ∙ ap (λ (f : StatsFile). planned_by_file outcome_query f planned.budget) (sym file_is)
-      ∙ (planned_facts.made_so made schema bytes start bytes read start.known planned from).1
+      sym plans_same ∙ ap (λ (f : StatsFile). plan_from_file_asked planned.terms outcome_query f) (sym file_is)
+      ∙ (planned_facts.its made schema bytes start bytes (tables_of start.database) start.known planned from).planned
 
   its_over : IsOver made planned schema outcome_query (moved start.query (tables_of start.database) outcome_query)
   its_over = planned_facts.over made schema bytes start bytes read start.known planned from
@@ -134,7 +133,7 @@ module _ (schema : Schema) (bytes : List ℕ) (made : StatsCall) (planned : Plan
     tables = tables;
     over = its_over;
     plan = plan;
-    near = levels_near outcome_query tables made.accuracy planned.budget plan (none outcome_query its_over.asks)
-        (planned_facts.of_schema made schema bytes start bytes read start.known planned from).few of_tables;
+    near = parts_near planned.terms.shape schema outcome_query tables made.accuracy planned.terms.budget plan (none outcome_query its_over.asks)
+        (planned_facts.of_schema made schema bytes start bytes read start.known planned from) of_tables;
     written = planned_facts.written made schema bytes start bytes read start.known planned from;
   }

@@ -1,4 +1,4 @@
--- What a run over whole columns prints is near the bounds without compression.
+-- The bounds that a run over whole columns prints are near the bounds without compression.
 use Rattle.std.proofs.Common.{◌≡◌, ℕ, List, Option, Result, Ok, Err, ap, sym, ◌∙◌, subst, arith}
 use Rattle.base_io.specs.Files.{Files}
 use Rattle.order_search.specs.declared.refusal.PlanError.{PlanError}
@@ -34,8 +34,8 @@ use Rattle.safebound_words.specs.declared.command.PlanWork.{PlanWork}
 use Rattle.safebound_words.specs.declared.command.Shape.{Shape}
 use Rattle.safebound_words.specs.declared.command.Shape.TheVariants as shapes
 use Rattle.safebound_top.proofs.Promises.{Stages, query_of_schema, stages}
+use Rattle.safebound_laws.specs.FilePlans.{PartsAreNear}
 
--- if the answer is an order, the search for an order found it, and likewise for a tree
 seen_along : (r : Result Plan PlanError) (plan : Plan) → seen (λ p. shaped.OrderPlan p) r ≡ Ok (shaped.OrderPlan plan) → r ≡ Ok plan
 seen_along (Ok p) plan e = (let same : p ≡ plan = cc in ap Ok same)
 seen_along (Err s) plan e = cc
@@ -62,7 +62,6 @@ tree_is_answer : (shape : Shape) (sets scans : List ℕ) (budget : ℕ) (plan : 
 tree_is_answer shapes.Tree sets scans budget plan e = seen_over (tree_answer sets scans budget) plan e
 tree_is_answer shapes.Order sets scans budget plan e = absurd (no_tree (plan_answer sets scans budget) plan e)
 
--- an order from whole columns is the plan that `planned` gives
 order_planned : (shape : Shape) (schema : Schema) (query : Query) (ts : Tables) (accuracy budget : ℕ) (plan : Plan)
     → planned_by shape (sourced sources.Columns schema query ts) accuracy budget ≡ Ok (shaped.OrderPlan plan)
     → planned query ts accuracy budget ≡ Ok plan
@@ -75,7 +74,16 @@ tree_planned : (shape : Shape) (schema : Schema) (query : Query) (ts : Tables) (
 unfolding planned_by sets_by scans_by
 tree_planned shape schema query ts accuracy budget plan e = tree_is_answer shape _ _ budget plan e
 
--- ---- of an accepted run
+-- ---- the bounds of a plan of either shape
+
+pub parts_near : (shape : Shape) (schema : Schema) (query : Query) (ts : Tables) (accuracy budget : ℕ) (plan : AnyPlan) → FiltersNoEntry query → IsOf schema query
+    → planned_by shape (sourced sources.Columns schema query ts) accuracy budget ≡ Ok plan → PartsAreNear query ts accuracy plan
+parts_near shape schema query ts accuracy budget (shaped.OrderPlan plan) none of made =
+    levels_near query ts accuracy budget plan none of.few (order_planned shape schema query ts accuracy budget plan made)
+parts_near shape schema query ts accuracy budget (shaped.TreePlan plan) none of made =
+    nodes_near query ts accuracy budget plan none (omega (arith, of.some)) of.few (tree_planned shape schema query ts accuracy budget plan made)
+
+-- ---- the bounds of an accepted run
 
 module _ (schema_file query_file : List ℕ) (task : PlanWork) (files : Files) (run : AcceptedQuery) (s : Stages schema_file query_file task files (Planned run))
     (source : run.source ≡ sources.Columns) (none : FiltersNoEntry run.query) where
@@ -92,22 +100,20 @@ module _ (schema_file query_file : List ℕ) (task : PlanWork) (files : Files) (
   its_source = ap (λ (r : AcceptedQuery). r.source) same_run ∙ source
 
   made : (plan : AnyPlan) → run.plan ≡ plan
-      → planned_by task.shape (sourced sources.Columns s.schema s.query (tables_in s.rows)) task.accuracy task.budget ≡ Ok plan
+      → planned_by task.terms.shape (sourced sources.Columns s.schema s.query (tables_in s.rows)) task.accuracy task.terms.budget ≡ Ok plan
   made plan is =
-      ap (λ (from : ListSource). planned_by task.shape (sourced from s.schema s.query (tables_in s.rows)) task.accuracy task.budget) (sym its_source)
+      ap (λ (from : ListSource). planned_by task.terms.shape (sourced from s.schema s.query (tables_in s.rows)) task.accuracy task.terms.budget) (sym its_source)
       ∙ s.planned ∙ ap (λ (p : AnyPlan). Ok p) (ap (λ (r : AcceptedQuery). r.plan) same_run ∙ is)
 
   pub run_levels : (plan : Plan) → run.plan ≡ shaped.OrderPlan plan → LevelsAreNear run.query (tables run) task.accuracy plan
   run_levels plan is =
       subst (λ (r : AcceptedQuery). LevelsAreNear r.query (tables r) task.accuracy plan) same_run
-      (levels_near s.query (tables_in s.rows) task.accuracy task.budget plan its_own of.few
-      (order_planned task.shape s.schema s.query (tables_in s.rows) task.accuracy task.budget plan (made (shaped.OrderPlan plan) is)))
+      (parts_near task.terms.shape s.schema s.query (tables_in s.rows) task.accuracy task.terms.budget (shaped.OrderPlan plan) its_own of (made (shaped.OrderPlan plan) is))
 
   pub run_nodes : (plan : BushyPlan) → run.plan ≡ shaped.TreePlan plan → NodesAreNear run.query (tables run) task.accuracy plan
   run_nodes plan is =
       subst (λ (r : AcceptedQuery). NodesAreNear r.query (tables r) task.accuracy plan) same_run
-      (nodes_near s.query (tables_in s.rows) task.accuracy task.budget plan its_own (omega (arith, of.some)) of.few
-      (tree_planned task.shape s.schema s.query (tables_in s.rows) task.accuracy task.budget plan (made (shaped.TreePlan plan) is)))
+      (parts_near task.terms.shape s.schema s.query (tables_in s.rows) task.accuracy task.terms.budget (shaped.TreePlan plan) its_own of (made (shaped.TreePlan plan) is))
 
 pub stages_of : (words : List (List ℕ)) (files : Files) (shop : Option ℕ) (schema query : List ℕ) (task : PlanWork) (run : AcceptedQuery)
     → command_stage words ≡ Ok (over_query shop schema query (works.Plan task)) → verdict words files ≡ Ok (Planned run) → Stages schema query task files (Planned run)

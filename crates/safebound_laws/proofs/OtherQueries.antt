@@ -1,4 +1,4 @@
--- A file that stands for a query's tables stands for those of another query.
+-- A statistics file that stands for a query's tables also stands for those of another query, if both have the same rows.
 use Rattle.std.proofs.Common.{ℕ, List, get_or, ap, ◌∙◌, subst}
 use Rattle.appended_stats.specs.Appended.{alone}
 use Rattle.csv_tables.specs.Rows.{Row}
@@ -12,7 +12,6 @@ use Rattle.stats_file.specs.declared.types.StatsFile.{StatsFile}
 use Rattle.stats_file.specs.declared.types.TableStats.{TableStats}
 use Rattle.safebound_laws.specs.OtherQueries.{HaveSameRows, IsOfTables}
 
--- what stands for an entry's rows stands for them as a table of their own, and back
 pair_alone : (pair : Pair) (tables : Tables) (entry : ℕ) (key : ℕ → ℕ) → PairStandsFor pair tables entry key → PairStandsFor pair (alone (tables entry)) 0 key
 pair_alone pair tables entry key stands = record { rows = stands.rows; whole = stands.whole; value = stands.value; node = stands.node }
 

@@ -1,5 +1,5 @@
--- A plan from a statistics file, if it is known for which tables the file stands.
-use Rattle.std.proofs.Common.{◌≡◌, ℕ, ◌<◌, ◌==◌, ◌++◌, true, false, List, [], length, get_or, Option, None, Some, Result, Ok, Err, refl, ap, sym, ◌∙◌, subst, arith}
+-- The bounds of a plan from a statistics file hold for all tables for which the file is known to stand.
+use Rattle.std.proofs.Common.{◌≡◌, ℕ, ◌<◌, ◌==◌, ◌++◌, true, false, List, [], length, get_or, Option, None, Some, Ok, refl, ap, sym, ◌∙◌, subst, arith}
 use Rattle.std.specs.Prelude.{unwrap_or}
 use Rattle.std.proofs.lemmas.Bool.{eq-eqb}
 use Rattle.std.proofs.lemmas.List.{get_or-map}
@@ -9,21 +9,18 @@ use Rattle.csv_tables.specs.Rows.{Row}
 use Rattle.stats_file_bounds.proofs.Finding.{none_passes}
 use Rattle.stats_file_bounds.proofs.Telling.{IsThere, is_there}
 use Rattle.stats_file_bounds.specs.Found.{first_missing, is_missing}
-use Rattle.stats_file_bounds.specs.Plans.{stats_file_plan, planned_by_file, unless_missing}
+use Rattle.stats_file_bounds.specs.Bounds.{scan_bounds_of_file, set_bounds_of_file}
 use Rattle.stats_file_of_query.proofs.SameSections.{first_is}
 use Rattle.stats_file_of_query.proofs.Standing.{share_rows}
 use Rattle.stats_file_of_query.specs.Files.{first_entry}
 use Rattle.stats_file_of_query.specs.Needs.{table_of}
 use Rattle.stats_file_of_query.specs.Standing.{ShareRows, StandsFor, section_of}
 use Rattle.join_steps.specs.Lists.{scans_of}
-use Rattle.join_steps.specs.Plans.{IsPlanOf}
-use Rattle.order_search.specs.declared.refusal.PlanError.{PlanError}
+use Rattle.outcomes.specs.Errors.{plan_refusal}
 use Rattle.outcomes.specs.Reads.{told}
-use Rattle.plans.specs.declared.left_deep.Plan.{Plan}
 use Rattle.query_types.specs.Validity.{IsOf}
 use Rattle.query_types.specs.declared.types.Query.{Query}
 use Rattle.query_types.specs.declared.types.Source.{Source}
-use Rattle.reserve_plan.specs.Memory.{plan_bytes}
 use Rattle.safebound_words.specs.Commands.{over_query}
 use Rattle.safebound_words.specs.declared.command.Aim.TheVariants as aims
 use Rattle.safebound_words.specs.declared.command.Command.{Command}
@@ -35,15 +32,20 @@ use Rattle.table_files.specs.Stage.{no_table, table_at, table_rows}
 use Rattle.table_files.proofs.EntryLaws.{two_steps}
 use Rattle.table_files.proofs.StagedFiles.{table_ok, told_ok}
 use Rattle.prepared_runs.proofs.LimitFacts.{within_ok}
-use Rattle.prepared_runs.specs.StatsFiles.{stats_file_plan_stage, stats_file_refusal, stats_file_plan_within, stats_stage}
-use Rattle.prepared_runs.specs.Limits.{IsWithinLimit}
-use Rattle.prepared_runs.specs.RunOutcome.{PlanFromStatsFile, HoldsWhereItStands, NoBoundIsTooLow, RunOutcome, PlannedFromStats}
+use Rattle.prepared_runs.proofs.ShapeFacts.{over_so}
+use Rattle.prepared_runs.specs.StatsFiles.{made_from_file, plan_from_file_asked, stats_file_plan_stage, stats_stage, unless_missing}
+use Rattle.prepared_runs.specs.Limits.{IsWithinLimit, within_limit}
+use Rattle.prepared_runs.specs.Shapes.{IsPlanOver, planned_within, shape_bytes}
+use Rattle.prepared_runs.specs.declared.shapes.AnyPlan.{AnyPlan}
+use Rattle.safebound_words.specs.declared.command.PlanTerms.{PlanTerms}
+use Rattle.prepared_runs.specs.RunOutcome.{PlanFromStatsFile, HoldsWhereItStands, NoBoundIsTooLow, RunOutcome}
 use Rattle.prepared_runs.specs.Verdict.{aim_run, command_run, query_stage, schema_stage, work_run}
-use Rattle.safebound_top.proofs.Promises.{asks, query_of_schema}
+use Rattle.safebound_top.proofs.Promises.{asks, query_of_schema, text_prints}
 use Rattle.safebound_top.specs.Call.{Grew}
 use Rattle.safebound_top.specs.Headline.{GrewWhole}
-use Rattle.safebound_top.specs.OutcomeTexts.{stats_file_plan_text, notes_text}
-use Rattle.safebound_top.specs.Promise.{AreInFile, PrintsOrder}
+use Rattle.safebound_top.specs.OutcomeTexts.{notes_text}
+use Rattle.safebound_top.specs.Promise.{AreInFile, PrintsPlan}
+use Rattle.safebound_top.specs.Texts.{plan_text_of}
 use Rattle.safebound_laws.specs.FileCalls.{AppendCall, AppendedEach, PlanCall, PlannedFrom, StatsCall, WroteStats, last_bytes}
 use Rattle.safebound_laws.specs.OtherQueries.{HaveSameRows}
 use Rattle.safebound_laws.specs.FilePlans.{Added, GrownPlanHolds, IsOver, PlanHolds, added_rows, with_added}
@@ -53,35 +55,37 @@ use Rattle.safebound_laws.proofs.OtherQueries.{stands_for_other}
 
 -- ---- the stages of a plan from a file
 
-there_is : (o : Option ℕ) (r : Result Plan PlanError) (plan : Plan) → unless_missing o r ≡ Ok plan → (o ≡ None) × (r ≡ Ok plan)
-there_is None (Ok p) plan e = (refl, cc)
-there_is None (Err s) plan e = absurd (cc)
-there_is (Some from) r plan e = absurd (cc)
+there_is : (o : Option ℕ) (u : Unit {0}) → unless_missing o ≡ Ok u → o ≡ None
+there_is None u e = refl
+there_is (Some from) u e = absurd (cc)
 
-pub record PlanMade (schema_file query_file stats_file : List ℕ) (budget : ℕ) (memory : Option ℕ) (files : Files) (outcome : RunOutcome) : Type 0 where
+pub record PlanMade (schema_file query_file stats_file : List ℕ) (terms : PlanTerms) (files : Files) (outcome : RunOutcome) : Type 0 where
   pub schema : Schema
   pub schema_is : schema_stage schema_file files ≡ Ok schema
   pub query : Query
   pub query_is : query_stage query_file schema files ≡ Ok query
   pub stats : StatsFile
   pub stats_is : stats_stage stats_file schema files ≡ Ok stats
-  pub plan : Plan
-  pub planned : stats_file_plan query stats budget ≡ Ok plan
-  pub within : IsWithinLimit memory (plan_bytes plan.order plan.scans plan.levels)
-  pub is : PlannedFromStats (record { query = query; file = stats; plan = plan; memory = memory }) ≡ outcome
+  pub there : first_missing query stats ≡ None
+  pub plan : AnyPlan
+  pub planned : plan_from_file_asked terms query stats ≡ Ok plan
+  pub within : IsWithinLimit terms.memory (shape_bytes plan)
+  pub is : made_from_file terms query stats plan ≡ outcome
 
-plan_made : (schema_file query_file stats_file : List ℕ) (budget : ℕ) (memory : Option ℕ) (files : Files) (outcome : RunOutcome)
-    → command_run (over_query None schema_file query_file (works.PlanFromStats stats_file budget memory)) files ≡ Ok outcome
-    → PlanMade schema_file query_file stats_file budget memory files outcome
+plan_made : (schema_file query_file stats_file : List ℕ) (terms : PlanTerms) (files : Files) (outcome : RunOutcome)
+    → command_run (over_query None schema_file query_file (works.PlanFromStats stats_file terms)) files ≡ Ok outcome
+    → PlanMade schema_file query_file stats_file terms files outcome
 unfolding command_run stats_file_plan_stage
-plan_made schema_file query_file stats_file budget memory files outcome ran =
-    let work = works.PlanFromStats stats_file budget memory in
+plan_made schema_file query_file stats_file terms files outcome ran =
+    let work = works.PlanFromStats stats_file terms in
     let first = two_steps (schema_stage schema_file files) (λ s. aim_run (aims.Query query_file work) s files) outcome ran in
     let second = two_steps (query_stage query_file first.0 files) (λ q. work_run work first.0 q files) outcome first.2 in
-    let third = two_steps (stats_stage stats_file first.0 files) (λ stats. stats_file_plan_stage second.0 stats budget memory) outcome second.2 in
-    let last = two_steps (told stats_file_refusal (stats_file_plan second.0 third.0 budget)) (λ plan. stats_file_plan_within second.0 third.0 plan memory) outcome third.2 in
-    let kept = within_ok memory (plan_bytes last.0.order last.0.scans last.0.levels)
-    (PlannedFromStats (record { query = second.0; file = third.0; plan = last.0; memory = memory })) outcome last.2 in
+    let third = two_steps (stats_stage stats_file first.0 files) (stats_file_plan_stage terms second.0) outcome second.2 in
+    let there = two_steps (unless_missing (first_missing second.0 third.0))
+    (λ u. planned_within terms.memory (made_from_file terms second.0 third.0) (plan_from_file_asked terms second.0 third.0)) outcome third.2 in
+    let last = two_steps (told plan_refusal (plan_from_file_asked terms second.0 third.0))
+    (λ plan. within_limit terms.memory (shape_bytes plan) (made_from_file terms second.0 third.0 plan)) outcome there.2 in
+    let kept = within_ok terms.memory (shape_bytes last.0) (made_from_file terms second.0 third.0 last.0) outcome last.2 in
     record {
       schema = first.0;
       schema_is = first.1;
@@ -89,13 +93,14 @@ plan_made schema_file query_file stats_file budget memory files outcome ran =
       query_is = second.1;
       stats = third.0;
       stats_is = third.1;
+      there = there_is (first_missing second.0 third.0) there.0 there.1;
       plan = last.0;
-      planned = told_ok stats_file_refusal (stats_file_plan second.0 third.0 budget) last.0 last.1;
+      planned = told_ok plan_refusal (plan_from_file_asked terms second.0 third.0) last.0 last.1;
       within = kept.1;
       is = kept.0;
     }
 
--- ---- the tables of another query
+-- ---- the rows of another query's entries
 
 -- an entry of the other query has the rows of the first entry of its table
 abbrev pub moved : Query → Tables → Query → Tables
@@ -115,13 +120,11 @@ module _ (query : Query) (tables : Tables) (share : ShareRows query tables) (oth
           let its = first_is query (table_of other place) first is in
           share entry first low its.0 (same ∙ sym its.1) ∙ ap (λ (o : Option ℕ). tables (unwrap_or o 0)) (sym is)
 
--- with rows added to both
 added_same : (query : Query) (tables : Tables) (other : Query) (also : Tables) (added : List Added) → HaveSameRows query tables other also
     → HaveSameRows query (with_added query tables added) other (with_added other also added)
 added_same query tables other also added have entry place low within same =
     ap (λ (rows : List Row). rows ++ added_rows (table_of query entry) added) (have entry place low within same) ∙ ap (λ (t : ℕ). also place ++ added_rows t added) same
 
--- the rows that were read for an entry are in the file of its table
 in_file : (files : Files) (schema : Schema) (query : Query) (entry : ℕ) (rows : List Row) → IsOf schema query → entry < length query.from
     → table_rows schema (table_of query entry) files ≡ Ok rows → AreInFile files schema query entry rows
 in_file files schema query entry rows of low staged =
@@ -139,17 +142,17 @@ in_file files schema query entry rows of low staged =
       read = read.2;
     }
 
--- ---- the plan
+-- ---- the plan of a call of `plan --stats`
 
--- from a file that is known to stand for tables of the query that `stats` read
+-- the plan is made from a statistics file that is known to stand for tables of the query that `stats` read
 module _ (made : StatsCall) (schema : Schema) (first_bytes : List ℕ) (start : FromStats made first_bytes schema) (bytes : List ℕ) (tables : Tables)
     (known : Known schema start.query bytes tables) (planned : PlanCall) (from : PlannedFrom schema bytes planned) where
   abbrev command : Command
-  command = over_query None planned.schema_file planned.query_file (works.PlanFromStats planned.stats_file planned.budget planned.memory)
+  command = over_query None planned.schema_file planned.query_file (works.PlanFromStats planned.stats_file planned.terms)
 
-  pub its : PlanMade planned.schema_file planned.query_file planned.stats_file planned.budget planned.memory planned.files (ended planned.call command planned.files from.done).outcome
+  pub its : PlanMade planned.schema_file planned.query_file planned.stats_file planned.terms planned.files (ended planned.call command planned.files from.done).outcome
   its =
-      plan_made planned.schema_file planned.query_file planned.stats_file planned.budget planned.memory planned.files (ended planned.call command planned.files from.done).outcome
+      plan_made planned.schema_file planned.query_file planned.stats_file planned.terms planned.files (ended planned.call command planned.files from.done).outcome
       (ended planned.call command planned.files from.done).ran
 
   same : its.schema ≡ schema
@@ -167,14 +170,10 @@ module _ (made : StatsCall) (schema : Schema) (first_bytes : List ℕ) (start : 
   pub of_schema : IsOf schema its.query
   of_schema = query_of_schema planned.query_file planned.files schema its.query query_there
 
-  -- ---- the rows of its entries
-
-  pub made_so : (first_missing its.query its.stats ≡ None) × (planned_by_file its.query its.stats planned.budget ≡ Ok its.plan)
-  unfolding stats_file_plan
-  made_so = there_is (first_missing its.query its.stats) (planned_by_file its.query its.stats planned.budget) its.plan its.planned
+  -- ---- the rows of the planned query's entries
 
   pub not_missing : (place : ℕ) → place < length its.query.from → is_missing its.query its.stats place ≡ false
-  not_missing place low = none_passes (is_missing its.query its.stats) 0 (length its.query.from) made_so.0 place (omega arith) (omega (arith, low))
+  not_missing place low = none_passes (is_missing its.query its.stats) 0 (length its.query.from) its.there place (omega arith) (omega (arith, low))
 
   pub found : (place : ℕ) → place < length its.query.from → (first : ℕ) × (first_entry start.query (table_of its.query place) ≡ Some first)
   found place low =
@@ -194,27 +193,23 @@ module _ (made : StatsCall) (schema : Schema) (first_bytes : List ℕ) (start : 
   pub over : IsOver made planned schema its.query (moved start.query (tables_of start.database) its.query)
   over = record { asks = asks planned.query_file planned.files schema its.query query_there; rows = rows_there }
 
-  -- ---- its text
+  -- ---- the plan's text
 
   abbrev pub its_plan : PlanFromStatsFile
-  its_plan = record { query = its.query; file = its.stats; plan = its.plan; memory = planned.memory }
+  its_plan = record { query = its.query; file = its.stats; plan = its.plan; memory = planned.terms.memory }
 
   pub holds_for : (grown : Tables) → StandsFor its.query known.file grown
-      → PrintsOrder planned.memory its.query grown (scans_of its.query grown) (stats_file_plan_text (record { query = its.query; file = its.stats; plan = its.plan; memory = planned.memory }))
+      → PrintsPlan planned.terms.shape planned.terms.memory its.query grown (scans_of its.query grown) (plan_text_of its.query.from its.plan planned.terms.memory)
   holds_for grown stands =
       let holds : HoldsWhereItStands its_plan = subst NoBoundIsTooLow (sym its.is) (ended planned.call command planned.files from.done).holds in
-      let plan : IsPlanOf its.query grown (scans_of its.query grown) its.plan = holds grown (subst (λ (f : StatsFile). StandsFor its.query f grown) (sym stats_same) stands) in
-      record {
-        plan = its.plan;
-        holds = record { each_entry = plan.for_each_entry; scans_fit = plan.scans; levels_fit = plan.levels };
-        within = its.within;
-        prints = refl;
-      }
+      let plan : IsPlanOver its.query grown (scans_of its.query grown) its.plan = holds grown (subst (λ (f : StatsFile). StandsFor its.query f grown) (sym stats_same) stands) in
+      text_prints planned.terms.shape (set_bounds_of_file its.query its.stats) (scan_bounds_of_file its.query its.stats) planned.terms.budget planned.terms.memory its.query grown
+      (scans_of its.query grown) its.plan its.planned (over_so its.query grown (scans_of its.query grown) its.plan plan) its.within
 
-  pub written : Grew planned.call.notes (stats_file_plan_text (record { query = its.query; file = its.stats; plan = its.plan; memory = planned.memory }))
+  pub written : Grew planned.call.notes (plan_text_of its.query.from its.plan planned.terms.memory)
   written = subst (λ (o : RunOutcome). GrewWhole planned.call.notes (notes_text o)) (sym its.is) (ended planned.call command planned.files from.done).notes
 
--- ---- from what `stats` wrote
+-- ---- a plan from the file that `stats` wrote
 
 module _ (schema : Schema) (bytes : List ℕ) (made : StatsCall) (planned : PlanCall) (wrote : WroteStats made schema bytes) (from : PlannedFrom schema bytes planned) where
   start : FromStats made bytes schema
@@ -229,14 +224,14 @@ module _ (schema : Schema) (bytes : List ℕ) (made : StatsCall) (planned : Plan
         query = plan.query;
         tables = tables;
         over = over made schema bytes s bytes (tables_of s.database) s.known planned from;
-        text = stats_file_plan_text (record { query = plan.query; file = plan.stats; plan = plan.plan; memory = planned.memory });
+        text = plan_text_of plan.query.from plan.plan planned.terms.memory;
         plan = holds_for made schema bytes s bytes (tables_of s.database) s.known planned from tables
             (stands_for_other s.query plan.query s.known.file (tables_of s.database) tables s.known.stands s.known.of
             (same_old made schema bytes s bytes (tables_of s.database) s.known planned from));
         written = written made schema bytes s bytes (tables_of s.database) s.known planned from;
       }
 
--- ---- from what appends made of it
+-- ---- a plan from the file after any number of appends
 
 module _ (schema : Schema) (bytes : List ℕ) (made : StatsCall) (appends : List AppendCall) (planned : PlanCall) (wrote : WroteStats made schema bytes)
     (did : AppendedEach schema bytes appends) (from : PlannedFrom schema (last_bytes bytes appends) planned) where
@@ -260,7 +255,7 @@ module _ (schema : Schema) (bytes : List ℕ) (made : StatsCall) (appends : List
         over = over made schema bytes s last grown more.known planned from;
         added = more.added;
         adds = more.adds;
-        text = stats_file_plan_text (record { query = plan.query; file = plan.stats; plan = plan.plan; memory = planned.memory });
+        text = plan_text_of plan.query.from plan.plan planned.terms.memory;
         plan = holds_for made schema bytes s last grown more.known planned from (with_added plan.query tables more.added)
             (stands_for_other s.query plan.query more.known.file grown (with_added plan.query tables more.added) more.known.stands more.known.of
             (added_same s.query read plan.query tables more.added (same_old made schema bytes s last grown more.known planned from)));

@@ -1,4 +1,4 @@
--- The rows in a table's file are those of some cells, over a pool that grows.
+-- The rows in a table's file are the rows of some cells, whose texts are in a pool that grows.
 use Rattle.std.proofs.Common.{◌≡◌, ℕ, zero, suc, ◌+◌, ◌<◌, ◌≤◌, ℤ, Bool, true, false, not, if◌then◌else◌, List, [], ◌∷◌, ◌++◌, length, get_or, Option, None, Some, Result, Ok, Err, refl, ap, sym, ◌∙◌, subst, arith, SFits, append-nil}
 use Rattle.std.specs.Prelude.{All, ◌==◌, ◌&&◌, nat_lt, nat_le, option_map, replicate}
 use Rattle.std.specs.List.{AllByRecursion, IsDistinct, list_any}
@@ -48,12 +48,10 @@ use Rattle.table_files.proofs.FewRows.{then_ok, with_keys}
 
 -- ---- pools
 
--- UTF-8 texts, each of them once
 pub record IsPool (texts : List (List ℕ)) : Type 0 where
   pub utf8 : All IsUtf8 texts
   pub once : IsDistinct bytes_eq texts
 
--- a pool that begins with the old texts, and has at most `most` more
 pub record GrowsByFile (old new : List (List ℕ)) (most : ℕ) : Type 0 where
   pub pool : IsPool new
   pub begins : PoolBeginsWith old new
@@ -144,7 +142,7 @@ value_cell kind.Int field value old pool utf8 e =
     (decimal_after 0 (without_sign field)) (greatest_magnitude (is_minus field)) size refl is) e
 value_cell (kind.Text most) field value old pool utf8 e = text_value most (nat_le (length (chars field)) most) field value old pool utf8 e
 
--- ---- steps that gave something
+-- ---- if two steps in a row have a value, each of them has one
 
 pub record ThenBoth {A : Type 0} (first : Result A TableError) (rest : Result (List A) TableError) (all : List A) : Type 0 where
   pub x : A
@@ -254,7 +252,6 @@ places_paired number (column ∷ columns) header places e =
     let both = then_both (or_refuse (error.Header number) (column_place column.name header)) (column_places (number + 1) columns header) places e in
     ap length (sym both.whole) ∙ ap (λ (n : ℕ). suc n) (places_paired (number + 1) columns header both.xs both.rest_is)
 
--- cells of a table with these rows, over a pool that grew
 pub record TableFound (table : Table) (rows : List Row) (old : List (List ℕ)) : Type 0 where
   pub new : List (List ℕ)
   pub cells : Cells

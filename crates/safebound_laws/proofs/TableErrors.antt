@@ -1,4 +1,4 @@
--- A table's bytes are never refused for want of memory.
+-- A table's bytes are never refused with NoMemory.
 use Rattle.std.proofs.Common.{◌≡◌, ◌≢◌, ℕ, ◌+◌, ◌∷◌, [], List, length, Bool, true, false, not, Option, None, Some, Result, Ok, Err, subst}
 use Rattle.std.specs.Prelude.{IfErr, ◌==◌, nat_lt, slice_index_or}
 use Rattle.std.specs.Str.{is_utf8}
@@ -69,7 +69,6 @@ rows_so columns places width number (fields ∷ records) =
     both (row_of_record columns places width number fields) (rows_of_records columns places width (number + 1) records)
     (row_so columns places width number fields) (rows_so columns places width (number + 1) records)
 
--- if f answers no want of memory for None and for each value, it never does
 option_so : {X : Type 0} (f : Option X → Result (List Row) TableError) → Wantless (f None) → ((x : X) → Wantless (f (Some x))) → (found : Option X) → Wantless (f found)
 option_so f none some None = none
 option_so f none some (Some x) = some x

@@ -1,4 +1,4 @@
--- What `append` does, by the verdict: what it reads, what it writes, and for which rows the new file stands.
+-- What `append` does by the verdict: which files it reads, which file it writes, and for which rows the new file stands.
 use Rattle.std.specs.Prelude.{ℕ, ◌≡◌, ◌+◌, ◌≤◌, List, length, Ok}
 use Rattle.appended_stats.specs.Appended.{file_after}
 use Rattle.appended_stats.specs.Conditions.{HasNewRows}
@@ -6,7 +6,6 @@ use Rattle.base_io.specs.Files.{Files}
 use Rattle.csv_tables.specs.Rows.{Row}
 use Rattle.stats_file_of_query.specs.Standing.{StandsFor}
 use Rattle.join_steps.specs.Lists.{scans_of}
-use Rattle.join_steps.specs.Plans.{IsPlanOf}
 use Rattle.limits.specs.Profile.{most_rows}
 use Rattle.query_types.specs.declared.types.Query.{Query}
 use Rattle.schema_types.specs.declared.types.Schema.{Schema}
@@ -16,12 +15,13 @@ use Rattle.stats_file.specs.declared.types.TableStats.{TableStats}
 use Rattle.table_files.specs.Stage.{table_at}
 use Rattle.table_files.specs.TableFile.{rows_in}
 use Rattle.prepared_runs.specs.Appending.{section_stage}
+use Rattle.prepared_runs.specs.Shapes.{IsPlanOver}
 use Rattle.prepared_runs.specs.StatsFiles.{stats_stage}
 use Rattle.prepared_runs.specs.RunOutcome.{Appended, PlanFromStatsFile, RunOutcome, PlannedFromStats}
 use Rattle.prepared_runs.specs.Verdict.{schema_stage, verdict}
 
--- the command's files hold the schema, the statistics file with its section of the table, and the new rows. With these rows the table has at most as
--- many rows as a table may have. The outcome is that statistics file after these rows
+-- the files of the command have the schema, the statistics file with its section of the table, and the new rows. With the new rows the table
+-- has at most as many rows as a table may have. The outcome is the statistics file with the new rows counted
 pub record GrowsByFile (files : Files) (schema_file stats_file name rows_file : List ℕ) (outcome : RunOutcome) : Type 0 where
   pub schema : Schema
   pub schema_is : schema_stage schema_file files ≡ Ok schema
@@ -41,9 +41,9 @@ abbrev pub StandsAfter : StatsFile → ℕ → List Row → StatsFile → Type 0
 StandsAfter before table rows after = (query : Query) (tables grown : Tables) → StandsFor query before tables → HasNewRows query table rows tables grown
     → StandsFor query after grown
 
--- if `before` stands for the tables of a plan's query, no bound of a plan from `after` is too low for the tables with the new rows
+-- if `before` stands for the tables of a plan's query, then no bound of a plan from `after` is too low for the tables with the new rows
 abbrev pub PlansAfter : StatsFile → ℕ → List Row → StatsFile → Type 0
 PlansAfter before table rows after = (words : List (List ℕ)) (files : Files) (plan : PlanFromStatsFile) (tables grown : Tables)
     → verdict words files ≡ Ok (PlannedFromStats plan) → plan.file ≡ after
     → StandsFor plan.query before tables → HasNewRows plan.query table rows tables grown
-    → IsPlanOf plan.query grown (scans_of plan.query grown) plan.plan
+    → IsPlanOver plan.query grown (scans_of plan.query grown) plan.plan

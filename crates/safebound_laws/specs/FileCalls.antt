@@ -1,6 +1,6 @@
--- Calls of `stats`, `append` and `plan --stats` that ended with Done. They are connected by the bytes of a statistics file, which one call wrote and
--- the next one read.
-use Rattle.std.specs.Prelude.{ℕ, ◌≡◌, ◌++◌, List, [], ◌∷◌, Option, None, Some, ⊤}
+-- Calls of `stats`, `append` and `plan --stats` that ended with Done. Two calls are connected by the bytes of a statistics file: one call
+-- wrote the bytes, and the next call read them.
+use Rattle.std.specs.Prelude.{ℕ, ◌≡◌, ◌++◌, List, [], ◌∷◌, None, Some, ⊤}
 use Rattle.base_io.specs.Devices.{Growth}
 use Rattle.base_io.specs.Files.{Files, file_of}
 use Rattle.outcomes.specs.declared.status.Status.TheVariants as status
@@ -8,17 +8,18 @@ use Rattle.safebound_words.specs.CommandLines.{AskFor}
 use Rattle.safebound_words.specs.Commands.{over_query, with_rows}
 use Rattle.safebound_words.specs.declared.command.Command.{Command}
 use Rattle.safebound_words.specs.declared.command.NewRows.{NewRows}
+use Rattle.safebound_words.specs.declared.command.PlanTerms.{PlanTerms}
 use Rattle.safebound_words.specs.declared.command.Work.TheVariants as works
 use Rattle.schema_types.specs.declared.types.Schema.{Schema}
 use Rattle.safebound_top.specs.Call.{Call}
 use Rattle.safebound_top.specs.Headline.{Headline}
 use Rattle.safebound_top.specs.Promise.{DeclaresSchema}
 
--- a sink that tells its bytes took exactly these
+-- the bytes of the sink are known, and it took exactly `bytes`
 abbrev pub Took : Growth → List ℕ → Type 0
 Took sink bytes = (before : List ℕ) × (sink.taken_before ≡ Some before) × (sink.taken_after ≡ Some (before ++ bytes))
 
--- the headline holds of the call, its words ask for this command, and it ended with Done over these files, which its store tells
+-- the headline holds for the call, its words ask for the command, and it ended with Done. `files` are the files of its store
 pub record IsDone (call : Call) (command : Command) (files : Files) : Type 0 where
   pub headline : Headline call
   pub asked : AskFor call.words command
@@ -27,7 +28,7 @@ pub record IsDone (call : Call) (command : Command) (files : Files) : Type 0 whe
 
 -- ---- stats
 
--- a call with the files that it read, and what its words say
+-- a call of `stats`, its files, and what its words say
 pub record StatsCall : Type 0 where
   pub call : Call
   pub files : Files
@@ -35,7 +36,7 @@ pub record StatsCall : Type 0 where
   pub query_file : List ℕ
   pub accuracy : ℕ
 
--- over this schema `stats` wrote these bytes
+-- the call of `stats` read this schema and wrote these bytes
 pub record WroteStats (made : StatsCall) (schema : Schema) (bytes : List ℕ) : Type 0 where
   pub done : IsDone made.call (over_query None made.schema_file made.query_file (works.WriteStats made.accuracy)) made.files
   pub declares : DeclaresSchema made.files made.schema_file schema
@@ -43,7 +44,7 @@ pub record WroteStats (made : StatsCall) (schema : Schema) (bytes : List ℕ) : 
 
 -- ---- append
 
--- a call with the files that it read, what its words say, and the bytes that it wrote
+-- a call of `append`, its files, what its words say, and the bytes that it wrote
 pub record AppendCall : Type 0 where
   pub call : Call
   pub files : Files
@@ -51,37 +52,36 @@ pub record AppendCall : Type 0 where
   pub names : NewRows
   pub bytes : List ℕ
 
--- over this schema `append` read these bytes as its statistics file
+-- the call of `append` read this schema, and its statistics file has these bytes
 pub record AppendedTo (schema : Schema) (before : List ℕ) (append : AppendCall) : Type 0 where
   pub done : IsDone append.call (with_rows append.schema_file append.names) append.files
   pub declares : DeclaresSchema append.files append.schema_file schema
   pub there : file_of append.files append.names.stats_file ≡ Some before
   pub wrote : Took append.call.out append.bytes
 
--- each call of `append` read the bytes that the call before it wrote, and the first one read the given bytes
+-- each call of `append` read the bytes that the call before it wrote, and the first call read the bytes `before`
 abbrev pub AppendedEach : Schema → List ℕ → List AppendCall → Type 0
 AppendedEach schema before [] = ⊤
 AppendedEach schema before (append ∷ appends) = AppendedTo schema before append × AppendedEach schema append.bytes appends
 
--- the bytes that the last call of `append` wrote, or the given ones if there is no call
+-- the bytes that the last call of `append` wrote, or `before` if there is no call
 abbrev pub last_bytes : List ℕ → List AppendCall → List ℕ
 last_bytes before [] = before
 last_bytes before (append ∷ appends) = last_bytes append.bytes appends
 
 -- ---- plan --stats
 
--- a call with the files that it read, and what its words say
+-- a call of `plan --stats`, its files, and what its words say
 pub record PlanCall : Type 0 where
   pub call : Call
   pub files : Files
   pub schema_file : List ℕ
   pub query_file : List ℕ
   pub stats_file : List ℕ
-  pub budget : ℕ
-  pub memory : Option ℕ
+  pub terms : PlanTerms
 
--- over this schema `plan --stats` read these bytes as its statistics file
+-- the call of `plan --stats` read this schema, and its statistics file has these bytes
 pub record PlannedFrom (schema : Schema) (bytes : List ℕ) (planned : PlanCall) : Type 0 where
-  pub done : IsDone planned.call (over_query None planned.schema_file planned.query_file (works.PlanFromStats planned.stats_file planned.budget planned.memory)) planned.files
+  pub done : IsDone planned.call (over_query None planned.schema_file planned.query_file (works.PlanFromStats planned.stats_file planned.terms)) planned.files
   pub declares : DeclaresSchema planned.files planned.schema_file schema
   pub there : file_of planned.files planned.stats_file ≡ Some bytes

@@ -1,4 +1,4 @@
--- What a plan from a statistics file says of the rows in table files: those that `stats` read, and those that `append` read after it.
+-- What a plan from a statistics file says about the rows in table files: the rows that `stats` read, and the rows that `append` read after `stats`.
 use Rattle.std.specs.Prelude.{ℕ, ◌≡◌, ◌<◌, ◌==◌, if◌then◌else◌, ◌++◌, List, [], ◌∷◌, length, slice_get, Some, Ok, true, ⊤}
 use Rattle.std.specs.List.{flat_map}
 use Rattle.std.specs.Str.{str_eq_ignore_ascii_case}
@@ -7,54 +7,62 @@ use Rattle.csv_tables.specs.Files.{rows_of_file}
 use Rattle.csv_tables.specs.Rows.{Row}
 use Rattle.stats_file_of_query.specs.Needs.{table_of}
 use Rattle.join_steps.specs.Lists.{scans_of}
-use Rattle.plan_nearness.specs.Nearness.{LevelsAreNear}
-use Rattle.planning.specs.Plans.{planned as planned_over}
-use Rattle.plans.specs.declared.left_deep.Plan.{Plan}
-use Rattle.printed_texts.specs.Memory.{memory_text}
-use Rattle.printed_texts.specs.Plans.{plan_lines}
+use Rattle.plan_nearness.specs.Nearness.{LevelsAreNear, NodesAreNear}
 use Rattle.query_types.specs.declared.types.Query.{Query}
-use Rattle.reserve_plan.specs.Memory.{plan_bytes}
 use Rattle.schema_types.specs.declared.types.Schema.{Schema}
 use Rattle.schema_types.specs.declared.types.Table.{Table}
 use Rattle.sql_meaning.specs.Tables.{Tables}
 use Rattle.safebound_top.specs.Call.{Grew}
-use Rattle.safebound_top.specs.Promise.{AreInFile, AsksQuery, PrintsOrder}
+use Rattle.safebound_top.specs.Promise.{AreInFile, AsksQuery, PrintsPlan}
+use Rattle.safebound_top.specs.Texts.{plan_text_of}
+use Rattle.prepared_runs.specs.Shapes.{planned_by}
+use Rattle.prepared_runs.specs.Sources.{sourced}
+use Rattle.prepared_runs.specs.declared.shapes.AnyPlan.{AnyPlan}
+use Rattle.prepared_runs.specs.declared.shapes.AnyPlan.TheVariants as shaped
+use Rattle.safebound_words.specs.declared.command.ListSource.TheVariants as sources
 use Rattle.safebound_laws.specs.FileCalls.{AppendCall, PlanCall, StatsCall}
 
 -- ---- the rows that `stats` read
 
--- `query` is the query that `plan --stats` read. `tables` has for each of its entries the rows of its table's file, as `stats` read it
+-- `query` is the query that `plan --stats` read. `tables` has for each entry of the query the rows of its table's file, as `stats` read the file
 pub record IsOver (made : StatsCall) (planned : PlanCall) (schema : Schema) (query : Query) (tables : Tables) : Type 0 where
   pub asks : AsksQuery planned.files planned.query_file schema query
   pub rows : (entry : ℕ) → entry < length query.from → AreInFile made.files schema query entry (tables entry)
 
--- `plan --stats` wrote the text of a plan to notes, and over the rows that `stats` read no scan and no level has more rows than the text says
+-- `plan --stats` wrote the text of a plan to notes, and over the rows that `stats` read no scan and no level or node has more rows than the text
+-- says
 pub record PlanHolds (made : StatsCall) (planned : PlanCall) (schema : Schema) : Type 0 where
   pub query : Query
   pub tables : Tables
   pub over : IsOver made planned schema query tables
   pub text : List ℕ
-  pub plan : PrintsOrder planned.memory query tables (scans_of query tables) text
+  pub plan : PrintsPlan planned.terms.shape planned.terms.memory query tables (scans_of query tables) text
   pub written : Grew planned.call.notes text
 
--- `plan --stats` wrote to notes the plan that `plan` makes of the rows that `stats` read, at the accuracy of `stats` and within the budget of
+-- `plan --stats` wrote to notes the plan that `plan` makes of the rows that `stats` read, at the accuracy of `stats` and on the terms of
 -- `plan --stats`
 pub record PlanIsOfTables (made : StatsCall) (planned : PlanCall) (schema : Schema) : Type 0 where
   pub query : Query
   pub tables : Tables
   pub over : IsOver made planned schema query tables
-  pub plan : Plan
-  pub same : planned_over query tables made.accuracy planned.budget ≡ Ok plan
-  pub written : Grew planned.call.notes (plan_lines query.from plan ++ memory_text planned.memory (plan_bytes plan.order plan.scans plan.levels))
+  pub plan : AnyPlan
+  pub same : planned_by planned.terms.shape (sourced sources.Columns schema query tables) made.accuracy planned.terms.budget ≡ Ok plan
+  pub written : Grew planned.call.notes (plan_text_of query.from plan planned.terms.memory)
 
--- `plan --stats` wrote a plan to notes, and the bound of each level is near the uncompressed one over the rows that `stats` read
+-- the bound of each level or inner node is near the bound without compression
+abbrev pub PartsAreNear : Query → Tables → ℕ → AnyPlan → Type 0
+PartsAreNear query tables accuracy (shaped.OrderPlan plan) = LevelsAreNear query tables accuracy plan
+PartsAreNear query tables accuracy (shaped.TreePlan plan) = NodesAreNear query tables accuracy plan
+
+-- `plan --stats` wrote a plan to notes, and the bound of each level or inner node is near the bound without compression, over the rows that
+-- `stats` read
 pub record PlanIsNear (made : StatsCall) (planned : PlanCall) (schema : Schema) : Type 0 where
   pub query : Query
   pub tables : Tables
   pub over : IsOver made planned schema query tables
-  pub plan : Plan
-  pub near : LevelsAreNear query tables made.accuracy plan
-  pub written : Grew planned.call.notes (plan_lines query.from plan ++ memory_text planned.memory (plan_bytes plan.order plan.scans plan.levels))
+  pub plan : AnyPlan
+  pub near : PartsAreNear query tables made.accuracy plan
+  pub written : Grew planned.call.notes (plan_text_of query.from plan planned.terms.memory)
 
 -- ---- the rows that were appended
 
@@ -63,7 +71,7 @@ pub record Added : Type 0 where
   pub table : ℕ
   pub rows : List Row
 
--- the words of `append` name the table and a file, and the added rows are those in this file
+-- the words of `append` name the table and a file, and the added rows are the rows in this file
 pub record AddsRowsOfFile (schema : Schema) (append : AppendCall) (added : Added) : Type 0 where
   pub table : Table
   pub is_table : slice_get schema.tables added.table ≡ Some table
@@ -72,7 +80,7 @@ pub record AddsRowsOfFile (schema : Schema) (append : AppendCall) (added : Added
   pub there : file_of append.files append.names.rows_file ≡ Some bytes
   pub read : rows_of_file table bytes ≡ Ok added.rows
 
--- each call of `append` added the rows at the same place of the other list
+-- the two lists are equally long, and the call of `append` at each place added the rows at the same place of the other list
 abbrev pub AddEach : Schema → List AppendCall → List Added → Type 0
 AddEach schema [] [] = ⊤
 AddEach schema [] (added ∷ more) = ⊥
@@ -83,12 +91,12 @@ AddEach schema (append ∷ appends) (added ∷ more) = AddsRowsOfFile schema app
 abbrev pub added_rows : ℕ → List Added → List Row
 added_rows table added = flat_map (λ (one : Added). if table == one.table then one.rows else []) added
 
--- the rows of each entry, and after them those that were added to its table
+-- the rows of each entry, followed by the rows that were added to its table
 abbrev pub with_added : Query → Tables → List Added → Tables
 with_added query tables added entry = tables entry ++ added_rows (table_of query entry) added
 
--- `plan --stats` wrote the text of a plan to notes. Over the rows that `stats` read, with all added rows after them, no scan and no level has
--- more rows than the text says
+-- `plan --stats` wrote the text of a plan to notes. Over the rows that `stats` read, with all added rows after them, no scan and no level
+-- or node has more rows than the text says
 pub record GrownPlanHolds (made : StatsCall) (appends : List AppendCall) (planned : PlanCall) (schema : Schema) : Type 0 where
   pub query : Query
   pub tables : Tables
@@ -96,5 +104,5 @@ pub record GrownPlanHolds (made : StatsCall) (appends : List AppendCall) (planne
   pub added : List Added
   pub adds : AddEach schema appends added
   pub text : List ℕ
-  pub plan : PrintsOrder planned.memory query (with_added query tables added) (scans_of query (with_added query tables added)) text
+  pub plan : PrintsPlan planned.terms.shape planned.terms.memory query (with_added query tables added) (scans_of query (with_added query tables added)) text
   pub written : Grew planned.call.notes text

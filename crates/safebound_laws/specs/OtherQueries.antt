@@ -12,7 +12,7 @@ use Rattle.stats_file.specs.declared.types.TableStats.{TableStats}
 abbrev pub IsOfTables : Query → StatsFile → Type 0
 IsOfTables query file = (table : ℕ) (section : TableStats) → section_of file table ≡ Some section → (first : ℕ) × (first_entry query table ≡ Some first)
 
--- if an entry of the one query and an entry of the other are of the same table, they have the same rows
+-- if an entry of one query and an entry of the other query are of the same table, they have the same rows
 abbrev pub HaveSameRows : Query → Tables → Query → Tables → Type 0
 HaveSameRows query tables other also =
     (entry place : ℕ) → entry < length query.from → place < length other.from → table_of query entry ≡ table_of other place → tables entry ≡ also place

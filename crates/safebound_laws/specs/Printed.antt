@@ -1,8 +1,16 @@
--- What a run prints, by its outcome.
+-- The texts that a run prints, from its outcome; and the work of a plan over whole columns.
 use Rattle.std.specs.Prelude.{ℕ, List, Option}
 use Rattle.prepared_runs.specs.RunOutcome.{RunOutcome}
 use Rattle.safebound_top.specs.OutcomeTexts.{notes_text, out_text}
+use Rattle.safebound_words.specs.declared.command.ListSource.TheVariants as sources
+use Rattle.safebound_words.specs.declared.command.OutText.TheVariants as out
+use Rattle.safebound_words.specs.declared.command.PlanTerms.{PlanTerms}
+use Rattle.safebound_words.specs.declared.command.PlanWork.{PlanWork}
 
 -- the text for notes, if there is one, and the text for out, if there is one
 abbrev pub printed : RunOutcome → Option (List ℕ) × Option (List ℕ)
 printed outcome = (notes_text outcome, out_text outcome)
+
+-- what `plan` asks without a flag for a source: statistics of whole columns at an accuracy, and no text for out
+abbrev pub plan_of_columns : PlanTerms → ℕ → PlanWork
+plan_of_columns terms accuracy = record { terms = terms; accuracy = accuracy; source = sources.Columns; out = out.Nothing }

@@ -1,4 +1,4 @@
-//! What follows from the headline and the verdict: no law computes anything, and its contract is the law.
+//! Laws that follow from the headline and the verdict. A call does nothing; its contract is the law.
 ghost use Rattle.std.specs.Prelude.{◌≡◌, ◌≢◌, ℕ, List, Option, Ok, Some};
 ghost use Rattle.base_io.specs.Files.{Files};
 ghost use Rattle.outcomes.specs.declared.names.FileId.{FileId};
@@ -20,12 +20,12 @@ ghost use Rattle.prepared_runs.specs.declared.shapes.AnyPlan.TheVariants as shap
 ghost use Rattle.safebound_words.specs.declared.command.ListSource.TheVariants as sources;
 ghost use Rattle.safebound_words.specs.declared.command.PlanWork.{PlanWork};
 
-/// If the headline holds of a call, then the promise of `run` holds of it too. The promise names no stage of the program.
+/// If the headline holds for a call, then the promise of `run` holds for the call too. The promise names no stage of the program.
 pub fn the_headline_keeps_the_promise()
     ensures { (call : Call) → Headline call → Promise call }
 {}
 
-/// `demo` never ends with a read fault or an absent file: it reads only files of its shop, and no read of these fails.
+/// `demo` never ends with a read fault or an absent file. It reads only the files of its shop, which are in memory, and these reads never fail.
 pub fn demo_meets_no_read_fault()
     ensures fault { (call : Call) (number : ℕ) → Headline call → shop_of call.words ≡ Some number → call.store ≡ shop_store number
         → (file : FileId) → call.status ≢ status.ReadFault file }
@@ -33,8 +33,9 @@ pub fn demo_meets_no_read_fault()
         → (file : FileId) → call.status ≢ status.Refused (refusal.Missing file) }
 {}
 
-/// Printed bounds are near the uncompressed ones, if no conjunct names one entry alone and none of `--keys`, `--reduce` and `--count` is given. At
-/// accuracy K, K^n times the printed bound of a level or inner node of n entries is at most (K + 1)^n times its uncompressed bound.
+/// Printed bounds are near the bounds without compression, if no conjunct names one entry alone and none of `--keys`, `--reduce` and
+/// `--count` is given. At accuracy K, K^n times the printed bound of a level or inner node of n entries is at most (K + 1)^n times its bound
+/// without compression.
 pub fn printed_bounds_are_near()
     ensures levels { (words : List (List ℕ)) (files : Files) (shop : Option ℕ) (schema query : List ℕ) (task : PlanWork) (run : AcceptedQuery) (plan : Plan)
         → command_stage words ≡ Ok (over_query shop schema query (works.Plan task)) → verdict words files ≡ Ok (Planned run)

@@ -1,11 +1,11 @@
-//! What holds of statistics files and of the verdicts over them: no law computes anything, and the contract is the law.
-ghost use Rattle.std.specs.Prelude.{◌≡◌, ◌⊎◌, ◌<◌, ◌≤◌, ℕ, List, Option, Result, Ok, Err, None, Some, false};
+//! Laws about statistics files, and about the verdicts over them. A call does nothing; its contract is the law.
+ghost use Rattle.std.specs.Prelude.{◌≡◌, ◌⊎◌, ◌<◌, ◌≤◌, ℕ, List, Result, Ok, Err, None, Some};
 ghost use Rattle.limits.specs.Profile.{most_accuracy, most_file};
 ghost use Rattle.base_io.specs.Files.{Files};
 ghost use Rattle.outcomes.specs.Reads.{seen};
 ghost use Rattle.outcomes.specs.declared.names.FileId.TheVariants as file;
-ghost use Rattle.safebound_words.specs.Commands.{over_query, plan_by};
-ghost use Rattle.safebound_words.specs.declared.command.OutText.TheVariants as out_text;
+ghost use Rattle.safebound_words.specs.Commands.{over_query};
+ghost use Rattle.safebound_words.specs.declared.command.PlanTerms.{PlanTerms};
 ghost use Rattle.safebound_words.specs.declared.command.Work.TheVariants as works;
 ghost use Rattle.schema_types.specs.Texts.{IsSchemaOf};
 ghost use Rattle.schema_types.specs.declared.types.Schema.{Schema};
@@ -20,10 +20,10 @@ ghost use Rattle.table_files.specs.TableFile.{read};
 ghost use Rattle.prepared_runs.specs.RunOutcome.{RunOutcome};
 ghost use Rattle.safebound_top.specs.OutcomeTexts.{out_text};
 ghost use Rattle.prepared_runs.specs.Verdict.{command_run};
-ghost use Rattle.safebound_laws.specs.Printed.{printed};
+ghost use Rattle.safebound_laws.specs.Printed.{plan_of_columns, printed};
 
-/// Take a schema that a text declares, and a statistics file that keeps the rules. By the definition the file's text is read as this file. A reader
-/// of the text answers this file too, or that memory ran out.
+/// Take a schema that a text declares, and a statistics file that keeps the rules. Then `stats_answer` of the file's text is this file. A
+/// reader of the text also returns this file, or says that memory ran out.
 pub fn files_of_declared_schemas_are_read()
     ensures answered { (text : List ℕ) (schema : Schema) (file : StatsFile) → IsSchemaOf text (Ok schema) → KeepsRules schema file
         → stats_answer schema (file_text schema file) ≡ Ok file }
@@ -32,14 +32,14 @@ pub fn files_of_declared_schemas_are_read()
         → (answer ≡ Ok file) ⊎ (answer ≡ Err error.NoMemory) }
 {}
 
-/// Suppose that `stats` over some files writes the text of a statistics file, and that a file with these bytes is among them. Then `plan --stats`
-/// with this file prints what `plan` prints at the accuracy of `stats`, or both are refused for the same cause. This holds for each budget and each
-/// limit of memory.
+/// Suppose that `stats` over some files writes the text of a statistics file, and that one of these files, `stats_file`, has exactly this
+/// text. Then `plan --stats` with this file prints what `plan` prints at the accuracy of `stats`, or both are refused for the same cause.
+/// This holds for each budget, each shape and each limit of memory.
 pub fn files_plan_as_their_tables()
-    ensures { (schema_file query_file stats_file : List ℕ) (accuracy budget : ℕ) (memory : Option ℕ) (files : Files) (written : RunOutcome) (text : List ℕ)
+    ensures { (schema_file query_file stats_file : List ℕ) (accuracy : ℕ) (terms : PlanTerms) (files : Files) (written : RunOutcome) (text : List ℕ)
         → 0 < accuracy → accuracy ≤ most_accuracy
         → command_run (over_query None schema_file query_file (works.WriteStats accuracy)) files ≡ Ok written → out_text written ≡ Some text
         → read file.Stats most_file stats_file files ≡ Ok text
-        → seen printed (command_run (over_query None schema_file query_file (works.PlanFromStats stats_file budget memory)) files)
-        ≡ seen printed (command_run (over_query None schema_file query_file (plan_by out_text.Nothing budget accuracy false false false memory)) files) }
+        → seen printed (command_run (over_query None schema_file query_file (works.PlanFromStats stats_file terms)) files)
+        ≡ seen printed (command_run (over_query None schema_file query_file (works.Plan (plan_of_columns terms accuracy))) files) }
 {}

@@ -1,12 +1,14 @@
-//! Laws about every run. A function here does nothing: its `ensures` clauses are the law.
-ghost use Rattle.std.specs.Prelude.{◌≡◌, ◌≢◌, ◌∷◌, [], ℕ, List, Err, IfOk, Ok, Some, codes};
+//! Laws about every run. A call does nothing; its contract is the law.
+ghost use Rattle.std.specs.Prelude.{◌≡◌, ◌≢◌, ◌∷◌, [], ℕ, List, Err, IfOk, None, Ok, Some, codes};
 ghost use Rattle.base_io.specs.Files.{Files};
 ghost use Rattle.csv_tables.specs.Files.{rows_of_file};
 ghost use Rattle.csv_tables.specs.Rows.{Row};
-ghost use Rattle.stats_file_bounds.specs.Plans.{stats_file_plan};
-ghost use Rattle.stats_file_bounds.specs.declared.errors.StatsFilePlanError.TheVariants as filed_error;
+ghost use Rattle.stats_file_bounds.specs.Entries.{IsFile};
+ghost use Rattle.stats_file_bounds.specs.Found.{first_missing};
+ghost use Rattle.stats_file_of_query.specs.Standing.{StandsFor};
 ghost use Rattle.csv_tables.specs.declared.types.TableError.TheVariants as table_error;
 ghost use Rattle.order_search.specs.declared.refusal.PlanError.TheVariants as plan_error;
+ghost use Rattle.query_types.specs.Named.{NamesItsEntries};
 ghost use Rattle.query_types.specs.Validity.{IsOf};
 ghost use Rattle.query_types.specs.declared.types.Query.{Query};
 ghost use Rattle.schema_types.specs.declared.errors.SchemaError.TheVariants as schema_error;
@@ -25,7 +27,9 @@ ghost use Rattle.safebound_words.specs.Answer.{command_of};
 ghost use Rattle.safebound_words.specs.Commands.{demo_of};
 ghost use Rattle.prepared_runs.specs.RunOutcome.{KeepsItsLimit, NoBoundIsTooLow, PrintsTheAnswer};
 ghost use Rattle.prepared_runs.specs.Shapes.{planned_by};
-ghost use Rattle.prepared_runs.specs.Sources.{Needs, Sourced, sourced};
+ghost use Rattle.prepared_runs.specs.Sources.{Needs, Sourced, sourced, sourced_of_file};
+ghost use Rattle.prepared_runs.specs.StatsFiles.{plan_from_file_asked};
+ghost use Rattle.safebound_words.specs.declared.command.PlanTerms.{PlanTerms};
 ghost use Rattle.prepared_runs.specs.Standing.{IsSource};
 ghost use Rattle.prepared_runs.specs.Verdict.{verdict};
 ghost use Rattle.safebound_words.specs.declared.command.ListSource.{ListSource};
@@ -47,14 +51,17 @@ pub fn demo_is_an_audit()
         → verdict words files ≡ verdict (codes "audit" ∷ codes "schema.sql" ∷ codes "query.sql" ∷ []) files }
 {}
 
-/// A source gives bounds, and the rows that are joined. At every accuracy, no bound is below the number of rows that it bounds, and the joined
-/// rows lose no row of the answer. The source `Keyed` carries conditions through keys, so it needs tables in which the declared keys hold. They
-/// hold in all tables that were read from files.
+/// A source gives bounds, and the rows that are joined. At every accuracy, each bound is at least the number of rows that it bounds, and no
+/// row of the answer is lost if only the given rows are joined. The source `Keyed` carries conditions along declared keys, so it needs tables
+/// in which the declared keys hold. They hold in all tables that were read from files. A statistics file is
+/// a source too, for all tables for which it stands.
 pub fn sources_stand()
     ensures stand { (source : ListSource) (schema : Schema) (query : Query) (tables : Tables) → Needs source schema query tables
         → IsSource query tables (sourced source schema query tables) }
     ensures read { (source : ListSource) (schema : Schema) (query : Query) (files : Files) (rows : List (List Row)) → IsOf schema query
         → tables_stage schema query.from files ≡ Ok rows → Needs source schema query (tables_in rows) }
+    ensures files { (query : Query) (file : StatsFile) → NamesItsEntries query → IsFile file → first_missing query file ≡ None
+        → (tables : Tables) → StandsFor query file tables → IsSource query tables (sourced_of_file query file tables) }
 {}
 
 /// The program may run out of memory, but the definitions that specify it never give the error `NoMemory`. This holds for the texts of a schema, a
@@ -67,6 +74,6 @@ pub fn no_reader_wants_memory()
     ensures plans { (shape : Shape) (given : Sourced) (accuracy budget : ℕ)
         → planned_by shape given accuracy budget ≢ Err plan_error.NoMemory }
     ensures statistics { (schema : Schema) (text : List ℕ) → stats_answer schema text ≢ Err stats_error.NoMemory }
-    ensures filed_plans { (query : Query) (file : StatsFile) (budget : ℕ)
-        → stats_file_plan query file budget ≢ Err (filed_error.Plan plan_error.NoMemory) }
+    ensures filed_plans { (terms : PlanTerms) (query : Query) (file : StatsFile)
+        → plan_from_file_asked terms query file ≢ Err plan_error.NoMemory }
 {}

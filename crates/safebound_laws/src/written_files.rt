@@ -1,4 +1,4 @@
-//! What the laws of `file_plans` rest on: no law computes anything, and the contract is the law.
+//! Laws from which those of `file_plans` are proved. A call does nothing; its contract is the law.
 ghost use Rattle.std.specs.Prelude.{◌≡◌, ℕ, List, Ok};
 ghost use Rattle.base_io.specs.Files.{Files};
 ghost use Rattle.stats_file_of_query.specs.Standing.{StandsFor};
@@ -12,20 +12,20 @@ ghost use Rattle.prepared_runs.specs.RunOutcome.{RunOutcome};
 ghost use Rattle.safebound_laws.specs.Appends.{GrowsByFile};
 ghost use Rattle.safebound_laws.specs.OtherQueries.{HaveSameRows, IsOfTables};
 
-/// The file that `append` writes keeps the rules of files.
+/// The statistics file that `append` writes keeps the rules of statistics files.
 pub fn appended_files_keep_the_rules()
     ensures { (files : Files) (schema stats name rows : List ℕ) (outcome : RunOutcome) (grows : GrowsByFile files schema stats name rows outcome)
         → KeepsRules grows.schema grows.after }
 {}
 
-/// The text that `append` writes is read back as that file.
+/// The text that `append` writes is read back as the statistics file that it made.
 pub fn appended_texts_are_read_back()
     ensures { (files : Files) (schema stats name rows : List ℕ) (outcome : RunOutcome) (grows : GrowsByFile files schema stats name rows outcome)
         → stats_answer grows.schema (file_text grows.schema grows.after) ≡ Ok grows.after }
 {}
 
-/// Suppose that a file has sections only of tables that a query names, and stands for the query's tables. Then it stands for the tables of any other
-/// query too, as long as a table that both queries name has the same rows in both.
+/// Suppose that a statistics file has sections only of tables that a query names, and stands for the query's tables. Then the file stands for
+/// the tables of any other query too, if each table that both queries name has the same rows in both.
 pub fn files_stand_for_other_queries()
     ensures { (query other : Query) (file : StatsFile) (tables also : Tables) → StandsFor query file tables → IsOfTables query file
         → HaveSameRows query tables other also → StandsFor other file also }

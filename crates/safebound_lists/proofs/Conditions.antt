@@ -1,4 +1,5 @@
--- How many rows have picked keys, among those that satisfy conditions.
+-- The lemmas bound the number of rows with a picked key that satisfy two conditions, or at least one of two. They also bound the running sums of the greater
+-- of two lists.
 use Rattle.std.proofs.Common.{◌≡◌, ℕ, zero, suc, ◌+◌, ◌≤◌, Bool, true, false, ◌&&◌, ◌||◌, cond, List, [], ◌∷◌, map, ◌∙◌, sym, arith}
 use Rattle.std.specs.List.{count_by, filter, sum_by}
 use Rattle.std.proofs.lemmas.List.Sums.{sum_by-le-sum_by}
@@ -7,7 +8,6 @@ use Rattle.degree_sequences.specs.RunningSums.{running_sum}
 use Rattle.degree_sequences.proofs.Counting.{sum_by-both-le, sum_by-filter, sum_by-map}
 
 module _ (picked : ℕ → Bool) (key : ℕ → ℕ) where
-  -- the rows of a condition that have a picked key
   abbrev pub number : (ℕ → Bool) → List ℕ → ℕ
   number passes rows = count_by picked (map key (filter passes rows))
 
@@ -64,7 +64,7 @@ module _ (picked : ℕ → Bool) (key : ℕ → ℕ) where
               (λ row. no_more_together (first row) (second row) (one row)) rows,
         )
 
--- ---- the greater of two lists is above each
+-- ---- the running sums of the greater of two lists are at least the running sums of each list
 
 pub above_first : (s t : List ℕ) (r : ℕ) → running_sum s r ≤ running_sum (rank_maximum s t) r
 above_first s t zero = omega arith

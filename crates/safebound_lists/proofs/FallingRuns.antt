@@ -1,4 +1,4 @@
--- The runs of a falling list, from the first on.
+-- A falling list is split into runs. Equal elements stand side by side, so the loop goes from run to run.
 use Rattle.std.proofs.Common.{◌≡◌, ℕ, ◌+◌, ◌-◌, ◌<◌, ◌≤◌, true, false, eqb, List, ◌++◌, length, get_or, take, drop, replicate, ap, sym, ◌∙◌, subst, arith, inl, inr, add-zero}
 use Rattle.std.specs.List.{AllWithin}
 use Rattle.std.specs.List.Sorted.{IsPartitionPoint, IsPartitionedBy}
@@ -9,15 +9,12 @@ use Rattle.degree_lists.proofs.RunLengths.{take-run}
 use Rattle.degree_sequences.proofs.FallingLists.{falls_to}
 use Rattle.degree_sequences.specs.Falling.{IsFalling}
 
--- what is left, as a slice from a place to the end
 pub rest_is : (list : List ℕ) (start : ℕ) → take (length list - start) (drop start list) ≡ drop start list
 rest_is list start = take_all (length list - start) (drop start list) (omega (arith, length-drop start list))
 
--- its elements are those of the list
 at_rest : (list : List ℕ) (start k d : ℕ) → start + k < length list → get_or (drop start list) k d ≡ get_or list (start + k) 0
 at_rest list start k d low = get_or-drop start list k d ∙ get_or_default_zero list (start + k) d low
 
--- those that are equal to its first one come first
 pub equal_come_first : (list : List ℕ) (start : ℕ) → IsFalling list → start < length list
     → IsPartitionedBy (λ x. eqb x (get_or list start 0)) (drop start list)
 equal_come_first list start fall some i j d before low is =
@@ -27,7 +24,7 @@ equal_come_first list start fall some i j d before low is =
     omega (arith, equal, falls_to list fall start (start + i) (omega arith), falls_to list fall (start + i) (start + j) (omega arith)) in
     eq-eqb _ _ (at_rest list start i d (omega arith) ∙ same)
 
--- so where they end, the run ends
+-- `count` is the place in the rest where the elements end that are equal to its first element. So the run has `count` elements
 module _ (list : List ℕ) (start count : ℕ) (some : start < length list) (bound : count ≤ length (drop start list))
     (split : IsPartitionPoint (λ x. eqb x (get_or list start 0) ≡ true) (λ x. eqb x (get_or list start 0) ≡ false) (drop start list) count) where
   pub run_within : start + count ≤ length list
@@ -49,7 +46,6 @@ module _ (list : List ℕ) (start count : ℕ) (some : start < length list) (bou
         absurd (true≢false (sym (eq-eqb _ _ here) ∙ split.1 0 0 (omega arith) (omega (arith, length-drop start list)))))
   ]
 
--- one run more
 pub one_run_more : (list pieces longer : List ℕ) (start count value : ℕ) → start + count ≤ length list
     → AllWithin (λ x. x ≡ get_or list start 0) list start (start + count) → pieces ≡ take start list → value ≡ get_or list start 0
     → longer ≡ pieces ++ replicate count value → longer ≡ take (start + count) list

@@ -1,4 +1,4 @@
--- Runs that follow one another: their list, its sum and its length.
+-- Runs that follow one another stand for a list. The lemmas are about the sum and the length of this list, and about the test of the runs one by one.
 use Rattle.std.proofs.Common.{◌≡◌, ℕ, zero, suc, ◌+◌, ◌-◌, ◌*◌, ◌/◌, ◌<◌, ◌≤◌, ◌^◌, List, [], ◌∷◌, ◌++◌, length, take, replicate, ap, sym, ◌∙◌, subst, sum, arith}
 use Rattle.std.specs.List.{AllByRecursion, All}
 use Rattle.std.proofs.Math.Nat.{le-div_iff_mul-le}
@@ -10,7 +10,7 @@ use borrow.Author.Count.{below_more}
 use Rattle.safebound_lists.specs.declared.runs.Run.{Run}
 use Rattle.safebound_lists.specs.Runs.{AreRight, IsRightAt, MayFollow, list_of, no_run, run_at}
 
--- ---- facts on each run
+-- ---- a property of each run, when a run is added at the end or a least degree is lowered
 
 pub all_more : (P : Run → Type 0) (xs : List Run) (x : Run) → AllByRecursion P xs → P x → AllByRecursion P (xs ++ x ∷ [])
 all_more P [] x all here = (here, tt)
@@ -24,7 +24,7 @@ pub lower_still : (low least : ℕ) → low ≤ least → (xs : List Run) → Al
 lower_still low least h [] all = tt
 lower_still low least h (x ∷ xs) all = (omega (arith, all.0), lower_still low least h xs all.1)
 
--- ---- the list of one more run
+-- ---- the list that runs stand for, when one more run is added
 
 pub list_of_more : (before : List Run) (run : Run) → list_of (before ++ run ∷ []) ≡ list_of before ++ replicate run.keys run.degree
 list_of_more [] run = append-nil (replicate run.keys run.degree)
@@ -38,7 +38,6 @@ sum_more before run =
     ∙ sum_by-append (λ (x : ℕ). x) (list_of before) (replicate run.keys run.degree)
     ∙ ap (λ n. sum (list_of before) + n) (sum_by-replicate (λ (x : ℕ). x) run.keys run.degree)
 
--- if v is at most the run's degree and each element of the list, it is at most each element of both together
 elements_of_run : (v d n : ℕ) → v ≤ d → (s : List ℕ) → AllByRecursion (λ x. v ≤ x) s → AllByRecursion (λ x. v ≤ x) (replicate n d ++ s)
 elements_of_run v d zero h s all = all
 elements_of_run v d (suc n) h s all = (h, elements_of_run v d n h s all)
@@ -50,7 +49,6 @@ elements_at_least v (x ∷ xs) all = elements_of_run v x.degree x.keys all.0 (li
 pub may_be_pushed : (v : ℕ) (xs : List Run) → AllByRecursion (λ e. v ≤ e.degree) xs → All (λ x. v ≤ x) (list_of xs)
 may_be_pushed v xs all = All-from_recursion (λ x. v ≤ x) (list_of xs) (elements_at_least v xs all)
 
--- there are at most as many positive numbers as their sum
 pub no_more_than_sum : (s : List ℕ) → AllByRecursion (λ x. 1 ≤ x) s → length s ≤ sum s
 no_more_than_sum [] all = omega arith
 no_more_than_sum (x ∷ s) all = omega (arith, all.0, no_more_than_sum s all.1, sum_by-cons (λ (y : ℕ). y) x s)
@@ -59,7 +57,6 @@ keys_within : (keys degree : ℕ) → 0 < degree → keys ≤ keys * degree
 keys_within zero degree h = omega arith
 keys_within (suc keys) degree h = omega (arith, keys_within keys degree h)
 
--- so with a run that may follow, the list has at most 2^48 elements
 pub room_for : (before : List Run) (run : Run) → MayFollow before run → length (list_of before) + run.keys ≤ 2 ^ 48
 room_for before run may =
     omega (
@@ -70,9 +67,10 @@ room_for before run may =
       may.sum,
     )
 
--- ---- the test, run by run
+-- ---- the test of the runs, one after another
 
--- what the loop knows of the runs before a place
+-- The loop of `first_wrong_run` has found that the runs before `place` are right. `least` is their least degree (2^64 - 1 if there are no runs before
+-- `place`), and `left` is 2^48 less the sum of their list
 pub record IsTested (runs : List Run) (place least left : ℕ) : Type 0 where
   pub right : (i : ℕ) → i < place → IsRightAt runs i
   pub least_below : AllByRecursion (λ e. least ≤ e.degree) (take place runs)
@@ -91,7 +89,7 @@ module _ (runs : List Run) (place least left : ℕ) (tested : IsTested runs plac
   more : take (place + 1) runs ≡ take place runs ++ run_at runs place ∷ []
   more = take_more runs place no_run low
 
-  -- which runs may not follow
+  -- the loop calls a run wrong in two cases: its degree is above `least`, or it has more keys than `left` divided by its degree
   pub rises : (run_at runs place).degree < 2 ^ 64 → least < (run_at runs place).degree → IsRightAt runs place → ⊥
   rises fits above may = absurd (omega (arith, tested.greatest (run_at runs place).degree fits may.falls))
 
@@ -100,7 +98,7 @@ module _ (runs : List Run) (place least left : ℕ) (tested : IsTested runs plac
       let within : (run_at runs place).keys * (run_at runs place).degree ≤ left = omega (arith, sum_more (take place runs) (run_at runs place), may.sum, tested.sums) in
       absurd (omega (arith, above, (le-div_iff_mul-le {k = (run_at runs place).degree} {x = (run_at runs place).keys} {y = left} some).1 within))
 
-  -- and what may
+  -- a run that passes all four tests is right
   module _ (degree : 0 < (run_at runs place).degree) (keys : 0 < (run_at runs place).keys) (falls : (run_at runs place).degree ≤ least)
       (fits : (run_at runs place).keys ≤ left / (run_at runs place).degree) where
     pub within_left : (run_at runs place).keys * (run_at runs place).degree ≤ left
@@ -114,7 +112,6 @@ module _ (runs : List Run) (place least left : ℕ) (tested : IsTested runs plac
       sum = omega (arith, sum_more (take place runs) (run_at runs place), tested.sums, within_left);
     }
 
-    -- the runs up to the next place
     right_so_far : (i : ℕ) → i < place + 1 → IsRightAt runs i
     right_so_far = below_more (IsRightAt runs) place tested.right may_follow
 
@@ -127,7 +124,7 @@ module _ (runs : List Run) (place least left : ℕ) (tested : IsTested runs plac
       sums = omega (arith, ap (λ (s : List Run). sum (list_of s)) more, sum_more (take place runs) (run_at runs place), tested.sums, within_left);
     }
 
--- ---- all runs
+-- ---- the list that right runs stand for sums to at most 2^48
 
 pub right_sum : (runs : List Run) → AreRight runs → sum (list_of runs) ≤ 2 ^ 48
 right_sum [] right = omega arith
@@ -137,7 +134,7 @@ right_sum (r ∷ rs) right =
     let may : IsRightAt (r ∷ rs) (length rs) = right (length rs) (omega arith) in
     subst (λ (s : List Run). sum (list_of s) ≤ 2 ^ 48) (sym last ∙ whole) may.sum
 
--- ---- the list, run by run
+-- ---- the loop of `pieces_of`, which adds the runs to a list one by one
 
 module _ (runs : List Run) (i v : ℕ) (pieces : List ℕ) (so_far : pieces ≡ list_of (take i runs)) (value : v ≡ (run_at runs i).degree) (low : i < length runs) (right : AreRight runs) where
   pub next_falls : All (λ x. v ≤ x) pieces

@@ -1,4 +1,4 @@
--- Lists whose sum is small: no element is larger, and 128 bits hold each.
+-- If a list sums to at most 2^48, each element fits 64 bits, and arithmetic that saturates is exact.
 use Rattle.std.proofs.Common.{◌≡◌, ℕ, ◌+◌, ◌<◌, ◌≤◌, ◌^◌, max, List, [], ◌∷◌, map, refl, ap, ◌∙◌, sum, arith}
 use Rattle.std.specs.List.{AllByRecursion}
 use Rattle.std.proofs.lemmas.List.Sums.{sum_by-cons}
@@ -17,7 +17,6 @@ below : (s : List ℕ) → AllByRecursion (λ x. x ≤ 2 ^ 48) s → AllByRecurs
 below [] all = tt
 below (x ∷ s) all = (omega (arith, all.0), below s all.1)
 
--- each fits 64 bits
 pub fits_within : (s : List ℕ) → sum s ≤ 2 ^ 48 → AllByRecursion (λ x. x < 2 ^ 64) s
 fits_within s h = below s (elements_within s (2 ^ 48) h)
 
@@ -29,7 +28,6 @@ unsaturated (x ∷ s) all =
 
 -- ---- the sum of two lists
 
--- what is answered for it
 pub sum_told : (s t both : List ℕ) → sum s + sum t ≤ 2 ^ 48 → both ≡ map saturated (rank_sum s t) → both ≡ rank_sum s t
 sum_told s t both small is =
     is ∙ unsaturated (rank_sum s t) (elements_within (rank_sum s t) (2 ^ 48) (omega (arith, small, sum-rank_sum s t)))
@@ -38,7 +36,7 @@ pub sum_fits : (s t both : List ℕ) → sum s + sum t ≤ 2 ^ 48 → both ≡ m
 sum_fits s t both small is =
     fits_within both (omega (arith, small, ap sum (sum_told s t both small is), sum-rank_sum s t))
 
--- ---- lists that are below another one
+-- ---- the lesser of two lists, and a list that is cut: each element fits 64 bits
 
 pub lesser_fits : (s t both : List ℕ) → sum s ≤ 2 ^ 48 → both ≡ lesser s t → AllByRecursion (λ x. x < 2 ^ 64) both
 lesser_fits s t both small is =
@@ -69,7 +67,6 @@ maximum_elements [] t n a b = b
 maximum_elements (x ∷ s) [] n a b = a
 maximum_elements (x ∷ s) (y ∷ t) n a b = (omega (arith, a.0, b.0), maximum_elements s t n a.1 b.1)
 
--- what is known of two lists s and t, which are `these` and `others`, once their maximum was computed with saturation
 pub record AreSmallLists (s t these others both : List ℕ) : Type 0 where
   pub first : s ≡ these
   pub second : t ≡ others

@@ -1,4 +1,4 @@
--- Pieces written as runs.
+-- The pieces of a list are written as runs into the room, which is the caller's buffer.
 use Rattle.std.proofs.Common.{◌≡◌, ℕ, zero, suc, ◌+◌, ◌<◌, ◌≤◌, List, [], ◌∷◌, ◌++◌, map, length, take, drop, get_or, replicate, refl, ap, sym, ◌∙◌, subst, arith, length-append}
 use Rattle.std.specs.List.{AllByRecursion}
 use Rattle.std.proofs.Math.ListN.{set}
@@ -13,7 +13,6 @@ use Rattle.safebound_lists.specs.declared.refusal.Refusal.{Refusal}
 use Rattle.safebound_lists.specs.declared.refusal.Refusal.TheVariants as refusal
 use Rattle.safebound_lists.specs.Written.{IsFilled, IsWritten, NeedsRoom}
 
--- a piece as a run
 abbrev pub run_of : Piece → Run
 run_of piece = record { degree = piece.value; keys = piece.count }
 
@@ -21,7 +20,7 @@ pub pieces_again : (ps : List Piece) → map piece_of (map run_of ps) ≡ ps
 pieces_again [] = refl
 pieces_again (p ∷ ps) = ap (λ (qs : List Piece). p ∷ qs) (pieces_again ps)
 
--- ---- values that fit
+-- ---- if each element of a list has a property, each piece's value has it
 
 first_of_run : (P : ℕ → Type 0) (n x : ℕ) → 0 < n → (s : List ℕ) → AllByRecursion P (replicate n x ++ s) → P x
 first_of_run P zero x some s all = absurd (omega arith)
@@ -56,7 +55,7 @@ one_more_run ps old i d x low room is =
     ∙ ap (λ (front : List Run). front ++ drop (i + 1) old)
     (ap (λ (y : Run). map run_of (take i ps) ++ y ∷ []) is ∙ sym (map_more run_of ps i d low))
 
--- ---- the whole list
+-- ---- the room, when all runs are written
 
 pub all_written : (list : List ℕ) (ps : List Piece) (old new : List Run) (count : ℕ) → list ≡ expanded ps → AreRuns ps → count ≡ length ps
     → new ≡ map run_of ps ++ drop count old → IsWritten list old new count
@@ -67,14 +66,13 @@ all_written list ps old new count is are counted filled = record {
   filled = record { counted = length-map ps run_of ∙ sym counted; filled = filled };
 }
 
--- ---- too little room, as a cause of a call
+-- ---- a refusal because the room is too small is one of the causes for which a call refuses
 
 pub as_cause : (P : Refusal → Type 0) (needed room : ℕ) → ((n : ℕ) → n ≡ needed → room < needed → P (refusal.Room n)) → (r : Result ℕ Refusal) → IfErr r (NeedsRoom needed room) → IfErr r P
 as_cause P needed room f (Ok x) h = tt
 as_cause P needed room f (Err (refusal.Room n)) h = f n h.0 h.1
 as_cause P needed room f (Err e) h = absurd h
 
--- what is known before the last call is known after it, if it succeeds
 pub if_done : {P : Type 0} (r : Result ℕ Refusal) → P → OnOk r P
 if_done (Ok x) h = h
 if_done (Err e) h = tt
@@ -90,7 +88,6 @@ filled_more {A} front old new i x d so_far low = record {
   filled = ap (λ (s : List A). set s i x) so_far.filled ∙ one_more_in front old i x d so_far.counted low;
 }
 
--- each element is made from the element at the same place of a list
 pub one_more_made : {A B : Type 0} (f : A → B) (xs : List A) (old new : List B) (i : ℕ) (x : B) (a : A) (b : B) → IsFilled (map f (take i xs)) old new i → i < length xs → i < length old
     → x ≡ f (get_or xs i a) → IsFilled (map f (take (i + 1) xs)) old (set new i x) (i + 1)
 one_more_made {A} {B} f xs old new i x a b so_far low room is =

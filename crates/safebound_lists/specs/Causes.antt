@@ -1,5 +1,5 @@
--- Why calls on lists refuse. A cause also says that no cause applies which the call looks for earlier. So at most one refusal is right, apart from
--- want of memory.
+-- Why calls on lists refuse. A call tests for its causes in a fixed order, and each cause also says that the earlier causes don't apply. So at most
+-- one refusal is right. Want of memory is the exception: it needs no cause.
 use Rattle.std.specs.Prelude.{◌≡◌, ◌⊎◌, ℕ, ◌+◌, ◌<◌, ◌≤◌, ⊤, List, length}
 use Rattle.std.specs.List.{sum}
 use Rattle.limits.specs.Profile.{greatest_rows, most_accuracy}

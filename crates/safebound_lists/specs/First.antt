@@ -1,7 +1,7 @@
--- Which element of an argument is the first wrong one.
+-- The first element of an argument that is wrong.
 use Rattle.std.specs.Prelude.{ℕ, ◌<◌}
 
--- of `count` elements, the one at this place is wrong, and those before it are right
+-- `place` is the first of `count` places whose element is wrong
 pub record IsFirstWrong (IsRight : ℕ → Type 0) (count place : ℕ) : Type 0 where
   pub within : place < count
   pub wrong : ¬ IsRight place

@@ -1,4 +1,4 @@
--- Lists as runs: a run has a degree, and the number of keys that stand in that many rows each.
+-- Lists as runs. A run has a degree and a number of keys, each of which stands in as many rows as the degree says.
 use Rattle.std.specs.Prelude.{ℕ, ◌+◌, ◌<◌, ◌≤◌, List, [], ◌∷◌, ◌++◌, map, length, take, slice_index_or}
 use Rattle.std.specs.List.{AllByRecursion, sum}
 use Rattle.limits.specs.Profile.{greatest_rows, most_accuracy}
@@ -11,7 +11,7 @@ use Rattle.safebound_lists.specs.declared.runs.Run.{Run}
 abbrev pub piece_of : Run → Piece
 piece_of run = record { value = run.degree; count = run.keys }
 
--- the list that runs stand for: the degree of each run, as often as it has keys
+-- the list that runs stand for: the degree of each run, once for each of the run's keys
 abbrev pub list_of : List Run → List ℕ
 list_of runs = expanded (map piece_of runs)
 
@@ -22,22 +22,23 @@ no_run = record { degree = 0; keys = 0 }
 abbrev pub run_at : List Run → ℕ → Run
 run_at runs i = slice_index_or runs i no_run
 
--- a run may follow others: it has rows and keys, no degree before it is lower, and with it all degrees sum to at most 2^48
+-- `run` may follow the runs `before`: its degree and its number of keys are above 0, no earlier degree is lower, and the list of all of these runs sums to
+-- at most 2^48
 pub record MayFollow (before : List Run) (run : Run) : Type 0 where
   pub degree : 0 < run.degree
   pub keys : 0 < run.keys
   pub falls : AllByRecursion (λ earlier. run.degree ≤ earlier.degree) before
   pub sum : sum (list_of (before ++ run ∷ [])) ≤ greatest_rows
 
--- the run at a place may follow those before it
+-- the run at place i may follow the runs before it
 abbrev pub IsRightAt : List Run → ℕ → Type 0
 IsRightAt runs i = MayFollow (take i runs) (run_at runs i)
 
--- each run may follow those before it
+-- each run may follow the runs before it
 abbrev pub AreRight : List Run → Type 0
 AreRight runs = (i : ℕ) → i < length runs → IsRightAt runs i
 
--- ---- what calls take
+-- ---- what calls need of their arguments
 
 -- compression: a right list, and an accuracy from 1 to 64
 pub record MayBeCompressed (runs : List Run) (accuracy : ℕ) : Type 0 where
@@ -56,7 +57,7 @@ pub record AreBothRight (runs others : List Run) : Type 0 where
   pub right : AreRight runs
   pub others_right : AreRight others
 
--- a greater list: two right lists, whose greater degrees, rank by rank, sum to at most 2^48
+-- a greater list: two right lists. The greater of their degrees at each rank sum to at most 2^48
 pub record MayBeRaised (runs others : List Run) : Type 0 where
   pub both : AreBothRight runs others
   pub small : sum (rank_maximum (list_of runs) (list_of others)) ≤ greatest_rows

@@ -1,4 +1,4 @@
--- What a call leaves in the room that it was given.
+-- What a call leaves in the room, the buffer that its caller gave.
 use Rattle.std.specs.Prelude.{◌≡◌, ℕ, ◌<◌, List, ◌++◌, map, length, drop}
 use Rattle.piece_math.specs.Expanded.{AreRuns}
 use Rattle.safebound_lists.specs.declared.refusal.Refusal.{Refusal}
@@ -6,7 +6,7 @@ use Rattle.safebound_lists.specs.declared.refusal.Refusal.TheVariants as refusal
 use Rattle.safebound_lists.specs.declared.runs.Run.{Run}
 use Rattle.safebound_lists.specs.Runs.{list_of, piece_of}
 
--- the room now begins with the elements of `front`, `count` of them, and the others are as they were
+-- the room now begins with the `count` elements of `front`, and its other elements are as they were
 pub record IsFilled {A : Type 0} (front old new : List A) (count : ℕ) : Type 0 where
   pub counted : length front ≡ count
   pub filled : new ≡ front ++ drop count old

@@ -12,7 +12,8 @@ use crate::written::write_runs;
 use limits::GREATEST_ROWS;
 use std::alloc::Global;
 
-/// Writes the list of the rows that satisfy two conditions, from the lists of both. Each of its running sums is the lesser of the two lists' sums.
+/// Writes a list of the rows that satisfy two conditions, from the list of each condition. Each running sum of the new list is the lesser of the two
+/// lists' running sums.
 pub fn lesser_of(
     alloc: Global,
     runs: &[Run],
@@ -40,7 +41,7 @@ pub fn lesser_of(
     write_runs(&both, into)
 }
 
-/// Writes a list that holds for the rows of either of two values, from the lists of both. It has the greater degree at each rank.
+/// Writes a list that dominates the rows of either of two values, from the list of each value. The new list has the greater degree at each rank.
 pub fn greater_of(
     alloc: Global,
     runs: &[Run],

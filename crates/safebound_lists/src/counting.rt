@@ -16,7 +16,7 @@ use limits::GREATEST_ROWS;
 use piece_math::Pieces;
 use std::alloc::Global;
 
-// How many elements, from `start` on, are equal to the one at `start`. In a falling list they stand side by side.
+// How many elements, from `start` on, are equal to the element at `start`. In a falling list equal elements stand side by side.
 fn run_length(list: &[u64], start: usize) -> usize
     requires falls { IsFalling list.now }
     requires start { start < length list.now }
@@ -28,7 +28,7 @@ fn run_length(list: &[u64], start: usize) -> usize
     list[start..].partition_point(|next| *next == first)
 }
 
-// A falling list as pieces. It goes from run to run, since a long list of degrees has few runs.
+// A falling list as pieces. The loop goes from run to run, since a long list of degrees has few runs.
 fn pieces_of_falling(alloc: Global, list: &[u64]) -> Result<Pieces, NoMemory>
     requires falls { IsFalling list.now }
     requires positive { All (λ x. 0 < x) list.now }
@@ -45,7 +45,7 @@ fn pieces_of_falling(alloc: Global, list: &[u64]) -> Result<Pieces, NoMemory>
 }
 
 /// Writes the degree sequence of a column at the front of `into`, as runs whose degrees strictly fall, and says how many runs these are. `keys`
-/// has the key of each row. It refuses more than 2^48 keys, want of memory, and too little room; `into` is then as it was.
+/// has the key of each row. The call refuses more than 2^48 keys, want of memory, and too little room; `into` is then as it was.
 pub fn degrees(alloc: Global, keys: &[u64], into: &mut [Run]) -> Result<u64, Refusal>
     ensures done { IfOk result (IsWritten (degree_list keys.now) into.old into.new) }
     ensures few { OnOk result (length keys.now ≤ greatest_rows) }

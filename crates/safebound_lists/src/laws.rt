@@ -18,9 +18,10 @@ pub fn lists_dominate()
         → DominatesKeys list keys → DominatesKeys later more → DominatesKeys (rank_sum list later) (keys ++ more) }
 {}
 
-/// Rows are given by their numbers, and each has a key. If two lists dominate the rows of two conditions, the lesser list dominates the rows that
-/// satisfy both, and the sum those that satisfy at least one. The greater list dominates the rows of either of two values. A list that is cut at a
-/// number of rows still dominates its keys, if there are at most so many.
+/// Each row number has a key, and a list dominates rows if it dominates their keys. Let a list dominate the rows of one condition, and another list
+/// the rows of another condition. Then the lesser list dominates the rows that satisfy both conditions, and the sum of the lists dominates the rows
+/// that satisfy at least one. If each condition asks a column for one value, the greater list dominates the rows of each of the two values. A list
+/// that dominates at most `rows` keys still dominates them when it is cut at `rows`.
 pub fn conditions_dominate()
     ensures both { (rows : List ℕ) (key : ℕ → ℕ) (first second : ℕ → Bool) (list other : List ℕ)
         → DominatesKeys list (map key (filter first rows)) → DominatesKeys other (map key (filter second rows))

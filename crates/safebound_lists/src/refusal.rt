@@ -5,7 +5,7 @@ ghost use Rattle.safebound_lists.specs.declared.refusal.Refusal.TheVariants as r
 use base_io::NoMemory;
 use std::alloc::AllocError;
 
-/// Why a call was refused. It then changed nothing in the caller's room. `place` is the number of an element of a list, counted from 0.
+/// Why a call was refused. A refused call changed nothing in the caller's room. `place` is the number of an element of a list, counted from 0.
 #[derive(Clone, Copy, Debug, PartialEq, Eq)]
 pub enum Refusal {
     /// The room is too small: the answer has `needed` elements.
@@ -31,8 +31,8 @@ pub enum Refusal {
     Equalities { count: u64 },
     /// The equality at this place names an entry that isn't there, or one entry on both sides.
     Equality { place: u64 },
-    /// The list at this place is of an entry that isn't there, or of a column that an earlier list is of; or it has no runs and no mark
-    /// `NO_VALUES`, or names runs that aren't there.
+    /// The list at this place has a mistake. Its entry isn't there, or an earlier list is of the same column, or the list has no runs and no mark
+    /// `NO_VALUES`, or it names runs that aren't there.
     List { place: u64 },
     /// A column of the equality at this place has no list.
     MissingList { place: u64 },

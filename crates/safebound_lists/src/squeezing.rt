@@ -12,7 +12,8 @@ use limits::{Accuracy, MOST_ACCURACY};
 use piece_compress::compress_runs;
 use std::alloc::Global;
 
-/// Writes the list compressed by heads, at an accuracy from 1 to 64. It has the same sum and few runs, and dominates what the list dominates.
+/// Writes the list compressed by heads, at an accuracy from 1 to 64. The compressed list has the same sum and few runs, and dominates what the list
+/// dominates.
 pub fn compress(
     alloc: Global,
     runs: &[Run],

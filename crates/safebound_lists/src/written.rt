@@ -8,7 +8,7 @@ use crate::refusal::Refusal;
 use crate::runs::Run;
 use piece_math::Pieces;
 
-/// Writes a list as runs, and answers how many they are.
+/// Writes a list as runs, and answers how many runs it wrote.
 pub(crate) fn write_runs(list: &Pieces, into: &mut [Run]) -> Result<u64, Refusal>
     requires { AllByRecursion (λ x. x < 2 ^ 64) list.now }
     ensures done { IfOk result (IsWritten list.now into.old into.new) }

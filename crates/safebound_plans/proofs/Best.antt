@@ -1,4 +1,4 @@
--- What the searches promise, over bounds of 64 bits.
+-- The searches compute with bounds of 128 bits. The lemmas carry what the searches promise over to the caller's bounds of 64 bits.
 use Rattle.std.proofs.Common.{◌≡◌, ℕ, ◌+◌, ◌<◌, ◌≤◌, ◌^◌, List, map, length, get_or, ap, sym, ◌∙◌, subst, arith}
 use Rattle.order_search.specs.Causes.{IsCause}
 use Rattle.order_search.specs.Orders.{IsBest, cost, levels as levels_of}

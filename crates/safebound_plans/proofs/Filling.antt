@@ -1,4 +1,4 @@
--- The levels of an order are written into the caller's room one by one. These lemmas are for the loop that does it.
+-- The levels of an order are written into the room, the caller's buffer, one by one. These lemmas are for the loop of `write_levels`.
 use Rattle.std.proofs.Common.{◌≡◌, ℕ, ◌+◌, ◌<◌, ◌≤◌, List, [], ◌∷◌, ◌++◌, length, take, drop, get_or, refl, ap, sym, ◌∙◌, arith}
 use Rattle.std.proofs.Math.ListN.{set}
 use Rattle.std.proofs.lemmas.List.{map-append, take_all, take_more}
@@ -7,24 +7,21 @@ use Rattle.safebound_lists.proofs.Writing.{filled_more, filled_none}
 use Rattle.safebound_plans.specs.declared.ordering.Level.{Level}
 use Rattle.safebound_plans.specs.Orders.{AreLevels, bounds_in, entries_in}
 
--- ---- levels
+-- ---- the room before, in and after the loop
 
--- after i steps: the first i places have the entries of the order and the bounds of its levels, and the others are as they were
 pub record SoFar (order levels : List ℕ) (old new : List Level) (i : ℕ) : Type 0 where
   pub front : List Level
   pub entries : entries_in front ≡ take i order
   pub bounds : bounds_in front ≡ take i levels
   pub filled : IsFilled front old new i
 
--- before the first step
 pub none_so_far : (order levels : List ℕ) (old : List Level) → SoFar order levels old old 0
 none_so_far order levels old = record { front = []; entries = refl; bounds = refl; filled = filled_none old }
 
--- what a look-up past the end of a list gives
+-- a look-up past the end of a list gives this level
 abbrev pub no_level : Level
 no_level = record { entry = 0; bound = 0 }
 
--- a step: the next level is written at place i
 pub one_more_level : (order levels : List ℕ) (old new : List Level) (i : ℕ) (x : Level) → SoFar order levels old new i → i < length order → i < length levels → i < length old
     → x.entry ≡ get_or order i 0 → x.bound ≡ get_or levels i 0 → SoFar order levels old (set new i x) (i + 1)
 one_more_level order levels old new i x so_far low lower room entry bound = record {
@@ -40,7 +37,6 @@ one_more_level order levels old new i x so_far low lower room entry bound = reco
   filled = filled_more so_far.front old new i x no_level so_far.filled room;
 }
 
--- after the last step
 pub all_levels : (order levels : List ℕ) (old new : List Level) (i : ℕ) → SoFar order levels old new i → i ≡ length order → length levels ≤ i → AreLevels order levels old new
 all_levels order levels old new i so_far whole end = record {
   front = so_far.front;

@@ -1,4 +1,4 @@
--- Entries and nodes of plans that were checked one by one.
+-- The levels or joins of a plan were checked one by one. So each level's entry exists, and each join's right node has a number below `end`.
 use Rattle.std.proofs.Common.{ℕ, suc, ◌+◌, ◌<◌, ◌≤◌, All, List, [], ◌∷◌, length, map, arith}
 use Rattle.std.specs.List.{AllByRecursion}
 use Rattle.std.proofs.lemmas.List.Elements.{All-cons}

@@ -8,7 +8,7 @@ pub record AreOfSets (bounds : List ℕ) (n : ℕ) : Type 0 where
   pub few : n ≤ most_entries
   pub sets : length bounds ≡ 2 ^ n
 
--- a plan of n entries may be asked for: there are these bounds, and the budget is at most 2^59
+-- a plan of n entries may be asked for: there is a bound for each set of n entries, and the budget is at most 2^59
 pub record MayPlan (bounds : List ℕ) (n budget : ℕ) : Type 0 where
   pub sets : AreOfSets bounds n
   pub within : budget ≤ greatest_budget

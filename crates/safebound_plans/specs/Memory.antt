@@ -22,7 +22,7 @@ no_node = record { left = 0; right = 0; bound = 0 }
 abbrev pub IsLevelRightAt : ℕ → List Level → ℕ → Type 0
 IsLevelRightAt entries levels place = (slice_index_or levels place no_level).entry < entries
 
--- the join at this place is of two nodes before it
+-- the join at this place joins two nodes that are before it
 abbrev pub IsJoinRightAt : ℕ → List JoinNode → ℕ → Type 0
 IsJoinRightAt entries joins place =
     let join = slice_index_or joins place no_node in (join.left < entries + place) × (join.right < entries + place)
@@ -47,14 +47,14 @@ pub record IsOrderMemory (rows : List ℕ) (levels : List Level) (bytes : ℕ) :
   pub right : (place : ℕ) → place < length levels → IsLevelRightAt (length rows) levels place
   pub are : bytes ≡ order_bytes rows levels
 
--- there is one join fewer than entries, each join is of two nodes before it, and the bytes are those of the tree
+-- there is one join fewer than entries, each join joins two nodes that are before it, and the bytes are those of the tree
 pub record IsTreeMemory (rows : List ℕ) (joins : List JoinNode) (bytes : ℕ) : Type 0 where
   pub entries : AreOfEntries rows
   pub as_many : length joins + 1 ≡ length rows
   pub right : (place : ℕ) → place < length joins → IsJoinRightAt (length rows) joins place
   pub are : bytes ≡ nodes_bytes rows joins
 
--- why a call for an order's bytes refuses: no entries or too many, a wrong number of levels, a level of no entry, or 2^64 bytes or more
+-- why a call for an order's bytes refuses: no entries or too many, a wrong number of levels, a level whose entry doesn't exist, or 2^64 bytes or more
 abbrev pub IsOrderMemoryCause : List ℕ → List Level → Refusal → Type 0
 IsOrderMemoryCause rows levels (refusal.Entries count) = (count ≡ length rows) × ¬ AreOfEntries rows
 IsOrderMemoryCause rows levels (refusal.Levels count) = (count ≡ length levels) × AreOfEntries rows × ¬ (length levels ≡ length rows)
@@ -65,7 +65,7 @@ IsOrderMemoryCause rows levels refusal.PastBits =
     × (2 ^ 64 ≤ order_bytes rows levels)
 IsOrderMemoryCause rows levels _ = ⊥
 
--- why a call for a tree's bytes refuses: likewise, with joins in place of levels
+-- why a call for a tree's bytes refuses: no entries or too many, a wrong number of joins, a join of a node that isn't before it, or 2^64 bytes or more
 abbrev pub IsTreeMemoryCause : List ℕ → List JoinNode → Refusal → Type 0
 IsTreeMemoryCause rows joins (refusal.Entries count) = (count ≡ length rows) × ¬ AreOfEntries rows
 IsTreeMemoryCause rows joins (refusal.Joins count) = (count ≡ length joins) × AreOfEntries rows × ¬ (length joins + 1 ≡ length rows)

@@ -27,7 +27,7 @@ fn first_wrong_level(levels: &[Level], entries: u64) -> Option<u64>
     None
 }
 
-// The place of the first join that isn't of two nodes before it.
+// The place of the first join that names a node that isn't before it.
 fn first_wrong_join(joins: &[JoinNode], entries: u64) -> Option<u64>
     requires few { entries + length joins.now ≤ 2 ^ 32 }
     ensures { MatchOption result ((place : ℕ) → place < length joins.now → IsJoinRightAt entries joins.now place)
@@ -80,7 +80,7 @@ fn write_joins(nodes: &[JoinNode], into: &mut [Join])
     }
 }
 
-// The number in 64 bits, if it fits.
+// The number `bytes` in 64 bits, if it fits.
 fn told(bytes: u128) -> Result<u64, Refusal>
     ensures done { IfOk result (λ told. told ≡ bytes) }
     ensures refused { IfErr result (λ e. (e ≡ refusal.PastBits) × (2 ^ 64 ≤ bytes)) }
@@ -92,7 +92,7 @@ fn told(bytes: u128) -> Result<u64, Refusal>
 }
 
 /// How many bytes an engine's buffers take for an order, if `rows` has the most rows of each entry's list. The buffers are for the lists, the levels,
-/// the chains of the lists that are joined after the first, and the keys of one of these.
+/// the hash chains of each list that is joined after the first list, and the keys of one of these lists.
 pub fn order_memory(rows: &[u64], levels: &[Level]) -> Result<u64, Refusal>
     ensures done { IfOk result (IsOrderMemory rows.now levels.now) }
     ensures refused { IfErr result (IsOrderMemoryCause rows.now levels.now) }
@@ -120,7 +120,7 @@ pub fn order_memory(rows: &[u64], levels: &[Level]) -> Result<u64, Refusal>
     told(plan_memory(order, rows, bounds))
 }
 
-/// The same for a join tree, given by its joins.
+/// How many bytes an engine's buffers take for the join tree with these joins, if `rows` has the most rows of each entry's list.
 pub fn tree_memory(rows: &[u64], joins: &[JoinNode]) -> Result<u64, Refusal>
     ensures done { IfOk result (IsTreeMemory rows.now joins.now) }
     ensures refused { IfErr result (IsTreeMemoryCause rows.now joins.now) }
@@ -149,7 +149,7 @@ pub fn tree_memory(rows: &[u64], joins: &[JoinNode]) -> Result<u64, Refusal>
     told(joins_memory(rows, nodes))
 }
 
-/// The bytes of two small plans. It does nothing.
+/// The bytes of two small plans. This function does nothing.
 ///
 /// The tree takes 44 bytes for lists, 96 for pairs, 80 for the chain, 8 for row numbers and 40 for keys. Its lists of buffers take 64 for row
 /// numbers, 40 for inner nodes, 96 for chains and 39 for the entries below each node.

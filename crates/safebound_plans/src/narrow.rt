@@ -1,4 +1,4 @@
-//! Bounds of 64 bits, as the searches take them.
+//! The caller's bounds of 64 bits, made into what the searches take: bounds of 128 bits, and a scan for each entry.
 ghost use Rattle.std.specs.Prelude.{◌≡◌, ℕ, length, IfOk, MatchOption};
 ghost use Rattle.safebound_plans.specs.Given.{AreOfSets};
 ghost use Rattle.safebound_plans.specs.Bits.{all_widened, in_128_bits as widened_of};
@@ -30,7 +30,7 @@ fn widened(bound: u64) -> u128
     }
 }
 
-/// The same bounds with 128 bits.
+/// All bounds with 128 bits.
 pub(crate) fn widened_bounds(alloc: Global, bounds: &[u64]) -> Result<Seq<u128>, NoMemory>
     ensures { IfOk result (λ wide. wide ≡ all_widened bounds.now) }
 {

@@ -1,4 +1,4 @@
--- The course of a call has the headline.
+-- If a call has a course (`Course`), each sentence of the headline is true of the call.
 use Rattle.std.proofs.Common.{◌≡◌, ◌⊎◌, ℕ, inl, inr, List, None, Some, Result, Ok, Err, refl, ap, sym, ◌∙◌, subst}
 use Rattle.std.specs.Prelude.{IsOkAnd, codes}
 use Rattle.base_io.specs.Causes.{Rose}
@@ -23,21 +23,18 @@ use Rattle.safebound_top.specs.OutcomeTexts.{notes_text, out_text}
 use Rattle.prepared_runs.specs.Verdict.{IsReached, command_stage, verdict}
 use Rattle.prepared_runs.proofs.Runs.{bounds_hold, limits_hold, rows_are_the_answer}
 
--- words that are no command are refused at once
 unasked_verdict : (words : List (List ℕ)) (files : Files) → command_stage words ≡ Err refusal.Usage → verdict words files ≡ Err refusal.Usage
 unfolding verdict
 unasked_verdict words files is = rw is refl
 
--- and if they are refused as r, then r is Usage
 unasked_is : (r : Refusal) → status.Refused refusal.Usage ≡ status.Refused r → r ≡ refusal.Usage
 unasked_is r is = cc
 
 module _ (call : Call) (course : Course call) where
-  -- a line that was told is the fault text, where the store tells its files
   line_told : StatusTold call.notes course.line → (files : Files) → call.store.files ≡ Some files → say.GrewByLine call.notes (fault_text call.status call.words files)
   line_told told files is = subst (say.GrewByLine call.notes) (course.is_line files is) told.tells
 
-  -- a reading that ended
+  -- in this part, the call's reading ended early, with the ending `e`
   module _ (e : Ending) (status_is : call.status ≡ ended e) (reads : Reads call.store (verdict call.words) (IsReached call.words) (Err e)) where
     ends_as : (f : Ending) → e ≡ f → Ends call.store (verdict call.words) (IsReached call.words) f
     ends_as f is = subst (Ends call.store (verdict call.words) (IsReached call.words)) is reads.gives
@@ -48,7 +45,6 @@ module _ (call : Call) (course : Course call) where
     by_fault : (file : FileId) → call.status ≡ status.ReadFault file → Ends call.store (verdict call.words) (IsReached call.words) (ending.Fault file)
     by_fault file is = ends_as (ending.Fault file) (ended_fault e file (sym status_is ∙ is))
 
-    -- where no fault was counted
     stopped_so : (Rose call.store.faults_before call.store.faults_after → ⊥) → (files : Files) → call.store.files ≡ Some files
         → (call.status ≡ say.status_of (verdict call.words files)) ⊎ (call.status ≡ status.NoMemory)
     stopped_so calm files told = by e refl
@@ -58,13 +54,12 @@ module _ (call : Call) (course : Course call) where
         by (ending.Fault file) is = absurd (calm ((ends_as (ending.Fault file) is).0))
         by ending.NoMemory is = inr (status_is ∙ ap ended is)
 
-  -- a run that was read to its end
+  -- in this part, the call read everything to its end and then wrote its texts
   module _ (run : RunOutcome) (reads : Reads call.store (verdict call.words) (IsReached call.words) (Ok run))
       (written : TextsEnded call.status call.out call.notes run course.line) where
     went_verdict : (files : Files) → call.store.files ≡ Some files → verdict call.words files ≡ Ok run
     went_verdict = reads.gives
 
-    -- no ending of a reading was told
     went_on : (e : Ending) → call.status ≡ ended e → ⊥
     went_on e is = by written
       where
@@ -137,9 +132,8 @@ module _ (call : Call) (course : Course call) where
         by (CutInNotes e rose out line) = absurd (calm_notes rose)
         by (CutInOut e rose out line) = absurd (calm_out rose)
 
-  -- ---- the sentences
+  -- ---- the sentences of the headline
 
-  -- 1
   done : How call course.line → say.DoneIsExact call
   done (Unasked h) is = absurd (let no : status.Refused refusal.Usage ≡ status.Done = sym h.status ∙ is in cc)
   done (Asked h) is = by h.ran
@@ -149,7 +143,6 @@ module _ (call : Call) (course : Course call) where
       by (Stopped e s reads out told) = absurd (ended_not_done e (sym s ∙ is))
       by (Went run reads written) = went_done run reads written is
 
-  -- 4
   memory : How call course.line → say.WantOfMemoryLeavesItsLine call
   memory (Unasked h) is = absurd (let no : status.Refused refusal.Usage ≡ status.NoMemory = sym h.status ∙ is in cc)
   memory (Asked h) is = by h.ran
@@ -158,7 +151,6 @@ module _ (call : Call) (course : Course call) where
       by (Stopped e s reads out told) = (subst (say.GrewByLine call.notes) (course.memory is) told.tells, out)
       by (Went run reads written) = absurd (went_on run reads written ending.NoMemory is)
 
-  -- 5
   cuts : How call course.line → say.WriteFaultsHaveTheirCause call
   cuts (Unasked h) = record {
     of_notes = λ is. absurd (let no : status.Refused refusal.Usage ≡ status.WriteFault sink.Notes = sym h.status ∙ is in cc);
@@ -173,7 +165,6 @@ module _ (call : Call) (course : Course call) where
       }
       by (Went run reads written) = record { of_notes = went_cut_notes run reads written; of_out = went_cut_out run reads written }
 
-  -- 6
   refusals : How call course.line → say.RefusalsAreTheVerdict call
   refusals (Unasked h) = record {
     usage = ((λ is. h.words), (λ is. h.status));
@@ -196,7 +187,6 @@ module _ (call : Call) (course : Course call) where
         untold = λ file is. absurd (went_on run reads written (ending.Refused (refusal.Missing file)) is);
       }
 
-  -- 7
   faults : How call course.line → say.ReadFaultsHaveTheirCause call
   faults (Unasked h) = record {
     told = λ file is. absurd (let no : status.Refused refusal.Usage ≡ status.ReadFault file = sym h.status ∙ is in cc);
@@ -216,7 +206,6 @@ module _ (call : Call) (course : Course call) where
         misses = reads.misses;
       }
 
-  -- 8
   causes : How call course.line → say.NothingIsRefusedWithoutCause call
   causes (Unasked h) =
       let so : (files : Files) → call.status ≡ say.status_of (verdict call.words files) = λ files. h.status ∙ sym (ap say.status_of (unasked_verdict call.words files h.words)) in

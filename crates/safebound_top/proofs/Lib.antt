@@ -1,23 +1,15 @@
--- How the proofs of this crate go: what was hard, and what closed it.
+-- The proofs of the top call: the texts, the promise and the headline of a call follow from the course that it takes.
 --
--- The top call over joins
---
--- - A text that may be absent is an `Option` (`out_text_of`): `GrewWhole` and `WasCut` go by cases on it. So a command with another text takes one
---   line, and the headline's sentences have no case for `plan`.
--- - In a clause `x.now` is for a `&`. A `Copy` parameter whose value a function sees is `x.entry`.
--- - The answer for an exit that is the last of two nested matches is called `returns`.
---
--- Audit and demo
---
--- - Another store with the same course: `run` is proved for every store. One lemma on `Reads` (ShopCourses) makes its course over `Shop` the course
---   over `shop_store`, since the files are equal and no count rises. The headline and all of Courses stayed as they were, because `Call.store` is the
---   store that was read.
--- - One more text for out took one line in each of `text_for`, `text_from`, `text_left`, `HasRoom`, `rest_is` (an `ap` over the tables). It took one
---   answer too: that of `write_sizes`, by `counts_of_levels` of joined_texts.
--- - The rows text needs no second form: the last level over the lists is the one over whole tables (`last` of `LoseNoRow`), and `write_rows` requires
---   something only of the last level.
--- - Put an edit that comes after a call into a function where no answer names an exit (`run_command`): the exits that stay right then close
---   as before, and only the wrong one is left.
+-- - A text that may be absent is an `Option` (`out_text_of`), and `GrewWhole` and `WasCut` have a case for a text and a case for no text. So the
+--   headline's sentences have no case for `plan`.
+-- - `demo` reads another store than other commands, and `run` is proved for every store. One lemma on `Reads` (ShopCourses) turns the course of `run`
+--   over `Shop` into a course over `shop_store`, since the files are equal and no count rises.
+-- - The rows text has one form for whole tables and for lists, since the last level over the lists is the last level over whole tables (`last` of
+--   `LoseNoRow`).
+-- - In a clause, `x.now` is the value of a reference `x`. For a `Copy` parameter `x`, the value with which the function was called is `x.entry`.
+-- - If a function's exit is the last one of two nested matches, its answer is called `returns`.
+-- - An edit puts a mistake into the code, and the proofs must find it. If the mistake comes after a call, put it into a function where no answer names
+--   an exit (`run_command`): then the right exits are proved as before, and only the wrong exit fails.
 
 pub mod Courses
 pub mod Promises

@@ -1,4 +1,4 @@
--- The headline keeps the promise of `run`.
+-- If a call has the headline, it keeps the promise of `run`.
 use Rattle.std.proofs.Common.{◌≡◌, ◌⊎◌, inl, inr, ℕ, ◌+◌, ◌<◌, ◌≤◌, false, List, [], map, length, get_or, Option, None, Some, Result, Ok, Err, refl, ap, sym, ◌∙◌, subst, arith}
 use Rattle.std.specs.Prelude.{if◌then◌else◌, nat_lt, slice_get, IsOkAnd, IfOk}
 use Rattle.std.proofs.lemmas.Bool.Decides.{nat_tests}
@@ -36,6 +36,7 @@ use Rattle.table_files.specs.Stage.{no_table, numbers_of, place_of, rows_by_entr
 use Rattle.table_files.specs.TableFile.{bytes_of, file_rows, read, rows_of_bytes}
 use Rattle.table_files.proofs.EntryLaws.{two_steps}
 use Rattle.table_files.proofs.StagedFiles.{entries_are, read_ok, table_ok, told_ok}
+use Rattle.sql_meaning.specs.Tables.{Tables}
 use Rattle.reduced_scans.proofs.ByRounds.{reduced_scans_by_rounds}
 use Rattle.plans.specs.declared.left_deep.Plan.{Plan}
 use Rattle.tree_plans.specs.declared.bushy.BushyPlan.{BushyPlan}
@@ -54,11 +55,11 @@ use Rattle.safebound_top.specs.Call.{Call, Grew}
 use Rattle.safebound_top.specs.Headline.{GrewWhole, Headline}
 use Rattle.prepared_runs.specs.Limits.{IsWithinLimit, within_limit}
 use Rattle.safebound_top.specs.Promise.{AreInFile, AreScans, AsksQuery, DeclaresSchema, HoldsAlong, HoldsOver, IsTheOne, PrintsOrder, PrintsPlan, PrintsTree, Promise, RanWhole, choices_over}
-use Rattle.prepared_runs.specs.Shapes.{part_rows, planned_by, shape_bytes}
-use Rattle.prepared_runs.specs.Sources.{lists_by, sourced}
+use Rattle.prepared_runs.specs.Shapes.{answer_of, part_rows, planned_by, shape_bytes}
+use Rattle.prepared_runs.specs.Sources.{Sourced, lists_by, sourced}
 use Rattle.prepared_runs.specs.RunOutcome.{NoBoundIsTooLow, RunOutcome, Planned, PrintsTheAnswer}
 use Rattle.safebound_top.specs.OutcomeTexts.{notes_text, out_text}
-use Rattle.safebound_top.specs.Texts.{plan_text, rows_text, text_for}
+use Rattle.safebound_top.specs.Texts.{plan_text, plan_text_of, rows_text, text_for}
 use Rattle.prepared_runs.specs.Verdict.{aim_run, command_run, command_stage, plan_asked, plan_stage, query_of_text, query_stage, or_usage, run_asked, schema_of_text, schema_stage, verdict, work_run}
 use Rattle.prepared_runs.specs.declared.shapes.AnyPlan.{AnyPlan}
 use Rattle.prepared_runs.specs.declared.shapes.AnyPlan.TheVariants as shaped
@@ -70,6 +71,7 @@ use Rattle.safebound_words.specs.declared.command.PlanWork.{PlanWork}
 use Rattle.safebound_words.specs.declared.command.Shape.{Shape}
 use Rattle.safebound_words.specs.declared.command.Shape.TheVariants as shapes
 use Rattle.prepared_runs.proofs.LimitFacts.{within_ok}
+use Rattle.prepared_runs.proofs.ShapeFacts.{Fits}
 
 -- ---- the texts
 
@@ -143,26 +145,23 @@ module _ (schema : Schema) (query : Query) (files : Files) (rows : List (List Ro
 
 -- ---- the plan
 
-module _ (task : PlanWork) (query : Query) (rows : List (List Row)) where
-  abbrev lists_over : ListSource → List (List ℕ)
-  lists_over source = lists_by source query (tables_in rows)
+scans_are : (query : Query) (tables : Tables) (source : ListSource) → AreScans source query tables (lists_by source query tables)
+unfolding lists_by
+scans_are query tables sources.Columns = refl
+scans_are query tables sources.Keyed = refl
+scans_are query tables sources.Reduced = reduced_scans_by_rounds query tables
+scans_are query tables sources.Counted = reduced_scans_by_rounds query tables
 
-  scans_are : (source : ListSource) → AreScans source query (tables_in rows) (lists_by source query (tables_in rows))
-  unfolding lists_by
-  scans_are sources.Columns = refl
-  scans_are sources.Keyed = refl
-  scans_are sources.Reduced = reduced_scans_by_rounds query (tables_in rows)
-  scans_are sources.Counted = reduced_scans_by_rounds query (tables_in rows)
-
-  along : (plan : Plan) → BoundsHold (run_asked task query rows (shaped.OrderPlan plan))
-      → HoldsAlong query (tables_in rows) (lists_by task.source query (tables_in rows)) plan
+-- in this part, the lists are any lists: whole scans or reduced scans
+module _ (query : Query) (tables : Tables) (lists : List (List ℕ)) where
+  along : (plan : Plan) → Fits query tables lists (shaped.OrderPlan plan) → HoldsAlong query tables lists plan
   along plan h = record {
     each_entry = h.plan;
     scans_fit = h.scans;
     levels_fit = λ k low. h.parts k (omega (arith, h.plan.order.all));
   }
 
-  module _ (plan : BushyPlan) (h : BoundsHold (run_asked task query rows (shaped.TreePlan plan))) where
+  module _ (plan : BushyPlan) (h : Fits query tables lists (shaped.TreePlan plan)) where
     node_bound : (k : ℕ) (join : Join) → slice_get plan.joins k ≡ Some join → bound_at plan (length plan.scans + k) ≡ join.bound
     node_bound k join is =
         get_or-append-add plan.scans (map (λ (j : Join). j.bound) plan.joins) k 0
@@ -173,56 +172,54 @@ module _ (task : PlanWork) (query : Query) (rows : List (List Row)) where
     no_leaf k = (let far : length plan.scans ≤ length plan.scans + k = omega arith in grind (arith, nat_tests))
 
     node_fits : (k : ℕ) (join : Join) → slice_get plan.joins k ≡ Some join
-        → length (choices_over query (tables_in rows) (lists_by task.source query (tables_in rows)) (entries_at plan (length plan.scans + k))) ≤ join.bound
+        → length (choices_over query tables lists (entries_at plan (length plan.scans + k))) ≤ join.bound
     node_fits k join is =
-        let fits : length (part_rows query (tables_in rows) (lists_over task.source) (shaped.TreePlan plan) k) ≤ bound_at plan (length plan.scans + k) =
-        h.parts k (slice_get_within plan.joins k join is) in
-        let inner : length (choices_over query (tables_in rows) (lists_over task.source) (entries_at plan (length plan.scans + k))) ≤ bound_at plan (length plan.scans + k) =
-        rw (no_leaf k) at fits in
-        subst (λ (n : ℕ). length (choices_over query (tables_in rows) (lists_over task.source) (entries_at plan (length plan.scans + k))) ≤ n)
-        (node_bound k join is) inner
+        let fits : length (part_rows query tables lists (shaped.TreePlan plan) k) ≤ bound_at plan (length plan.scans + k) = h.parts k (slice_get_within plan.joins k join is) in
+        let inner : length (choices_over query tables lists (entries_at plan (length plan.scans + k))) ≤ bound_at plan (length plan.scans + k) = rw (no_leaf k) at fits in
+        subst (λ (n : ℕ). length (choices_over query tables lists (entries_at plan (length plan.scans + k))) ≤ n) (node_bound k join is) inner
 
-    over : HoldsOver query (tables_in rows) (lists_by task.source query (tables_in rows)) plan
+    over : HoldsOver query tables lists plan
     over = record {
       each_entry = h.plan;
       scans_fit = h.scans;
       nodes_fit = λ k join is.
-          subst (λ (n : ℕ). length (choices_over query (tables_in rows) (lists_over task.source) (entries_at plan (n + k))) ≤ join.bound)
-          h.plan.scans (node_fits k join is);
+          subst (λ (n : ℕ). length (choices_over query tables lists (entries_at plan (n + k))) ≤ join.bound) h.plan.scans (node_fits k join is);
     }
 
--- if a result seen through a view is a value, the result is a value that is seen so
 seen_ok : {A B E : Type 0} (view : A → B) (r : Result A E) (y : B) → seen view r ≡ Ok y → (x : A) × (view x ≡ y)
 seen_ok view (Ok x) y e = (x, cc)
 seen_ok view (Err s) y e = cc
 
--- the text of a plan of the shape that was asked for
+pub text_prints : (shape : Shape) (sets scans : List ℕ) (budget : ℕ) (memory : Option ℕ) (query : Query) (tables : Tables) (lists : List (List ℕ)) (plan : AnyPlan)
+    → answer_of shape sets scans budget ≡ Ok plan → Fits query tables lists plan → IsWithinLimit memory (shape_bytes plan)
+    → PrintsPlan shape memory query tables lists (plan_text_of query.from plan memory)
+text_prints shapes.Order sets scans budget memory query tables lists plan made h within =
+    let found = seen_ok (λ p. shaped.OrderPlan p) _ plan made in
+    subst (λ (p : AnyPlan). PrintsOrder memory query tables lists (plan_text_of query.from p memory)) found.1
+    (record {
+      plan = found.0;
+      holds = along query tables lists found.0 (subst (Fits query tables lists) (sym found.1) h);
+      within = subst (λ (p : AnyPlan). IsWithinLimit memory (shape_bytes p)) (sym found.1) within;
+      prints = refl;
+    })
+text_prints shapes.Tree sets scans budget memory query tables lists plan made h within =
+    let found = seen_ok (λ p. shaped.TreePlan p) _ plan made in
+    subst (λ (p : AnyPlan). PrintsTree memory query tables lists (plan_text_of query.from p memory)) found.1
+    (record {
+      plan = found.0;
+      holds = over query tables lists found.0 (subst (Fits query tables lists) (sym found.1) h);
+      within = subst (λ (p : AnyPlan). IsWithinLimit memory (shape_bytes p)) (sym found.1) within;
+      prints = refl;
+    })
+
 prints : (task : PlanWork) (schema : Schema) (query : Query) (rows : List (List Row)) (plan : AnyPlan)
-    → plan_asked task schema query (tables_in rows) ≡ Ok plan → BoundsHold (run_asked task query rows plan) → IsWithinLimit task.memory (shape_bytes plan)
-    → PrintsPlan task.shape task.memory query (tables_in rows) (lists_by task.source query (tables_in rows)) (plan_text (run_asked task query rows plan))
+    → plan_asked task schema query (tables_in rows) ≡ Ok plan → BoundsHold (run_asked task query rows plan) → IsWithinLimit task.terms.memory (shape_bytes plan)
+    → PrintsPlan task.terms.shape task.terms.memory query (tables_in rows) (lists_by task.source query (tables_in rows)) (plan_text (run_asked task query rows plan))
 unfolding planned_by
-prints task schema query rows plan made h within = by task.shape made
-  where
-    by : (shape : Shape) → planned_by shape (sourced task.source schema query (tables_in rows)) task.accuracy task.budget ≡ Ok plan
-        → PrintsPlan shape task.memory query (tables_in rows) (lists_by task.source query (tables_in rows)) (plan_text (run_asked task query rows plan))
-    by shapes.Order e =
-        let found = seen_ok (λ p. shaped.OrderPlan p) _ plan e in
-        subst (λ (p : AnyPlan). PrintsOrder task.memory query (tables_in rows) (lists_by task.source query (tables_in rows)) (plan_text (run_asked task query rows p))) found.1
-        (record {
-          plan = found.0;
-          holds = along task query rows found.0 (subst (λ (p : AnyPlan). BoundsHold (run_asked task query rows p)) (sym found.1) h);
-          within = subst (λ (p : AnyPlan). IsWithinLimit task.memory (shape_bytes p)) (sym found.1) within;
-          prints = refl;
-        })
-    by shapes.Tree e =
-        let found = seen_ok (λ p. shaped.TreePlan p) _ plan e in
-        subst (λ (p : AnyPlan). PrintsTree task.memory query (tables_in rows) (lists_by task.source query (tables_in rows)) (plan_text (run_asked task query rows p))) found.1
-        (record {
-          plan = found.0;
-          holds = over task query rows found.0 (subst (λ (p : AnyPlan). BoundsHold (run_asked task query rows p)) (sym found.1) h);
-          within = subst (λ (p : AnyPlan). IsWithinLimit task.memory (shape_bytes p)) (sym found.1) within;
-          prints = refl;
-        })
+prints task schema query rows plan made h within =
+    let given : Sourced = sourced task.source schema query (tables_in rows) in
+    text_prints task.terms.shape (given.sets task.accuracy) (given.scans task.accuracy) task.terms.budget task.terms.memory query (tables_in rows)
+    (lists_by task.source query (tables_in rows)) plan made (record { plan = h.plan; scans = h.scans; parts = h.parts }) within
 
 -- ---- the stages of a run
 
@@ -235,7 +232,7 @@ pub record Stages (schema_file query_file : List ℕ) (task : PlanWork) (files :
   pub rows_read : tables_stage schema query.from files ≡ Ok rows
   pub plan : AnyPlan
   pub planned : plan_asked task schema query (tables_in rows) ≡ Ok plan
-  pub within : IsWithinLimit task.memory (shape_bytes plan)
+  pub within : IsWithinLimit task.terms.memory (shape_bytes plan)
   pub is_run : Planned (run_asked task query rows plan) ≡ outcome
 
 pub stages : (shop : Option ℕ) (schema_file query_file : List ℕ) (task : PlanWork) (files : Files) (outcome : RunOutcome)
@@ -245,8 +242,8 @@ stages shop schema_file query_file task files outcome e =
     let first = two_steps (schema_stage schema_file files) (λ schema. aim_run (aims.Query query_file (works.Plan task)) schema files) outcome e in
     let second = two_steps (query_stage query_file first.0 files) (λ query. work_run (works.Plan task) first.0 query files) outcome first.2 in
     let third = two_steps (tables_stage first.0 second.0.from files) (plan_stage task first.0 second.0) outcome second.2 in
-    let last = two_steps (told plan_refusal (plan_asked task first.0 second.0 (tables_in third.0))) (λ plan. within_limit task.memory (shape_bytes plan) (Planned (run_asked task second.0 third.0 plan))) outcome third.2 in
-    let kept = within_ok task.memory (shape_bytes last.0) (Planned (run_asked task second.0 third.0 last.0)) outcome last.2 in
+    let last = two_steps (told plan_refusal (plan_asked task first.0 second.0 (tables_in third.0))) (λ plan. within_limit task.terms.memory (shape_bytes plan) (Planned (run_asked task second.0 third.0 plan))) outcome third.2 in
+    let kept = within_ok task.terms.memory (shape_bytes last.0) (Planned (run_asked task second.0 third.0 last.0)) outcome last.2 in
     record {
       schema = first.0;
       schema_read = first.1;
@@ -269,7 +266,6 @@ ok_and P (Err e) h = absurd h
 if_ok : {A E : Type 0} (P : A → Type 0) (r : Result A E) (x : A) → r ≡ Ok x → IfOk r P → P x
 if_ok P r x e h = subst (λ s. IfOk s P) e h
 
--- the rows text is written to out, if it is asked for
 rows_written : (task : PlanWork) (query : Query) (rows : List (List Row)) (plan : AnyPlan) (out : Growth) → task.out ≡ out_texts.Rows
     → GrewWhole out (out_text (Planned (run_asked task query rows plan))) → Grew out (rows_text (run_asked task query rows plan))
 rows_written task query rows plan out is written = subst (λ (t : OutText). GrewWhole out (text_for t (run_asked task query rows plan))) is written
@@ -289,7 +285,7 @@ module _ (schema_file query_file : List ℕ) (task : PlanWork) (is_run : task.ou
         tables = tables_in s.rows;
         rows = rows_in_files s.schema s.query files s.rows (query_of_schema query_file files s.schema s.query s.query_read) s.rows_read;
         scans = lists_by task.source s.query (tables_in s.rows);
-        are_scans = scans_are task s.query s.rows task.source;
+        are_scans = scans_are s.query (tables_in s.rows) task.source;
         plan_text = plan_text (run_asked task s.query s.rows s.plan);
         plan = prints task s.schema s.query s.rows s.plan s.planned (subst NoBoundIsTooLow back bounds) s.within;
         plan_written = subst (λ (o : RunOutcome). GrewWhole notes (notes_text o)) back noted;

@@ -1,4 +1,4 @@
--- The course of a command, from its schema's reading and what came of it.
+-- Each command has a course: its schema is read; then either this reading ended early, or the command ran over the schema.
 use Rattle.std.proofs.Common.{◌≡◌, ℕ, inl, inr, List, Option, None, Some, Result, Ok, Err, refl, ap, sym, ◌∙◌, subst}
 use Rattle.std.specs.Prelude.{IsOk, codes}
 use Rattle.base_io.specs.Files.{Files}
@@ -26,13 +26,11 @@ use Rattle.safebound_words.specs.declared.command.Command.{Command}
 use Rattle.safebound_words.specs.declared.command.Aim.TheVariants as aims
 use Rattle.prepared_runs.specs.Verdict.{IsAimFile, IsReached, aim_run, command_run, command_stage, schema_read, schema_stage, verdict}
 
--- the line for want of memory names no file
 memory_line : (ask : Option Command) (schema : Option Schema) → status_line status.NoMemory ask schema ≡ codes "error memory\n"
 unfolding error_line
 memory_line None schema = refl
 memory_line (Some ask) schema = refl
 
--- the line of the schema's file names no table
 schema_line : (name : List ℕ) (aim : Aim) (schema : Option Schema) → fault_line (status.ReadFault file.Schema) (names_by name aim None) ≡ fault_line (status.ReadFault file.Schema) (names_by name aim schema)
 schema_line name (aims.Query query work) schema = refl
 schema_line name (aims.Append append) schema = refl
@@ -40,7 +38,7 @@ schema_line name (aims.Append append) schema = refl
 pub memory_told : (s : Status) (ask : Option Command) (schema : Option Schema) → s ≡ status.NoMemory → status_line s ask schema ≡ codes "error memory\n"
 memory_told s ask schema is = ap (λ (x : Status). status_line x ask schema) is ∙ memory_line ask schema
 
--- words that are no command
+-- the words of this call are no command
 pub course_unasked : (call : Call) → call.status ≡ status.Refused refusal.Usage → command_stage call.words ≡ Err refusal.Usage → call.store.misses_after ≡ call.store.misses_before → DidNotGrow call.out
     → StatusTold call.notes (status_line call.status None None) → Course call
 course_unasked call is words misses out told = record {
@@ -69,7 +67,7 @@ module _ (ask : Command) (words : List (List ℕ)) (command : command_stage word
   pub no_usage : command_stage words ≡ Err refusal.Usage → ⊥
   no_usage is = let no : ◌≡◌ {A = Result Command Refusal} (Ok ask) (Err refusal.Usage) = sym command ∙ is in cc
 
-  -- ---- the verdict reads these files
+  -- ---- files that the verdict reads: the schema's file, and the files that the command's aim needs
 
   reached_schema : (files : Files) (id : FileId) → id ≡ file.Schema → IsReached words files id
   reached_schema files id at' = rw command (inl at')
@@ -77,14 +75,14 @@ module _ (ask : Command) (words : List (List ℕ)) (command : command_stage word
   reached_later : (schema : Schema) (files : Files) (id : FileId) → schema_stage ask.schema_file files ≡ Ok schema → IsAimFile ask.aim schema files id → IsReached words files id
   reached_later schema files id is at' = rw (command, is) (inr at')
 
-  -- ---- the fault text
+  -- ---- the fault text of a command, when its schema was read or wasn't
 
   line_of : (s : Status) (files : Files) (r : Result Schema Refusal) → schema_stage ask.schema_file files ≡ r → status_line s (Some ask) (where_ok r) ≡ fault_text s words files
   line_of s files r is =
       ap (λ (v : Result Schema Refusal). status_line s (Some ask) (where_ok v)) (sym (schema_of files ∙ is))
       ∙ ap (λ (v : Result Command Refusal). status_line s (where_ok v) (where_ok (schema_read words files))) (sym command)
 
-  -- ---- the schema's reading ended
+  -- ---- the schema's reading ended early
 
   module _ (s : Status) (store : Reading) (out notes : Growth) (e : Ending) (is : s ≡ ended e) (reads : Reads store (schema_stage ask.schema_file) (AtFile file.Schema) (Err e)) where
     stopped_line : (files : Files) → store.files ≡ Some files → status_line s (Some ask) None ≡ fault_text s words files

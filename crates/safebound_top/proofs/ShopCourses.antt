@@ -1,4 +1,4 @@
--- The course of a command that reads the files of a shop.
+-- A command that reads the files of a shop has a course.
 use Rattle.std.proofs.Common.{◌≡◌, ℕ, List, Option, None, Some, Result, Ok, Err, refl, sym, ◌∙◌, subst, arith}
 use Rattle.base_io.specs.Causes.{Rose}
 use Rattle.base_io.specs.Files.{Files}
@@ -67,7 +67,7 @@ module _ (number : ℕ) (store : Reading) (is : store.files ≡ Some (demo_files
       by (Unasked u) = Unasked (record { status = u.status; words = u.words; misses = refl; out = u.out; told = u.told })
       by (Asked a) = Asked (record { words = a.words; ran = ran_shop s out notes (verdict words) (IsReached words) h.line a.ran })
 
--- ---- no memory for the files
+-- ---- there is no memory for the shop's files
 
 pub course_unmade : (ask : Command) (words : List (List ℕ)) → command_stage words ≡ Ok ask → (number : ℕ) (s : Status) (out notes : Growth)
     → s ≡ status.NoMemory → DidNotGrow out → StatusTold notes (status_line s (Some ask) None)
@@ -83,7 +83,7 @@ course_unmade ask words command number s out notes is still told = record {
   });
 }
 
--- ---- of the words, and of the task that they ask for
+-- ---- the course of a call, whose words say whether a shop's store or the caller's store is read
 
 abbrev of_words : List (List ℕ) → Status → Reading → Growth → Growth → Option ℕ → Call
 of_words words s handed_in out notes shop = record {

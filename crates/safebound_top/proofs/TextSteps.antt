@@ -1,4 +1,4 @@
--- The texts, one after the other, and what is told of a failed write.
+-- The texts are written one after another. The lemmas say what a call has written after each of them, and after a write that failed.
 use Rattle.std.proofs.Common.{◌≡◌, ℕ, List, ◌++◌, Option, None, Some, Result, Ok, Err, refl, ap, sym, ◌∙◌, subst, arith}
 use Rattle.base_io.specs.Devices.{Growth}
 use Rattle.base_io.specs.Sinks.{GrewByPrefix, appended}
@@ -18,16 +18,14 @@ use Rattle.prepared_runs.specs.RunOutcome.{PlanFromStatsFile, RunOutcome, Planne
 use Rattle.safebound_top.specs.OutcomeTexts.{stats_file_plan_text, notes_text, out_text}
 use Rattle.safebound_top.specs.Texts.{out_text_of, plan_text}
 
--- a line that was written, whole or cut, was told
 pub told_of : (g : Growth) (line : List ℕ) (r : Result (Unit {0}) Failed) → Wrote g line r → StatusTold g line
 told_of g line (Ok u) h = record { tells = record { prefix = h.prefix; whole = λ calm. h.ok }; later = h.later }
 told_of g line (Err e) h = record { tells = record { prefix = h.prefix; whole = λ calm. absurd (calm h.failed) }; later = h.later }
 
--- if a write of a text was cut, so was the write of a longer text that begins with it
 pub cut_first : {t0 t1 : Option (List ℕ)} {f0 f1 : ℕ} {a : List ℕ} {e : Failed} (b : List ℕ) → Wrote (between t0 t1 f0 f1) a (Err e) → Wrote (between t0 t1 f0 f1) (a ++ b) (Err e)
 cut_first {t0} {t1} {f0} {f1} {a} {e} b h = record { ok = tt; prefix = prefix_of_first t0 t1 a b h.prefix; later = h.later; failed = h.failed }
 
--- ---- the plan text, and then the other text, if any
+-- ---- the plan text is written to notes, and then the text for out, if there is one
 
 pub notes_cut : (t0 t1 o : Option (List ℕ)) (f0 f1 g : ℕ) (run : AcceptedQuery) (text : List ℕ) (e : Failed) → text ≡ plan_text run → Wrote (between t0 t1 f0 f1) text (Err e)
     → TextsWritten (between o o g g) (between t0 t1 f0 f1) (Planned run) (Err sink.Notes)
@@ -59,7 +57,7 @@ out_cut t0 t1 o0 o1 f0 f1 g0 g1 run text (Some other) u e is out h k = record {
   later_notes = h.later;
 }
 
--- ---- a statistics file, and a plan from one
+-- ---- the text of a statistics file, and the text of a plan from a statistics file
 
 module _ (out notes : Growth) (outcome : RunOutcome) (still : DidNotGrow notes) (text : List ℕ) (no_notes : notes_text outcome ≡ None) (its : out_text outcome ≡ Some text) where
   untouched : GrewWhole notes (notes_text outcome)
@@ -78,14 +76,13 @@ module _ (out notes : Growth) (made : PlanFromStatsFile) (still : DidNotGrow out
   pub plan_cut : (e : Failed) → Wrote notes (stats_file_plan_text made) (Err e) → TextsWritten out notes (PlannedFromStats made) (Err sink.Notes)
   plan_cut e h = record { texts = (h.failed, still, h.prefix); later_out = omega (arith, still.1); later_notes = h.later }
 
--- ---- a failed write, and its line
+-- ---- a write failed, and then its line is written
 
 module _ (t0 t1 t2 : Option (List ℕ)) (f0 f1 f2 : ℕ) (line : List ℕ) (told : StatusTold (between t1 t2 f1 f2) line) where
   cut_then_told : (text : Option (List ℕ)) → WasCut (between t0 t1 f0 f1) text → WasCutAndTold (between t0 t2 f0 f2) text line
   cut_then_told None cut = cut
   cut_then_told (Some text) cut = record { mid = t1; cut = cut; told = told.tells.prefix }
 
-  -- what the notes tell after their text
   told_after : (text : Option (List ℕ)) → GrewWhole (between t0 t1 f0 f1) text → t1 ≡ grown t0 text
   told_after None still = still.0
   told_after (Some text) whole = whole

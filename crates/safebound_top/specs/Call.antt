@@ -1,11 +1,11 @@
--- What a call saw and left.
+-- What a call read, and what it wrote.
 use Rattle.std.specs.Prelude.{ℕ, ◌≡◌, List, Option}
 use Rattle.base_io.specs.Causes.{Rose}
 use Rattle.base_io.specs.Sinks.{appended, GrewByPrefix}
 use Rattle.base_io.specs.Devices.{Growth, Reading}
 use Rattle.outcomes.specs.declared.status.Status.{Status}
 
--- a sink took a prefix of a text, and all of it where its count of faults didn't rise
+-- a sink took a prefix of a text. If the sink's count of faults didn't rise, it took the whole text
 pub record GrewOrWasCut (old new : Option (List ℕ)) (before now : ℕ) (text : List ℕ) : Type 0 where
   pub prefix : GrewByPrefix old new text
   pub whole : (Rose before now → ⊥) → new ≡ appended old text
@@ -25,6 +25,6 @@ pub record Call : Type 0 where
   pub out : Growth
   pub notes : Growth
 
--- the sink took exactly the text. If it didn't tell its bytes before the call, this says only that it doesn't tell them afterwards
+-- the sink took exactly the text. If the sink didn't tell its bytes before the call, this says only that it doesn't tell its bytes afterwards
 abbrev pub Grew : Growth → List ℕ → Type 0
 Grew sink text = sink.taken_after ≡ appended sink.taken_before text

@@ -26,7 +26,7 @@ pub record StatusTold (notes : Growth) (line : List ℕ) : Type 0 where
   pub tells : GrewByLine notes line
   pub later : notes.faults_before ≤ notes.faults_after
 
--- an outcome's text for notes was written, if it has one, and then its text for out; the first failed write ended this
+-- an outcome's text for notes was written, if there is one, and then its text for out, if there is one. After a failed write nothing more was written
 abbrev pub AreWritten : Growth → Growth → RunOutcome → Result (Unit {0}) SinkId → Type 0
 AreWritten out notes outcome (Ok u) = GrewWhole notes (notes_text outcome) × GrewWhole out (out_text outcome)
 AreWritten out notes outcome (Err sink.Notes) = FaultsRose notes × DidNotGrow out × WasCut notes (notes_text outcome)
@@ -60,7 +60,7 @@ pub data StageRan (s : Status) (store : Reading) (out notes : Growth) (stage : F
   Went : (outcome : RunOutcome) → Reads store stage ComesTo (Ok outcome) → TextsEnded s out notes outcome line
       → StageRan s store out notes stage ComesTo line
 
--- the words are refused: the store missed no name, out didn't grow, and a line told the refusal
+-- the words are refused: the store's count of missing files didn't rise, out didn't grow, and a line told the refusal
 pub record IsUnasked (call : Call) (line : List ℕ) : Type 0 where
   pub status : call.status ≡ status.Refused refusal.Usage
   pub words : command_stage call.words ≡ Err refusal.Usage

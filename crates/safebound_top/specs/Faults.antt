@@ -11,14 +11,14 @@ use Rattle.safebound_words.specs.declared.command.Aim.TheVariants as aims
 use Rattle.safebound_words.specs.declared.command.Work.TheVariants as works
 use Rattle.prepared_runs.specs.Verdict.{command_stage, schema_read}
 
--- the name of the statistics file that is read, empty if no such file is read
+-- the name of the statistics file that is read. It is empty if no statistics file is read
 abbrev pub stats_file_of : Work → List ℕ
 stats_file_of (works.Plan task) = []
 stats_file_of (works.WriteStats accuracy) = []
-stats_file_of (works.PlanFromStats file budget memory) = file
+stats_file_of (works.PlanFromStats file terms) = file
 
--- the names that a line may use: those of the command's files, and those in the schema. Only a command that appends rows names the file of a table's
--- rows
+-- the names that a line may use: the names of the command's files, and the names in the schema. Only a command that appends rows names the file of a
+-- table's rows
 abbrev pub names_by : List ℕ → Aim → Option Schema → Names
 names_by name (aims.Query query work) schema =
     record { schema_file = name; query_file = query; stats_file = stats_file_of work; rows_file = None; schema = schema }

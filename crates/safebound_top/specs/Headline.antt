@@ -21,11 +21,11 @@ use Rattle.prepared_runs.specs.RunOutcome.{KeepsItsLimit, NoBoundIsTooLow, RunOu
 use Rattle.safebound_top.specs.OutcomeTexts.{notes_text, out_text}
 use Rattle.prepared_runs.specs.Verdict.{IsReached, command_stage, verdict}
 
--- P holds of the files that the store tells, if it tells them, and of the verdict of the words over these files
+-- if the store tells its files, P is true of these files and of the verdict of the words over them
 abbrev pub OverFiles : Call → (Files → Result RunOutcome Refusal → Type 0) → Type 0
 OverFiles call P = (files : Files) → call.store.files ≡ Some files → P files (verdict call.words files)
 
--- the sink has the bytes that it had, if it tells them, and its count of faults is as before
+-- the sink tells the same bytes as before, if it tells its bytes, and its count of faults is as before
 abbrev pub DidNotGrow : Growth → Type 0
 DidNotGrow sink = (sink.taken_after ≡ sink.taken_before) × (sink.faults_after ≡ sink.faults_before)
 
@@ -56,20 +56,20 @@ FaultsRose sink = Rose sink.faults_before sink.faults_after
 abbrev pub GrewByLine : Growth → List ℕ → Type 0
 GrewByLine sink line = GrewOrWasCut sink.taken_before sink.taken_after sink.faults_before sink.faults_after line
 
--- 1. Done comes only where the verdict is accepted. The notes grew by exactly its plan text; for `stats` and `append` they took nothing. For `run`,
---    out grew by exactly its rows text; for `audit` and `demo`, by exactly its audit text; for `stats` and `append`, by exactly the text of the
---    statistics file. For `plan`, out took nothing.
+-- 1. A call ends with Done only if the verdict is accepted. The notes grew by exactly the plan text of the verdict; for `stats` and `append` the notes
+--    took nothing. For `run`, out grew by exactly the rows text; for `audit` and `demo`, by exactly the audit text; for `stats` and `append`, by exactly
+--    the text of the statistics file. For `plan`, out took nothing.
 abbrev pub DoneIsExact : Call → Type 0
 DoneIsExact call = call.status ≡ status.Done
     → OverFiles call (λ files v. IsOkAnd v (λ outcome. GrewWhole call.notes (notes_text outcome) × GrewWhole call.out (out_text outcome)))
 
 -- 2. If the verdict is accepted, the scan of each FROM entry and each level of the order have at most as many rows as the plan text of 1 says. That
---    holds for `plan` too, which lists no rows. With `--bushy` the plan is a join tree, and its inner nodes take the place of levels. Without
---    `--reduce` and `--count`, scans, levels and nodes are those of the query over whole tables. With either, scans are the reduced ones, the text
---    prints exactly their numbers of rows, and levels and nodes are over them. `--keys` makes bounds of levels lower, and not their rows. The audit
---    text of 1 prints the number of rows of each level or inner node beside its bound. With `--stats` bounds hold over all tables for which the
---    statistics file stands, whoever wrote it. The file that `stats` writes stands for the tables that were read. If a file stands for some tables,
---    the one that `append` makes of it stands for these with the new rows after them.
+--    is so for `plan` too, which lists no rows. With `--bushy` the plan is a join tree, and its inner nodes take the place of levels. Without
+--    `--reduce` and `--count`, scans, levels and nodes are those of the query over whole tables. With one of these flags, scans are the reduced scans,
+--    the text prints exactly their numbers of rows, and levels and nodes are over the reduced scans. `--keys` makes bounds of levels and nodes lower;
+--    their rows stay the same. The audit text of 1 prints the number of rows of each level or inner node beside its bound. With `--stats`, bounds hold
+--    over all tables for which the statistics file stands, whoever wrote the file. The file that `stats` writes stands for the tables that were read.
+--    If a file stands for some tables, `append` makes a file from it that stands for these tables with the new rows after the old ones.
 abbrev pub EveryBoundHolds : Call → Type 0
 EveryBoundHolds call = OverFiles call (λ files v. IfOk v NoBoundIsTooLow)
 
@@ -77,13 +77,13 @@ EveryBoundHolds call = OverFiles call (λ files v. IfOk v NoBoundIsTooLow)
 abbrev pub TheRowsAreTheAnswer : Call → Type 0
 TheRowsAreTheAnswer call = OverFiles call (λ files v. IfOk v PrintsTheAnswer)
 
--- 4. If the call ended for want of memory, the notes grew by its line, and out didn't grow.
+-- 4. If the call ended for want of memory, the notes grew by the line `error memory`, and out didn't grow.
 abbrev pub WantOfMemoryLeavesItsLine : Call → Type 0
 WantOfMemoryLeavesItsLine call = call.status ≡ status.NoMemory → GrewByLine call.notes (codes "error memory\n") × DidNotGrow call.out
 
--- 5. A write fault comes only where the verdict is accepted and the named sink's count rose.
+-- 5. A call ends with a write fault only if the verdict is accepted and the named sink's count of faults rose.
 pub record WriteFaultsHaveTheirCause (call : Call) : Type 0 where
-  -- a fault of notes: they took a prefix of the plan text, and then a prefix of the line; out didn't grow
+  -- a fault of notes: the notes took a prefix of the plan text, and then a prefix of the line; out didn't grow
   pub of_notes : call.status ≡ status.WriteFault sink.Notes → FaultsRose call.notes × DidNotGrow call.out
       × OverFiles call (λ files v. IsOkAnd v (λ outcome. WasCutAndTold call.notes (notes_text outcome)
       (fault_text call.status call.words files)))
@@ -93,8 +93,8 @@ pub record WriteFaultsHaveTheirCause (call : Call) : Type 0 where
       × GrewOrWasCut (grown call.notes.taken_before (notes_text outcome)) call.notes.taken_after call.notes.faults_before call.notes.faults_after
       (fault_text call.status call.words files)))
 
--- 6. A refusal comes only where the verdict is that refusal, with the same fields. The notes grew by its line, and out didn't grow. Whether it is
---    Usage depends on the words alone.
+-- 6. A call ends with a refusal only if the verdict is this refusal, with the same fields. The notes grew by the refusal's line, and out didn't grow.
+--    Whether the refusal is Usage depends on the words alone.
 pub record RefusalsAreTheVerdict (call : Call) : Type 0 where
   pub usage : (call.status ≡ status.Refused refusal.Usage) ↔ (command_stage call.words ≡ Err refusal.Usage)
   pub told : (r : Refusal) → call.status ≡ status.Refused r → DidNotGrow call.out
@@ -102,13 +102,13 @@ pub record RefusalsAreTheVerdict (call : Call) : Type 0 where
   -- a file is refused as missing only if the store tells its files
   pub untold : (file : FileId) → call.status ≡ status.Refused (refusal.Missing file) → call.store.files ≢ None
 
--- 7. A read fault comes only where the store's count of faults rose and the verdict reads this file. The notes grew by its line, and out didn't grow.
---    The store that `demo` reads never counts a fault.
+-- 7. A call ends with a read fault only if the store's count of faults rose and the verdict reads the named file. The notes grew by the fault's line,
+--    and out didn't grow. The store that `demo` reads never counts a fault.
 pub record ReadFaultsHaveTheirCause (call : Call) : Type 0 where
   pub told : (file : FileId) → call.status ≡ status.ReadFault file
       → Rose call.store.faults_before call.store.faults_after × DidNotGrow call.out
       × OverFiles call (λ files v. IsReached call.words files file × GrewByLine call.notes (fault_text call.status call.words files))
-  -- no other name is asked for: where the verdict misses no file, the store's count of misses is as before
+  -- the call asks for no other name: if the verdict misses no file, the store's count of misses is as before
   pub misses : OverFiles call (λ files v. MissesNothing v → call.store.misses_after ≡ call.store.misses_before)
 
 abbrev pub status_of : Result RunOutcome Refusal → Status
@@ -116,7 +116,7 @@ status_of (Ok outcome) = status.Done
 status_of (Err r) = status.Refused r
 
 -- 8. Nothing is refused without a cause. If the store's count of faults didn't rise, the status is the verdict's, or a write fault, or want of
---    memory. If no sink's count rose either, it is the verdict's, or want of memory.
+--    memory. If the sinks' counts didn't rise either, the status is the verdict's, or want of memory.
 pub record NothingIsRefusedWithoutCause (call : Call) : Type 0 where
   pub by_the_store : (Rose call.store.faults_before call.store.faults_after → ⊥)
       → OverFiles call (λ files v. (call.status ≡ status_of v) ⊎ ((which : SinkId) × (call.status ≡ status.WriteFault which))
@@ -124,8 +124,8 @@ pub record NothingIsRefusedWithoutCause (call : Call) : Type 0 where
   pub by_the_sinks : (Rose call.store.faults_before call.store.faults_after → ⊥) → (FaultsRose call.out → ⊥) → (FaultsRose call.notes → ⊥)
       → OverFiles call (λ files v. (call.status ≡ status_of v) ⊎ (call.status ≡ status.NoMemory))
 
--- 9. If the verdict is accepted and `--memory N` is given, the plan text of 1 prints how many bytes the plan's buffers take, and this is at most N. A
---    plan that takes more is refused as MemoryLimit, unless Budget or PastBits refuses it first. The clause `buffers` of `safebound`
+-- 9. If the verdict is accepted and `--memory N` is given, the plan text of 1 prints how many bytes the plan's buffers take, and this number is at most
+--    N. A plan that takes more is refused as MemoryLimit, unless Budget or PastBits refuses it first. The clause `buffers` of `safebound`
 --    (`KeepsItsBuffers` of prepared_runs) says that after Done the buffers hold exactly these bytes.
 abbrev pub EveryLimitIsKept : Call → Type 0
 EveryLimitIsKept call = OverFiles call (λ files v. IfOk v KeepsItsLimit)

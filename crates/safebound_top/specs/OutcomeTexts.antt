@@ -1,16 +1,12 @@
 -- The texts that a run writes, by its outcome.
-use Rattle.std.specs.Prelude.{ℕ, List, ◌++◌, Option, None, Some}
-use Rattle.printed_texts.specs.Memory.{memory_text}
-use Rattle.printed_texts.specs.Plans.{plan_lines}
-use Rattle.reserve_plan.specs.Memory.{plan_bytes}
+use Rattle.std.specs.Prelude.{ℕ, List, Option, None, Some}
 use Rattle.stats_file.specs.FileText.{file_text}
 use Rattle.prepared_runs.specs.RunOutcome.{Appended, StatsMade, PlanFromStatsFile, RunOutcome, Planned, PlannedFromStats}
-use Rattle.safebound_top.specs.Texts.{out_text_of, plan_text}
+use Rattle.safebound_top.specs.Texts.{out_text_of, plan_text, plan_text_of}
 
--- the plan text of a plan from a statistics file. With a limit of memory the line of its bytes comes last
+-- the plan text of a plan from a statistics file
 abbrev pub stats_file_plan_text : PlanFromStatsFile → List ℕ
-stats_file_plan_text made =
-    plan_lines made.query.from made.plan ++ memory_text made.memory (plan_bytes made.plan.order made.plan.scans made.plan.levels)
+stats_file_plan_text made = plan_text_of made.query.from made.plan made.memory
 
 -- the text for notes, if there is one: the plan text
 abbrev pub notes_text : RunOutcome → Option (List ℕ)

@@ -5,26 +5,27 @@
 -- query of it, and each FROM entry has the rows in its table's file. A plan was printed in which no bound is too low. The printed rows are those of
 -- the answer, in any order, each as often as in the answer.
 --
--- - Bounds count rows that are kept, and not those that are tried. A choice has one scanned row of each entry of a level or node. It counts if every
---   conjunct holds that names no other entry. A conjunct that names no entry is tested at every level and node, but not in scans. Under `WHERE 1 = 2`
---   every level and node is empty, and the scans are the same as without it.
--- - With `--reduce` or `--count` the text looks the same. Its scan lines then speak of the reduced scans, and levels and nodes are over these.
--- - With `--bushy` there is a line for each inner node. A tree of one FROM entry has none: then the scan's line is the bound of the answer.
--- - With `--keys` exactly the same is promised as without it: scans, levels and choices are those of the query as it is written.
--- - Apart from the limit of `--memory`, nothing is said about how high a bound may be. Budget, accuracy, this limit and the flags decide whether a
---   plan is printed, and which one; the headline says how.
--- - The answer is that of SQL-92 as the profile has it. It differs from the standard or from usual engines mainly in these points. Reserved words
+-- - Bounds count the rows that a join keeps, and not the rows that it tries. A choice has one scanned row of each entry of a level or node. The choice
+--   counts if every conjunct that names only these entries holds. A conjunct that names no entry is tested at every level and node, but not in scans.
+--   Under `WHERE 1 = 2` every level and node is empty, and the scans are the same as without this condition.
+-- - With `--reduce` or `--count` the text has the same form. Its scan lines then speak of the reduced scans, and levels and nodes are over the reduced
+--   scans.
+-- - With `--bushy` there is a line for each inner node. A tree of one FROM entry has no inner node: then the line of the scan has the bound of the answer.
+-- - With `--keys` the promise is the same as without `--keys`: scans, levels and choices are those of the query as it is written.
+-- - Apart from the limit of `--memory`, nothing is said about how high a bound may be. Budget, accuracy, the limit of `--memory` and the flags decide
+--   whether a plan is printed, and which plan; the headline says how.
+-- - The answer is that of SQL-92 as the profile has it. This answer differs from the standard or from usual engines mainly in these points. Reserved words
 --   that sql_tokens doesn't list (`read_words`, `reserved_words`) are plain names. Texts are compared without padding (`value_cmp` of
---   csv_tables). All number types are one kind of 64 bits (`kind_of` of schema_types). No row is tested against a reference (`reference_of`
---   there).
--- - Nothing is promised over a store that doesn't tell its files. If a sink doesn't tell its bytes, `Grew` says just that it doesn't tell them
---   afterwards. The contract of stores says that a read gives the bytes of a told file (`read_at` of base_io, by `ReadsAt`). The program's own folder
---   and streams tell nothing; docs/PROVED.md says what is trusted of them.
+--   csv_tables). All number types are one kind of 64 bits (`kind_of` of schema_types). No row is tested against a reference (`reference_of` of
+--   schema_types).
+-- - Nothing is promised over a store that doesn't tell its files. If a sink doesn't tell its bytes, `Grew` says only that the sink doesn't tell its
+--   bytes afterwards. The contract of stores says that a read gives the bytes of a told file (`read_at` of base_io, by `ReadsAt`). The program's own
+--   folder and streams tell nothing; docs/PROVED.md says what is trusted of this folder and these streams.
 -- - Plan and rows are promised separately. The clause `buffers` (`KeepsItsBuffers`, in Kept.antt) says that the rows were found along the printed
 --   plan.
--- - The promise is only about calls that end with Done, and only about words that ask for `run`. Words with a flag or an option twice, with two that
---   can't stand together, or with a number out of its range ask for nothing. The headline says in which cases a call ends otherwise, and what the
---   other commands print. A clause of the top call says that each call keeps the promise (`promise` of `safebound`, in src/top_call.rt).
+-- - The promise is only about calls that end with Done, and only about words that ask for `run`. Words ask for nothing if they have a flag or an option
+--   twice, or two flags or options that can't stand together, or a number out of its range. The headline says in which cases a call ends otherwise, and
+--   what the other commands print. A clause of the top call says that each call keeps the promise (`promise` of `safebound`, in src/top_call.rt).
 use Rattle.std.specs.Prelude.{ℕ, ◌≡◌, ◌+◌, ◌<◌, ◌≤◌, ◌++◌, List, length, slice_get, slice_index, take, Option, None, Some, Ok, IsPermutation}
 use Rattle.base_io.specs.Devices.{Growth}
 use Rattle.base_io.specs.Files.{Files, file_of}
@@ -69,7 +70,7 @@ use Rattle.prepared_runs.specs.Limits.{IsWithinLimit}
 
 -- ---- what the files say
 
--- IsSuch holds of this value, and of no other value
+-- `value` has the property IsSuch, and no other value has this property
 pub record IsTheOne {A : Type 0} (IsSuch : A → Type 0) (value : A) : Type 0 where
   pub is : IsSuch value
   pub only : (other : A) → IsSuch other → other ≡ value
@@ -86,7 +87,7 @@ pub record AsksQuery (files : Files) (name : List ℕ) (schema : Schema) (query 
   pub there : file_of files name ≡ Some text
   pub asks : IsTheOne (λ q. IsAnswer schema text (Ok q)) query
 
--- the rows of a FROM entry are those in the file of its table
+-- the rows of a FROM entry are the rows in the file of its table
 pub record AreInFile (files : Files) (schema : Schema) (query : Query) (entry : ℕ) (rows : List Row) : Type 0 where
   pub source : Source
   pub is_source : slice_get query.from entry ≡ Some source
@@ -98,16 +99,16 @@ pub record AreInFile (files : Files) (schema : Schema) (query : Query) (entry : 
 
 -- ---- what the plan text says
 
--- the rows that are joined: for each FROM entry those for which every conjunct holds that names just this entry. With `--reduce` or `--count` they
--- are the largest lists of these rows in which each row has a match across each equality of its entry: a row with an equal value in the other entry's
--- list
+-- the rows that are joined. For each FROM entry these are the rows for which every conjunct that names only this entry holds. With `--reduce` or
+-- `--count` the lists are the largest lists of these rows in which each row has a match for each equality of its entry. A match is a row with an equal
+-- value in the other entry's list
 abbrev pub AreScans : ListSource → Query → Tables → List (List ℕ) → Type 0
 AreScans sources.Columns query tables scans = scans ≡ scans_of query tables
 AreScans sources.Keyed query tables scans = scans ≡ scans_of query tables
 AreScans sources.Reduced query tables scans = AreReducedScans query tables scans
 AreScans sources.Counted query tables scans = AreReducedScans query tables scans
 
--- each way to take one row of its scan for each of these entries, such that every conjunct holds that names no other entry
+-- the choices for these entries: each takes one row from the scan of each entry, and every conjunct that names only these entries holds
 abbrev pub choices_over : Query → Tables → List (List ℕ) → List ℕ → List (List ℕ)
 choices_over query tables scans entries = level_over (conjuncts_of query tables) (list_at scans) entries
 
@@ -133,7 +134,7 @@ pub record HoldsOver (query : Query) (tables : Tables) (scans : List (List ℕ))
 
 -- a plan with its text: an order, or with `--bushy` a join tree. With `--memory` a last line has the number that `plan_bytes` or `tree_bytes` counts
 -- from the plan. That number is at most the limit. The clause `buffers` (`KeepsItsBuffers`, in Kept.antt) says that the buffers of the joins hold so
--- many bytes. Memory for reading and planning isn't counted
+-- many bytes. The number doesn't count memory for reading and planning
 pub record PrintsOrder (limit : Option ℕ) (query : Query) (tables : Tables) (scans : List (List ℕ)) (text : List ℕ) : Type 0 where
   pub plan : Plan
   pub holds : HoldsAlong query tables scans plan
@@ -172,14 +173,14 @@ pub record RanWhole (files : Files) (schema_file query_file : List ℕ) (work : 
   pub scans : List (List ℕ)
   pub are_scans : AreScans work.source query tables scans
   pub plan_text : List ℕ
-  pub plan : PrintsPlan work.shape work.memory query tables scans plan_text
+  pub plan : PrintsPlan work.terms.shape work.terms.memory query tables scans plan_text
   pub plan_written : Grew notes plan_text
   pub rows_text : List ℕ
   pub answer : PrintsAnswer query tables rows_text
   pub answer_written : Grew out rows_text
 
--- each call of `run` that ends with Done over told files printed a plan and the answer (RanWhole), at any budget and accuracy, with or without
--- `--keys`. The words of `run` ask for a plan of the query in a file, and for its rows in out
+-- if the store tells its files, each call of `run` that ended with Done printed a plan and the answer (RanWhole), at any budget and accuracy, with or
+-- without `--keys`. The words of `run` ask for a plan of the query in a file, and for the query's rows in out
 abbrev pub Promise : Call → Type 0
 Promise call = (schema_file query_file : List ℕ) (work : PlanWork) (files : Files)
     → AskFor call.words (over_query None schema_file query_file (works.Plan work)) → work.out ≡ out_text.Rows

@@ -1,12 +1,12 @@
 //! The top call: from the words of a command line to the bytes of two streams.
 //!
-//! It calls the stages in order, and does nothing else. `read_words` finds what is asked for. `load_schema` and `prepare_run` read every file, plan,
+//! The top call calls the stages in order, and does nothing else. `read_words` finds what is asked for. `load_schema` and `prepare_run` read every file, plan,
 //! take all memory of the run, and write nothing. `write_outcome` writes the plan text, and then the rows text or the audit text; or it writes the
-//! text of a statistics file. Writing takes no memory. If the status isn't `Done`, `write_fault` tells it in one line.
+//! text of a statistics file. Writing takes no memory. If the status isn't `Done`, `write_fault` tells the status in one line.
 //!
 //! `safebound` has four clauses:
 //!
-//! - `promise` says what `run` has printed when it ends with Done. It speaks of words, files and SQL alone (`Promise` in `specs/Promise.antt`).
+//! - `promise` says what `run` has printed when it ends with Done. The clause speaks of words, files and SQL alone (`Promise` in `specs/Promise.antt`).
 //! - `headline` says what comes out of any call, and why (`Headline` in `specs/Headline.antt`).
 //! - `untouched` says that `demo` leaves the caller's store as it was.
 //! - `buffers` says that the joins wrote into the buffers of the plan, and that these have exactly the plan's bytes
@@ -27,6 +27,7 @@ pub use outcomes::{
 pub use prepared_runs::Joined;
 pub use report::write_fault;
 pub use safebound_words::{
-    Aim, Command, ListSource, NewRows, OutText, PlanWork, Shape, Word, WordsError, Work, read_words,
+    Aim, Command, ListSource, NewRows, OutText, PlanTerms, PlanWork, Shape, Word, WordsError, Work,
+    read_words,
 };
 pub use top_call::{refuse_words, safebound};

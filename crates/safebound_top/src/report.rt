@@ -12,7 +12,7 @@ use printed_texts::{Named, write_line};
 use safebound_words::{Aim, Command, Work};
 use schema_types::Schema;
 
-// The name of the statistics file that a command reads. It is empty if the command reads none.
+// The name of the statistics file that a command reads. The name is empty if the command reads no statistics file.
 fn stats_file_of<'a>(work: &'a Work<'a>) -> &'a str
     ensures { result.now ≡ stats_file_told work.now }
 {
@@ -22,7 +22,7 @@ fn stats_file_of<'a>(work: &'a Work<'a>) -> &'a str
     }
 }
 
-// The names that a line may use: those of the command's files, and those in the schema.
+// The names that a line may use: the names of the command's files, and the names in the schema.
 fn names_by<'a>(schema_file: &'a str, aim: &'a Aim<'a>, schema: Option<&'a Schema>) -> Named<'a>
     ensures { named result ≡ names_in schema_file.now aim.now (option_copied schema.entry) }
 {
@@ -44,7 +44,7 @@ fn names_by<'a>(schema_file: &'a str, aim: &'a Aim<'a>, schema: Option<&'a Schem
     }
 }
 
-// The same, for words that may be no command: then no file is named.
+// The names that a line may use, if the words may be no command. Without a command no file is named.
 fn names_of<'a>(command: Option<&'a Command<'a>>, schema: Option<&'a Schema>) -> Named<'a>
     ensures { named result ≡ names_told (option_copied command.entry) (option_copied schema.entry) }
 {

@@ -3,11 +3,9 @@ ghost use Rattle.std.specs.Prelude.{◌≡◌, ◌++◌, ℕ, List, None, OnOk, 
 ghost use Rattle.base_io.specs.Devices.{Growth, growth};
 ghost use Rattle.base_io.specs.Writes.{Wrote};
 ghost use Rattle.printed_texts.specs.Memory.{memory_text};
-ghost use Rattle.printed_texts.specs.Plans.{plan_lines};
 ghost use Rattle.printed_texts.specs.Texts.{rows_lines};
 ghost use Rattle.sql_meaning.specs.Databases.{IsDatabaseOf};
 ghost use Rattle.joined_texts.specs.Printed.{printed_rows};
-ghost use Rattle.plans.specs.LeftDeep.{IsPlan};
 ghost use Rattle.stats_file.specs.FileText.{file_text};
 ghost use Rattle.stats_file.specs.Rules.{KeepsRules};
 ghost use Rattle.safebound_top.specs.Course.{TextsWritten, WroteIfAny};
@@ -105,7 +103,7 @@ fn write_room<N: Sink>(room: &Room, sources: &[Source], notes: &mut N) -> Result
     }
 }
 
-// Writes the plan text.
+// Writes the plan text of an order or of a tree.
 fn write_shaped<N: Sink>(plan: &AnyPlan, sources: &[Source], notes: &mut N) -> Result<(), Failed>
     requires { IsShapedPlan (length sources.now) plan.now }
     ensures { Wrote (growth N.taken N.faults notes.old notes.new) (shape_lines sources.now plan.now) result }
@@ -191,29 +189,27 @@ fn write_file<O: Sink>(file: &StatsFile, schema: &Schema, out: &mut O) -> Result
     }
 }
 
-// Writes the plan text of a plan from a statistics file. If memory is limited, it adds the line with the bytes of the plan.
-fn write_stats_file_text<N: Sink>(made: &PreparedStatsFilePlan, notes: &mut N) -> Result<(), Failed>
-    requires { IsPlan (length made.now.query.from) made.now.plan }
-    ensures { Wrote (growth N.taken N.faults notes.old notes.new)
-        (plan_lines made.now.query.from made.now.plan ++ memory_text made.now.memory made.now.bytes) result }
-{
-    write_plan(&made.plan, made.query.from.as_slice(), notes)?;
-    write_memory(made.memory, made.bytes, notes)
-}
-
 // Writes the plan text of a plan from a statistics file to `notes`, and nothing to `out`.
 fn write_stats_file_plan<N: Sink>(made: PreparedStatsFilePlan, notes: &mut N) -> Result<(), SinkId>
     requires { IsPlanned made }
     ensures { (out : Growth) → DidNotGrow out → TextsWritten out (growth N.taken N.faults notes.old notes.new) (plan_from made) result }
 {
-    match write_stats_file_text(&made, notes) {
+    let PreparedStatsFilePlan {
+        query,
+        file: _,
+        plan,
+        memory,
+        bytes,
+    } = made;
+    let left = PendingOutput::Nothing(plan);
+    match write_plan_text(&left, memory, bytes, query.from.as_slice(), notes) {
         Ok(()) => Ok(()),
         Err(Failed) => Err(SinkId::Notes),
     }
 }
 
-/// Writes the texts of a run: first the one for `notes`, if the run has one, and then the one for `out`, if the run has one. If the run
-/// joins, it hands out the buffers with the rows of the joins.
+/// Writes the texts of a run: first the text for `notes`, if the run has such a text, and then the text for `out`, if the run has such a text. If the
+/// run joins, the call hands out the buffers with the rows of the joins.
 pub fn write_outcome<O: Sink, N: Sink>(
     ready: PreparedRun,
     schema: &Schema,

@@ -1,4 +1,4 @@
--- The number that digits spell, and what `parse` reads.
+-- The lemma says when `parse` reads a number from a word of digits, and which number this is.
 use Rattle.std.proofs.Common.{◌≡◌, ℕ, ◌<◌, ◌^◌, true, List, length, Result, Ok, Err, rules}
 use Rattle.std.proofs.lemmas.Bool.{and_from, and_parts, lt-ltb, ltb-true}
 use Rattle.std.proofs.lemmas.Str.Parse.{IsNumeralModel, numerals_by_weight, parse_digits}
@@ -14,7 +14,6 @@ own : IsNumeralModel (λ ds. list_all is_ascii_digit ds ≡ true) number_of
 unfolding number_of
 own = numerals_by_weight _ (search rules) number_of (search rules)
 
--- what `parse` says of digits: the number, if there is a digit and the number fits in 64 bits
 pub read_digits : (E : Type 0) (word : List ℕ) (r : Result ℕ E) → ParsesUnsigned 64 10 word r → list_all is_ascii_digit word ≡ true
     → SomeIff (result_ok r) (IsTrue (is_number word) × (number_of word < 2 ^ 64)) (number_of word)
 read_digits E word (Ok number) read digits =

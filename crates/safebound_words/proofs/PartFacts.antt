@@ -1,10 +1,10 @@
--- A word up to its first `=`.
+-- A word is split at its first `=`.
 use Rattle.std.proofs.Common.{◌≡◌, ◌≢◌, ℕ, ◌<◌, [], ◌∷◌, ◌++◌, Some, None, length, get_or, refl, arith, suc}
 use Rattle.std.proofs.lemmas.Bool.{ne_eqb}
 use Rattle.safebound_words.specs.Answer.{split_value}
 use Rattle.safebound_words.specs.Words.{Word}
 
--- no character of the word is `=`
+-- 61 is the byte of `=`
 HasNoSign : Word → Type 0
 HasNoSign word = (i : ℕ) → i < length word → get_or word i 0 ≢ 61
 

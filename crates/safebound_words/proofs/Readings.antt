@@ -1,4 +1,4 @@
--- Words are read in one way at most, and it is the computed one.
+-- Words are read in at most one way, and `reading_of` computes this reading.
 use Rattle.std.proofs.Common.{◌≡◌, List, [], ◌∷◌, ◌++◌, Option, Some, None, sym, refl, ap, ◌∙◌, inl, inr, append_assoc}
 use Rattle.std.specs.Bool.{IsTrue}
 use Rattle.std.specs.List.{AllByRecursion, flat_map}
@@ -11,7 +11,7 @@ use Rattle.safebound_words.specs.declared.table.CommandName.{CommandName}
 use Rattle.safebound_words.specs.declared.table.OptionName.{OptionName}
 use Rattle.safebound_words.proofs.WordKinds.{Told, told, kind-ends, kind-gives, kind-place, kind-sets, kind-wants, named_so, names_itself}
 
--- What is spelled is read.
+-- ---- if words spell items and an end, `parts_from` reads these items and this end
 
 spelled_read : (name : CommandName) (items : List Item) (rest behind : List Word)
     → AllByRecursion (IsItemOf name) items → IsEnd rest behind → parts_from name None (flat_map spelling items ++ rest) ≡ Some (items, behind)
@@ -34,7 +34,7 @@ unfolding reading_of
 reads_computed words reading is =
     rw (is.spelled, names_itself reading.command, spelled_read reading.command reading.items is.rest reading.behind is.items is.end) refl
 
--- What is read is spelled.
+-- ---- if `parts_from` reads items and an end from words, the words spell these items and this end
 
 pub record IsSpelled (name : CommandName) (words : List Word) (parts : Parts) : Type 0 where
   pub rest : List Word
@@ -42,7 +42,6 @@ pub record IsSpelled (name : CommandName) (words : List Word) (parts : Parts) : 
   pub end : IsEnd rest parts.1
   pub items : AllByRecursion (IsItemOf name) parts.0
 
--- one item in front
 pub record InFront (item : Item) (from : Option Parts) (parts : Parts) : Type 0 where
   pub inner : Parts
   pub from_is : from ≡ Some inner
@@ -66,7 +65,7 @@ one_more_item name item words inner_words from parts spelled of read_on e =
       items = (of, inner.items);
     }
 
--- what `--`, an item or an option's word, and the words behind it, are read as
+-- `kind` says what the word is: `--`, an item or an option's word
 kind_spelled : (name : CommandName) (word : Word) (words : List Word) (kind : Kind) (parts : Parts) → Told name word kind
     → ((inner : Parts) → parts_from name None words ≡ Some inner → IsSpelled name words inner)
     → ((o : OptionName) (inner : Parts) → IsTrue (has_option name o) → parts_from name (Some o) words ≡ Some inner → IsSpelled name ((option_row o).word ∷ words) inner)
@@ -86,14 +85,13 @@ kind_spelled name word words (Gives o given) parts is read_on value e =
     one_more_item name (Joined o given) (word ∷ words) words (parts_from name None words) parts (ap (λ w. w ∷ words) is.0) is.1 read_on e
 kind_spelled name word words Unknown parts is read_on value e = cc
 
--- what is read of the words behind an option's word
 value_spelled : (name : CommandName) (o : OptionName) (value : Word) (words : List Word) (parts : Parts) → IsTrue (has_option name o)
     → ((inner : Parts) → parts_from name None words ≡ Some inner → IsSpelled name words inner)
     → in_front (Beside o value) (parts_from name None words) ≡ Some parts → IsSpelled name ((option_row o).word ∷ value ∷ words) parts
 value_spelled name o value words parts has read_on e =
     one_more_item name (Beside o value) ((option_row o).word ∷ value ∷ words) words (parts_from name None words) parts refl has read_on e
 
--- what the words stand for where an option may want its value
+-- if an option waits for its value, the option's word was read just before `words`
 before : Option OptionName → List Word → List Word
 before None words = words
 before (Some o) words = (option_row o).word ∷ words
@@ -121,9 +119,8 @@ pub read_spelled : (name : CommandName) (words : List Word) (parts : Parts) → 
 unfolding before Has
 read_spelled name words parts e = spelled_from name None words parts tt e
 
--- Whole lines.
+-- ---- whole lines
 
--- if a value comes of a first step and the rest, the first step gave a value, and the rest gave this one
 pub bind_so : {A B : Type 0} (from : Option A) (rest : A → Option B) (b : B) → from >>= rest ≡ Some b → (a : A) × (from ≡ Some a) × (rest a ≡ Some b)
 bind_so None rest b e = cc
 bind_so (Some a) rest b e = (a, refl, e)

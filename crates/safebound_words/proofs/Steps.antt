@@ -1,5 +1,6 @@
--- One more word: what is asked for by the collected words and the words left stays the same, or nothing can be asked for.
-use Rattle.std.proofs.Common.{◌≡◌, ℕ, ◌+◌, ◌<◌, ◌≤◌, ◌==◌, ◌&&◌, ◌||◌, not, nat_le, Bool, true, false, if◌then◌else◌, option_map, List, [], ◌∷◌, ◌++◌, length, map, drop, Option, Some, None, Result, Ok, Err, Bor, sym, refl, ap, ◌∙◌, append_assoc, append-nil, length-append, suc, zero, arith}
+-- The walk over a command line takes one more word. What the collected words and the remaining words ask for stays as it was; or nothing can be asked for any
+-- more.
+use Rattle.std.proofs.Common.{◌≡◌, ℕ, ◌+◌, ◌<◌, ◌≤◌, ◌==◌, ◌&&◌, not, nat_le, Bool, true, false, if◌then◌else◌, option_map, List, [], ◌∷◌, ◌++◌, length, map, drop, Option, Some, None, Result, Ok, Err, Bor, sym, refl, ap, ◌∙◌, append_assoc, append-nil, length-append, suc, zero, arith}
 use Rattle.std.proofs.Math.Path.{fun_ext}
 use Rattle.std.proofs.lemmas.Bool.{false≢true, ne_eqb}
 use Rattle.std.proofs.lemmas.List.{drop_all}
@@ -11,12 +12,14 @@ use Rattle.std.specs.Result.{OnErr}
 use Rattle.safebound_words.specs.Answer.{Kind, Ends, IsPlace, Sets, Wants, Gives, Unknown, Parts, in_front, kind_of, parts_from, read_by}
 use Rattle.safebound_words.specs.Collected.{asked_by, asked_from, asked_with, collected, given_of, given_to, given_with, times_of, words_of}
 use Rattle.safebound_words.specs.CommandLines.{Alone, Beside, Item, Joined, Place, given_by, given_in, has_flag, has_option, place_words, same_flag, same_option, set_by}
-use Rattle.safebound_words.specs.Commands.{most_budget_of, over_query, plan_work, shape_by, source_by}
-use Rattle.safebound_words.specs.Table.{Given, command_row, count_alone, option_file, flag_word, from_file, is_set, limit_of, of_append, of_number, of_stats, option_row, over_files, over_schema_and_query, plan_from_stats_or_tables, stands_alone, value_of, with_limit, ◌>>=◌}
+use Rattle.safebound_words.specs.Commands.{most_budget_of, over_query, shape_by, source_by, terms_by}
+use Rattle.safebound_words.specs.Table.{Given, command_row, count_alone, file_alone, flag_word, from_file, from_file_or_tables, is_set, limit_of, of_append, of_number, of_stats, option_file, option_row, over_files, over_tables, terms_given, value_of, work_given, ◌>>=◌}
 use Rattle.safebound_words.specs.Words.{Word}
 use Rattle.safebound_words.specs.declared.command.Command.{Command}
 use Rattle.safebound_words.specs.declared.command.OutText.{OutText}
 use Rattle.safebound_words.specs.declared.command.OutText.TheVariants as out_text
+use Rattle.safebound_words.specs.declared.command.PlanTerms.{PlanTerms}
+use Rattle.safebound_words.specs.declared.command.Work.{Work}
 use Rattle.safebound_words.specs.declared.command.Work.TheVariants as works
 use Rattle.safebound_words.specs.declared.table.CommandName.{CommandName}
 use Rattle.safebound_words.specs.declared.table.CommandName.TheVariants as command
@@ -29,7 +32,7 @@ use Rattle.safebound_words.specs.declared.line.Next.TheVariants as next
 use Rattle.safebound_words.specs.declared.line.Places.TheVariants as places
 use Rattle.safebound_words.proofs.WordKinds.{told}
 
--- What a command asks for depends on its place words, on what is given to each option and on how often each flag is there.
+-- ---- what a command asks for depends on its place words, on what is given to each option and on how often each flag is there
 
 same_asks : (name : CommandName) (places places' : List Word) (given given' : Given)
     → places ≡ places' → ((o : OptionName) → given.values o ≡ given'.values o) → ((f : FlagName) → given.times f ≡ given'.times f)
@@ -39,12 +42,11 @@ same_asks name places places' given given' same values times =
     ∙ ap (λ (v : OptionName → List Word). (command_row name).asks places' (record { values = v; times = given.times })) (fun_ext values)
     ∙ ap (λ (t : FlagName → ℕ). (command_row name).asks places' (record { values = given'.values; times = t })) (fun_ext times)
 
--- one more place word changes nothing of options and flags
+-- the two lines may have different place words
 pub record IsSameBeside (new old : Line) : Type 0 where
   pub values : (o : OptionName) → given_to new o ≡ given_to old o
   pub times : (f : FlagName) → times_of new f ≡ times_of old f
 
--- an item that isn't a flag changes nothing of how often each flag is given
 no_more_times : (new old : Line) (item : Item) (items : List Item) → ((f : FlagName) → times_of new f ≡ times_of old f)
     → ((f : FlagName) → set_by f item ≡ 0) → (f : FlagName) → (given_with new items).times f ≡ (given_with old (item ∷ items)).times f
 no_more_times new old item items same none f = rw (same f) (omega (arith, sum_by-cons (set_by f) item items, none f))
@@ -77,7 +79,6 @@ one_more_behind name new old word words places same =
     (λ o. ap (λ ws. ws ++ []) (same.values o))
     (λ f. ap (λ n. n + 0) (same.times f))
 
--- what a line has after one flag more
 SetsMore : Line → Line → FlagName → Type 0
 SetsMore new old f = (other : FlagName) → times_of new other ≡ times_of old other + (if same_flag other f then 1 else 0)
 
@@ -95,7 +96,6 @@ one_more_flag name new old f parts places values more =
     (λ o. ap (λ ws. ws ++ flat_map (given_by o) parts.0) (values o))
     (λ other. omega (arith, more other, sum_by-cons (set_by other) (Alone f) parts.0))
 
--- what a line gives after one value more
 GivesMore : Line → Line → OptionName → Word → Type 0
 GivesMore new old o value = (other : OptionName) → given_to new other ≡ given_to old other ++ (if same_option other o then value ∷ [] else [])
 
@@ -116,7 +116,6 @@ one_more_value name new old item o value parts none unset by places times given 
     ∙ append_assoc (given_to old other) (given_by other item) (flat_map (given_by other) parts.0))
     (no_more_times new old item parts.0 times unset)
 
--- without a first value there is no result
 none_first : {A B : Type 0} (first : Option A) (rest : A → Option B) → first ≡ None → first >>= rest ≡ None
 none_first first rest is = rw is refl
 
@@ -124,42 +123,19 @@ none_behind : {A B : Type 0} (first : Option A) (rest : A → Option B) → ((a 
 none_behind None rest all = refl
 none_behind (Some a) rest all = all a
 
--- Where too much is collected, nothing is asked for.
-
-two_at_most : (out : OutText) (limit : Option ℕ) (places : List Word) (given : Given) → 4 < length places → over_schema_and_query out limit places given ≡ None
-two_at_most out limit [] given many = absurd (omega arith)
-two_at_most out limit (a ∷ []) given many = absurd (omega arith)
-two_at_most out limit (a ∷ b ∷ []) given many = absurd (omega arith)
-two_at_most out limit (a ∷ b ∷ d ∷ rest) given many = refl
-
--- what is refused with each limit of memory is refused
-whatever_limit : (asks : Option ℕ → List Word → Given → Option Command) (places : List Word) (given : Given) → ((limit : Option ℕ) → asks limit places given ≡ None) → with_limit asks places given ≡ None
-whatever_limit asks places given each =
-    none_behind (value_of option.Memory (given.values option.Memory)) (λ bytes. asks (limit_of bytes) places given) (λ bytes. each (limit_of bytes))
-
--- and so is what has two limits
-two_limits : (asks : Option ℕ → List Word → Given → Option Command) (places : List Word) (given : Given) → value_of option.Memory (given.values option.Memory) ≡ None → with_limit asks places given ≡ None
-two_limits asks places given none = none_first (value_of option.Memory (given.values option.Memory)) (λ bytes. asks (limit_of bytes) places given) none
+-- ---- if too many words are collected, nothing is asked for
 
 files_of_two : (out : OutText) (places : List Word) (given : Given) → 4 < length places → over_files out places given ≡ None
 unfolding over_files
-files_of_two out places given many =
-    whatever_limit (over_schema_and_query out) places given (λ limit. two_at_most out limit places given many)
+files_of_two out [] given many = absurd (omega arith)
+files_of_two out (a ∷ []) given many = absurd (omega arith)
+files_of_two out (a ∷ b ∷ []) given many = absurd (omega arith)
+files_of_two out (a ∷ b ∷ d ∷ rest) given many = refl
 
 one_at_most : (places : List Word) (given : Given) → 4 < length places → of_number places given ≡ None
 one_at_most [] given many = absurd (omega arith)
 one_at_most (a ∷ []) given many = absurd (omega arith)
 one_at_most (a ∷ b ∷ rest) given many = refl
-
-file_of_two : (file : Word) (limit : Option ℕ) (places : List Word) (given : Given) → 4 < length places → from_file file limit places given ≡ None
-file_of_two file limit [] given many = absurd (omega arith)
-file_of_two file limit (a ∷ []) given many = absurd (omega arith)
-file_of_two file limit (a ∷ b ∷ []) given many = absurd (omega arith)
-file_of_two file limit (a ∷ b ∷ d ∷ rest) given many = refl
-
-plan_of_two : (file : Option Word) (places : List Word) (given : Given) → 4 < length places → plan_from_stats_or_tables file places given ≡ None
-plan_of_two None places given many = files_of_two out_text.Nothing places given many
-plan_of_two (Some file) places given many = whatever_limit (from_file file) places given (λ limit. file_of_two file limit places given many)
 
 stats_of_two : (places : List Word) (given : Given) → 4 < length places → of_stats places given ≡ None
 stats_of_two [] given many = absurd (omega arith)
@@ -177,184 +153,173 @@ append_of_four (a ∷ b ∷ d ∷ e ∷ f ∷ rest) given many = refl
 
 too_many : (name : CommandName) (places : List Word) (given : Given) → 4 < length places → (command_row name).asks places given ≡ None
 too_many command.Run = files_of_two out_text.Rows
-too_many command.Plan = λ places given many. none_behind (option_file (given.values option.Stats)) (λ file. plan_from_stats_or_tables file places given) (λ file. plan_of_two file places given many)
+too_many command.Plan = files_of_two out_text.Nothing
 too_many command.Audit = files_of_two out_text.Audit
 too_many command.Stats = stats_of_two
 too_many command.Append = append_of_four
 too_many command.Demo = one_at_most
 
--- an option to which two words are given has no value
 too_often : (o : OptionName) (words : List Word) → 1 < length words → value_of o words ≡ None
 too_often o [] many = absurd (omega arith)
 too_often o (a ∷ []) many = absurd (omega arith)
 too_often o (a ∷ b ∷ rest) many = refl
 
--- the options with numbers that each command over files reads, apart from the limit of memory
-abbrev HasNumbers : OptionName → Type 0
-HasNumbers option.Budget = Unit {0}
-HasNumbers option.Accuracy = Unit {0}
-HasNumbers option.Memory = ⊥
-HasNumbers option.Stats = ⊥
+no_file : (words : List Word) → 1 < length words → option_file words ≡ None
+no_file [] many = absurd (omega arith)
+no_file (a ∷ []) many = absurd (omega arith)
+no_file (a ∷ b ∷ rest) many = refl
 
-no_value : (out : OutText) (limit : Option ℕ) (places : List Word) (given : Given) (o : OptionName) → HasNumbers o
-    → 1 < length (given.values o) → over_schema_and_query out limit places given ≡ None
-no_value out limit [] given o has many = refl
-no_value out limit (a ∷ []) given o has many = refl
-no_value out limit (a ∷ b ∷ []) given option.Budget has many = none_first _ _ (too_often option.Budget _ many)
-no_value out limit (a ∷ b ∷ []) given option.Accuracy has many = none_behind _ _ (λ budget. none_first _ _ (too_often option.Accuracy _ many))
-no_value out limit (a ∷ b ∷ []) given option.Memory has many = absurd has
-no_value out limit (a ∷ b ∷ []) given option.Stats has many = absurd has
-no_value out limit (a ∷ b ∷ d ∷ rest) given o has many = refl
+-- these flags name a source of bounds
+abbrev IsSource : FlagName → Type 0
+IsSource flag.Bushy = ⊥
+IsSource flag.Reduce = Unit {0}
+IsSource flag.Keys = Unit {0}
+IsSource flag.Count = Unit {0}
 
-no_file_value : (out : OutText) (places : List Word) (given : Given) (o : OptionName) → HasNumbers o → 1 < length (given.values o) → over_files out places given ≡ None
-unfolding over_files
-no_file_value out places given o has many =
-    whatever_limit (over_schema_and_query out) places given (λ limit. no_value out limit places given o has many)
-
-no_limit : (asks : Option ℕ → List Word → Given → Option Command) (places : List Word) (given : Given) → 1 < length (given.values option.Memory) → with_limit asks places given ≡ None
-no_limit asks places given many = two_limits asks places given (too_often option.Memory (given.values option.Memory) many)
-
-no_file_limit : (out : OutText) (places : List Word) (given : Given) → 1 < length (given.values option.Memory) → over_files out places given ≡ None
-unfolding over_files
-no_file_limit out places given many = no_limit (over_schema_and_query out) places given many
-
--- a flag that stands twice gives no value
 set_once : (n : ℕ) → 1 < n → is_set n ≡ None
 set_once zero many = absurd (omega arith)
 set_once (suc zero) many = absurd (omega arith)
 set_once (suc (suc more)) many = refl
 
--- the stages behind the budget
-module _ (out : OutText) (limit : Option ℕ) (a b : Word) (given : Given) where
-  abbrev by_count : ℕ → ℕ → Bool → Bool → Bool → Bool → Option Command
-  by_count budget accuracy reduce bushy keys count = if keys && (reduce || bushy) then None
+-- ---- the stages of `terms_given`
+module _ (given : Given) where
+  abbrev by_bushy : ℕ → ℕ → Bool → Option PlanTerms
+  by_bushy bytes budget bushy = if nat_le budget (most_budget_of (shape_by bushy)) then Some (terms_by budget bushy (limit_of bytes)) else None
+
+  abbrev by_budget : ℕ → ℕ → Option PlanTerms
+  by_budget bytes budget = is_set (given.times flag.Bushy) >>= λ bushy. by_bushy bytes budget bushy
+
+  abbrev by_memory : ℕ → Option PlanTerms
+  by_memory bytes = value_of option.Budget (given.values option.Budget) >>= λ budget. by_budget bytes budget
+
+  no_limit : 1 < length (given.values option.Memory) → terms_given given ≡ None
+  no_limit many = none_first (value_of option.Memory (given.values option.Memory)) (λ bytes. by_memory bytes) (too_often option.Memory (given.values option.Memory) many)
+
+  no_budget : 1 < length (given.values option.Budget) → terms_given given ≡ None
+  no_budget many =
+      none_behind (value_of option.Memory (given.values option.Memory)) (λ bytes. by_memory bytes)
+      (λ bytes. none_first (value_of option.Budget (given.values option.Budget)) (λ budget. by_budget bytes budget) (too_often option.Budget (given.values option.Budget) many))
+
+  no_shape : 1 < given.times flag.Bushy → terms_given given ≡ None
+  no_shape many =
+      none_behind (value_of option.Memory (given.values option.Memory)) (λ bytes. by_memory bytes)
+      (λ bytes. none_behind (value_of option.Budget (given.values option.Budget)) (λ budget. by_budget bytes budget)
+      (λ budget. none_first (is_set (given.times flag.Bushy)) (λ bushy. by_bushy bytes budget bushy) (set_once (given.times flag.Bushy) many)))
+
+-- ---- the stages of `over_tables`
+module _ (out : OutText) (terms : PlanTerms) (given : Given) where
+  abbrev by_count : ℕ → Bool → Bool → Bool → Option Work
+  by_count accuracy reduce keys count = if keys && reduce then None
       else if count && not (count_alone given reduce keys) then None
-      else if nat_le budget (most_budget_of (shape_by bushy)) then Some (over_query None a b (plan_work out budget accuracy (source_by reduce keys count) bushy limit)) else None
+      else Some (works.Plan (record { terms = terms; accuracy = accuracy; source = source_by reduce keys count; out = out }))
 
-  abbrev by_keys : ℕ → ℕ → Bool → Bool → Bool → Option Command
-  by_keys budget accuracy reduce bushy keys = is_set (given.times flag.Count) >>= λ count. by_count budget accuracy reduce bushy keys count
+  abbrev by_keys : ℕ → Bool → Bool → Option Work
+  by_keys accuracy reduce keys = is_set (given.times flag.Count) >>= λ count. by_count accuracy reduce keys count
 
-  abbrev by_bushy : ℕ → ℕ → Bool → Bool → Option Command
-  by_bushy budget accuracy reduce bushy = is_set (given.times flag.Keys) >>= λ keys. by_keys budget accuracy reduce bushy keys
+  abbrev by_reduce : ℕ → Bool → Option Work
+  by_reduce accuracy reduce = is_set (given.times flag.Keys) >>= λ keys. by_keys accuracy reduce keys
 
-  abbrev by_reduce : ℕ → ℕ → Bool → Option Command
-  by_reduce budget accuracy reduce = is_set (given.times flag.Bushy) >>= λ bushy. by_bushy budget accuracy reduce bushy
+  abbrev by_accuracy : ℕ → Option Work
+  by_accuracy accuracy = is_set (given.times flag.Reduce) >>= λ reduce. by_reduce accuracy reduce
 
-  abbrev by_accuracy : ℕ → ℕ → Option Command
-  by_accuracy budget accuracy = is_set (given.times flag.Reduce) >>= λ reduce. by_reduce budget accuracy reduce
+  tables_without_accuracy : 1 < length (given.values option.Accuracy) → over_tables out terms given ≡ None
+  tables_without_accuracy many =
+      none_first (value_of option.Accuracy (given.values option.Accuracy)) (λ accuracy. by_accuracy accuracy) (too_often option.Accuracy (given.values option.Accuracy) many)
 
-  abbrev by_budget : ℕ → Option Command
-  by_budget budget = value_of option.Accuracy (given.values option.Accuracy) >>= λ accuracy. by_accuracy budget accuracy
+  many_keys : (accuracy : ℕ) (reduce : Bool) → 1 < given.times flag.Keys → by_reduce accuracy reduce ≡ None
+  many_keys accuracy reduce many = none_first (is_set (given.times flag.Keys)) (λ keys. by_keys accuracy reduce keys) (set_once (given.times flag.Keys) many)
 
-  many_keys : (budget accuracy : ℕ) (reduce bushy : Bool) → 1 < given.times flag.Keys → by_bushy budget accuracy reduce bushy ≡ None
-  many_keys budget accuracy reduce bushy many = none_first (is_set (given.times flag.Keys)) (λ keys. by_keys budget accuracy reduce bushy keys) (set_once (given.times flag.Keys) many)
+  many_counts : (accuracy : ℕ) (reduce : Bool) → 1 < given.times flag.Count → by_reduce accuracy reduce ≡ None
+  many_counts accuracy reduce many =
+      none_behind (is_set (given.times flag.Keys)) (λ keys. by_keys accuracy reduce keys)
+      (λ keys. none_first (is_set (given.times flag.Count)) (λ count. by_count accuracy reduce keys count) (set_once (given.times flag.Count) many))
 
-  many_counts : (budget accuracy : ℕ) (reduce bushy : Bool) → 1 < given.times flag.Count → by_bushy budget accuracy reduce bushy ≡ None
-  many_counts budget accuracy reduce bushy many =
-      none_behind (is_set (given.times flag.Keys)) (λ keys. by_keys budget accuracy reduce bushy keys)
-      (λ keys. none_first (is_set (given.times flag.Count)) (λ count. by_count budget accuracy reduce bushy keys count) (set_once (given.times flag.Count) many))
+  many_sources : (accuracy : ℕ) (f : FlagName) → IsSource f → 1 < given.times f → by_accuracy accuracy ≡ None
+  many_sources accuracy flag.Reduce is many = none_first (is_set (given.times flag.Reduce)) (λ reduce. by_reduce accuracy reduce) (set_once (given.times flag.Reduce) many)
+  many_sources accuracy flag.Bushy is many = absurd is
+  many_sources accuracy flag.Keys is many =
+      none_behind (is_set (given.times flag.Reduce)) (λ reduce. by_reduce accuracy reduce) (λ reduce. many_keys accuracy reduce many)
+  many_sources accuracy flag.Count is many =
+      none_behind (is_set (given.times flag.Reduce)) (λ reduce. by_reduce accuracy reduce) (λ reduce. many_counts accuracy reduce many)
 
-  many_flags : (budget accuracy : ℕ) (f : FlagName) → 1 < given.times f → by_accuracy budget accuracy ≡ None
-  many_flags budget accuracy flag.Reduce many = none_first (is_set (given.times flag.Reduce)) (λ reduce. by_reduce budget accuracy reduce) (set_once (given.times flag.Reduce) many)
-  many_flags budget accuracy flag.Bushy many =
-      none_behind (is_set (given.times flag.Reduce)) (λ reduce. by_reduce budget accuracy reduce)
-      (λ reduce. none_first (is_set (given.times flag.Bushy)) (λ bushy. by_bushy budget accuracy reduce bushy) (set_once (given.times flag.Bushy) many))
-  many_flags budget accuracy flag.Keys many =
-      none_behind (is_set (given.times flag.Reduce)) (λ reduce. by_reduce budget accuracy reduce)
-      (λ reduce. none_behind (is_set (given.times flag.Bushy)) (λ bushy. by_bushy budget accuracy reduce bushy) (λ bushy. many_keys budget accuracy reduce bushy many))
-  many_flags budget accuracy flag.Count many =
-      none_behind (is_set (given.times flag.Reduce)) (λ reduce. by_reduce budget accuracy reduce)
-      (λ reduce. none_behind (is_set (given.times flag.Bushy)) (λ bushy. by_bushy budget accuracy reduce bushy) (λ bushy. many_counts budget accuracy reduce bushy many))
+  tables_without_flag : (f : FlagName) → IsSource f → 1 < given.times f → over_tables out terms given ≡ None
+  tables_without_flag f is many =
+      none_behind (value_of option.Accuracy (given.values option.Accuracy)) (λ accuracy. by_accuracy accuracy) (λ accuracy. many_sources accuracy f is many)
 
-  no_flag_of_two : (f : FlagName) → 1 < given.times f → over_schema_and_query out limit (a ∷ b ∷ []) given ≡ None
-  no_flag_of_two f many =
-      none_behind (value_of option.Budget (given.values option.Budget)) (λ budget. by_budget budget)
-      (λ budget. none_behind (value_of option.Accuracy (given.values option.Accuracy)) (λ accuracy. by_accuracy budget accuracy) (λ accuracy. many_flags budget accuracy f many))
-
-no_flag : (out : OutText) (limit : Option ℕ) (places : List Word) (given : Given) (f : FlagName)
-    → 1 < given.times f → over_schema_and_query out limit places given ≡ None
-no_flag out limit [] given f many = refl
-no_flag out limit (a ∷ []) given f many = refl
-no_flag out limit (a ∷ b ∷ []) given f many = no_flag_of_two out limit a b given f many
-no_flag out limit (a ∷ b ∷ d ∷ rest) given f many = refl
-
-no_file_flag : (out : OutText) (places : List Word) (given : Given) (f : FlagName) → 1 < given.times f → over_files out places given ≡ None
-unfolding over_files
-no_file_flag out places given f many =
-    whatever_limit (over_schema_and_query out) places given (λ limit. no_flag out limit places given f many)
-
--- the same of a plan, which may be from a statistics file
+-- ---- a plan from a statistics file allows no flag for another source of bounds, so it is refused if such a flag stands twice
 
 nowhere : (b : Bool) → (b && false) ≡ false
 nowhere true = refl
 nowhere false = refl
 
--- a flag that stands twice is not missing
 flag_twice : (n : ℕ) → 1 < n → (n == 0) ≡ false
 flag_twice n many = ne_eqb n 0 (λ e. absurd (omega (arith, e, many)))
 
-flags_twice : (given : Given) (f : FlagName) → 1 < given.times f → (given.times flag.Reduce == 0 && (given.times flag.Bushy == 0 && (given.times flag.Keys == 0 && given.times flag.Count == 0))) ≡ false
-flags_twice given flag.Reduce many = let some = flag_twice (given.times flag.Reduce) many in rw some refl
-flags_twice given flag.Bushy many = let some = flag_twice (given.times flag.Bushy) many in rw some (nowhere (given.times flag.Reduce == 0))
-flags_twice given flag.Keys many =
-    let some = flag_twice (given.times flag.Keys) many in rw some (rw (nowhere (given.times flag.Bushy == 0)) (nowhere (given.times flag.Reduce == 0)))
-flags_twice given flag.Count many =
-    let some = flag_twice (given.times flag.Count) many in
-    rw some (rw (nowhere (given.times flag.Keys == 0), nowhere (given.times flag.Bushy == 0)) (nowhere (given.times flag.Reduce == 0)))
+flags_twice : (given : Given) (f : FlagName) → IsSource f → 1 < given.times f → (given.times flag.Reduce == 0 && (given.times flag.Keys == 0 && given.times flag.Count == 0)) ≡ false
+flags_twice given flag.Reduce is many = let some = flag_twice (given.times flag.Reduce) many in rw some refl
+flags_twice given flag.Bushy is many = absurd is
+flags_twice given flag.Keys is many = let some = flag_twice (given.times flag.Keys) many in rw some (nowhere (given.times flag.Reduce == 0))
+flags_twice given flag.Count is many =
+    let some = flag_twice (given.times flag.Count) many in rw some (rw (nowhere (given.times flag.Keys == 0)) (nowhere (given.times flag.Reduce == 0)))
 
-times_twice : (given : Given) (f : FlagName) → 1 < given.times f → stands_alone given ≡ false
-times_twice given f many = let some = flags_twice given f many in rw some (nowhere (length (given.values option.Accuracy) == 0))
+times_twice : (given : Given) (f : FlagName) → IsSource f → 1 < given.times f → file_alone given ≡ false
+times_twice given f is many = let some = flags_twice given f is many in rw some (nowhere (length (given.values option.Accuracy) == 0))
 
 words_twice : (words : List Word) (b : Bool) → 1 < length words → (length words == 0 && b) ≡ false
 words_twice words b many = let some : (length words == 0) ≡ false = ne_eqb (length words) 0 (λ e. absurd (omega (arith, e, many))) in rw some refl
 
--- not alone beside a statistics file
-not_alone : (file : Word) (limit : Option ℕ) (schema query : Word) (given : Given) → stands_alone given ≡ false → from_file file limit (schema ∷ query ∷ []) given ≡ None
-not_alone file limit schema query given beside =
-    none_behind (value_of option.Budget (given.values option.Budget))
-    (λ budget. if stands_alone given then Some (over_query None schema query (works.PlanFromStats file budget limit)) else None) (λ budget. rw beside refl)
+not_alone : (file : Word) (terms : PlanTerms) (given : Given) → file_alone given ≡ false → from_file file terms given ≡ None
+not_alone file terms given beside = rw beside refl
 
-file_without_flag : (file : Word) (limit : Option ℕ) (places : List Word) (given : Given) (f : FlagName) → 1 < given.times f → from_file file limit places given ≡ None
-file_without_flag file limit [] given f many = refl
-file_without_flag file limit (a ∷ []) given f many = refl
-file_without_flag file limit (a ∷ b ∷ []) given f many = not_alone file limit a b given (times_twice given f many)
-file_without_flag file limit (a ∷ b ∷ d ∷ rest) given f many = refl
+-- ---- a plan over tables or from a statistics file
 
-plan_without_flag : (file : Option Word) (places : List Word) (given : Given) (f : FlagName) → 1 < given.times f → plan_from_stats_or_tables file places given ≡ None
-plan_without_flag None places given f many = no_file_flag out_text.Nothing places given f many
-plan_without_flag (Some file) places given f many = whatever_limit (from_file file) places given (λ limit. file_without_flag file limit places given f many)
+module _ (out : OutText) (terms : PlanTerms) (given : Given) where
+  either_without_accuracy : (file : Option Word) → 1 < length (given.values option.Accuracy) → from_file_or_tables out file terms given ≡ None
+  either_without_accuracy None many = tables_without_accuracy out terms given many
+  either_without_accuracy (Some file) many =
+      not_alone file terms given (words_twice (given.values option.Accuracy) (given.times flag.Reduce == 0 && (given.times flag.Keys == 0 && given.times flag.Count == 0)) many)
 
-file_without_budget : (file : Word) (limit : Option ℕ) (places : List Word) (given : Given) → 1 < length (given.values option.Budget) → from_file file limit places given ≡ None
-file_without_budget file limit [] given many = refl
-file_without_budget file limit (a ∷ []) given many = refl
-file_without_budget file limit (a ∷ b ∷ []) given many =
-    none_first (value_of option.Budget (given.values option.Budget)) (λ budget. if stands_alone given then Some (over_query None a b (works.PlanFromStats file budget limit)) else None)
-    (too_often option.Budget (given.values option.Budget) many)
-file_without_budget file limit (a ∷ b ∷ d ∷ rest) given many = refl
+  either_without_flag : (file : Option Word) (f : FlagName) → IsSource f → 1 < given.times f → from_file_or_tables out file terms given ≡ None
+  either_without_flag None f is many = tables_without_flag out terms given f is many
+  either_without_flag (Some file) f is many = not_alone file terms given (times_twice given f is many)
 
-plan_without_budget : (file : Option Word) (places : List Word) (given : Given) → 1 < length (given.values option.Budget) → plan_from_stats_or_tables file places given ≡ None
-plan_without_budget None places given many = no_file_value out_text.Nothing places given option.Budget tt many
-plan_without_budget (Some file) places given many = whatever_limit (from_file file) places given (λ limit. file_without_budget file limit places given many)
+  no_work : ((file : Option Word) → from_file_or_tables out file terms given ≡ None) → work_given out terms given ≡ None
+  no_work none = none_behind (option_file (given.values option.Stats)) (λ file. from_file_or_tables out file terms given) none
 
-file_without_accuracy : (file : Word) (limit : Option ℕ) (places : List Word) (given : Given) → 1 < length (given.values option.Accuracy) → from_file file limit places given ≡ None
-file_without_accuracy file limit [] given many = refl
-file_without_accuracy file limit (a ∷ []) given many = refl
-file_without_accuracy file limit (a ∷ b ∷ []) given many =
-    not_alone file limit a b given (words_twice (given.values option.Accuracy) (given.times flag.Reduce == 0 && (given.times flag.Bushy == 0 && (given.times flag.Keys == 0 && given.times flag.Count == 0))) many)
-file_without_accuracy file limit (a ∷ b ∷ d ∷ rest) given many = refl
+  no_second_file : 1 < length (given.values option.Stats) → work_given out terms given ≡ None
+  no_second_file many = none_first (option_file (given.values option.Stats)) (λ file. from_file_or_tables out file terms given) (no_file (given.values option.Stats) many)
 
-plan_without_accuracy : (file : Option Word) (places : List Word) (given : Given) → 1 < length (given.values option.Accuracy) → plan_from_stats_or_tables file places given ≡ None
-plan_without_accuracy None places given many = no_file_value out_text.Nothing places given option.Accuracy tt many
-plan_without_accuracy (Some file) places given many = whatever_limit (from_file file) places given (λ limit. file_without_accuracy file limit places given many)
+module _ (out : OutText) (given : Given) where
+  abbrev by_terms : Word → Word → PlanTerms → Option Command
+  by_terms schema query terms = work_given out terms given >>= λ work. Some (over_query None schema query work)
 
-plan_without_limit : (file : Option Word) (places : List Word) (given : Given) → 1 < length (given.values option.Memory) → plan_from_stats_or_tables file places given ≡ None
-plan_without_limit None places given many = no_file_limit out_text.Nothing places given many
-plan_without_limit (Some file) places given many = no_limit (from_file file) places given many
+  without_terms : terms_given given ≡ None → (places : List Word) → over_files out places given ≡ None
+  unfolding over_files
+  without_terms none [] = refl
+  without_terms none (a ∷ []) = refl
+  without_terms none (a ∷ b ∷ []) = none_first (terms_given given) (λ terms. by_terms a b terms) none
+  without_terms none (a ∷ b ∷ d ∷ rest) = refl
 
-no_file : (words : List Word) → 1 < length words → option_file words ≡ None
-no_file [] many = absurd (omega arith)
-no_file (a ∷ []) many = absurd (omega arith)
-no_file (a ∷ b ∷ rest) many = refl
+  without_work : ((terms : PlanTerms) → work_given out terms given ≡ None) → (places : List Word) → over_files out places given ≡ None
+  unfolding over_files
+  without_work none [] = refl
+  without_work none (a ∷ []) = refl
+  without_work none (a ∷ b ∷ []) =
+      none_behind (terms_given given) (λ terms. by_terms a b terms)
+      (λ terms. none_first (work_given out terms given) (λ work. Some (over_query None a b work)) (none terms))
+  without_work none (a ∷ b ∷ d ∷ rest) = refl
+
+  files_without_flag : (f : FlagName) → 1 < given.times f → (places : List Word) → over_files out places given ≡ None
+  files_without_flag flag.Bushy many = without_terms (no_shape given many)
+  files_without_flag flag.Reduce many = without_work (λ terms. no_work out terms given (λ file. either_without_flag out terms given file flag.Reduce tt many))
+  files_without_flag flag.Keys many = without_work (λ terms. no_work out terms given (λ file. either_without_flag out terms given file flag.Keys tt many))
+  files_without_flag flag.Count many = without_work (λ terms. no_work out terms given (λ file. either_without_flag out terms given file flag.Count tt many))
+
+  files_without_option : (o : OptionName) → 1 < length (given.values o) → (places : List Word) → over_files out places given ≡ None
+  files_without_option option.Budget many = without_terms (no_budget given many)
+  files_without_option option.Memory many = without_terms (no_limit given many)
+  files_without_option option.Accuracy many = without_work (λ terms. no_work out terms given (λ file. either_without_accuracy out terms given file many))
+  files_without_option option.Stats many = without_work (λ terms. no_second_file out terms given many)
 
 no_accuracy : (places : List Word) (given : Given) → 1 < length (given.values option.Accuracy) → of_stats places given ≡ None
 no_accuracy [] given many = refl
@@ -364,31 +329,18 @@ no_accuracy (a ∷ b ∷ d ∷ rest) given many = refl
 
 flag_refused : (name : CommandName) (f : FlagName) (places : List Word) (given : Given) → IsTrue (has_flag name f) → 1 < given.times f
     → (command_row name).asks places given ≡ None
-flag_refused command.Run f places given has many = no_file_flag out_text.Rows places given f many
-flag_refused command.Plan f places given has many =
-    none_behind (option_file (given.values option.Stats)) (λ file. plan_from_stats_or_tables file places given) (λ file. plan_without_flag file places given f many)
-flag_refused command.Audit f places given has many = no_file_flag out_text.Audit places given f many
+flag_refused command.Run f places given has many = files_without_flag out_text.Rows given f many places
+flag_refused command.Plan f places given has many = files_without_flag out_text.Nothing given f many places
+flag_refused command.Audit f places given has many = files_without_flag out_text.Audit given f many places
 flag_refused command.Stats f places given has many = absurd (false≢true has)
 flag_refused command.Append f places given has many = absurd (false≢true has)
 flag_refused command.Demo f places given has many = absurd (false≢true has)
 
 refused : (name : CommandName) (o : OptionName) (places : List Word) (given : Given) → IsTrue (has_option name o) → 1 < length (given.values o)
     → (command_row name).asks places given ≡ None
-refused command.Run option.Budget places given has many = no_file_value out_text.Rows places given option.Budget tt many
-refused command.Run option.Accuracy places given has many = no_file_value out_text.Rows places given option.Accuracy tt many
-refused command.Run option.Memory places given has many = no_file_limit out_text.Rows places given many
-refused command.Run option.Stats places given has many = absurd (false≢true has)
-refused command.Plan option.Budget places given has many =
-    none_behind (option_file (given.values option.Stats)) (λ file. plan_from_stats_or_tables file places given) (λ file. plan_without_budget file places given many)
-refused command.Plan option.Accuracy places given has many =
-    none_behind (option_file (given.values option.Stats)) (λ file. plan_from_stats_or_tables file places given) (λ file. plan_without_accuracy file places given many)
-refused command.Plan option.Memory places given has many =
-    none_behind (option_file (given.values option.Stats)) (λ file. plan_from_stats_or_tables file places given) (λ file. plan_without_limit file places given many)
-refused command.Plan option.Stats places given has many = none_first (option_file (given.values option.Stats)) (λ file. plan_from_stats_or_tables file places given) (no_file (given.values option.Stats) many)
-refused command.Audit option.Budget places given has many = no_file_value out_text.Audit places given option.Budget tt many
-refused command.Audit option.Accuracy places given has many = no_file_value out_text.Audit places given option.Accuracy tt many
-refused command.Audit option.Memory places given has many = no_file_limit out_text.Audit places given many
-refused command.Audit option.Stats places given has many = absurd (false≢true has)
+refused command.Run o places given has many = files_without_option out_text.Rows given o many places
+refused command.Plan o places given has many = files_without_option out_text.Nothing given o many places
+refused command.Audit o places given has many = files_without_option out_text.Audit given o many places
 refused command.Stats option.Budget places given has many = absurd (false≢true has)
 refused command.Stats option.Accuracy places given has many = no_accuracy places given many
 refused command.Stats option.Memory places given has many = absurd (false≢true has)
@@ -431,9 +383,8 @@ twice_set name line f parts has again =
     let one : set_by f (Alone f) ≡ 1 = rw (flag_itself f) refl in
     flag_refused name f _ (given_with line (Alone f ∷ parts.0)) has (omega (arith, again, one, sum_by-cons (set_by f) (Alone f) parts.0))
 
--- Steps of the walk.
+-- ---- steps of the walk
 
--- an item in front
 front_asked : (name : CommandName) (new old : Line) (item : Item) (parts : Option Parts)
     → ((p : Parts) → asked_with name new p ≡ asked_with name old (item ∷ p.0, p.1))
     → parts >>= asked_with name new ≡ in_front item parts >>= asked_with name old
@@ -445,7 +396,6 @@ front_refused : (name : CommandName) (line : Line) (item : Item) (parts : Option
 front_refused name line item None none = refl
 front_refused name line item (Some p) none = none p
 
--- what is read of a word before `--` and the words behind it
 read_so : (name : CommandName) (word : Word) (words : List Word) (kind : Kind) → kind ≡ kind_of name word
     → parts_from name None (word ∷ words) ≡ read_by kind word words (λ wanted. parts_from name wanted words)
 unfolding parts_from
@@ -551,12 +501,11 @@ pub behind_refused : (name : CommandName) (line : Line) (word : Word) → length
 unfolding asked_from
 behind_refused name line word full words = full_behind name line word words full
 
--- what holds anyway holds after an error
 pub anyway : {T E P : Type 0} (r : Result T E) → P → OnErr r P
 anyway (Ok value) holds = tt
 anyway (Err error) holds = holds
 
--- The loop.
+-- ---- the loop
 
 pub nothing_given : (line : Line) → line.budget ≡ None → line.accuracy ≡ None → line.memory ≡ None → line.stats ≡ None → (o : OptionName) → given_to line o ≡ []
 nothing_given line budget accuracy memory stats option.Budget = rw budget refl
@@ -564,7 +513,6 @@ nothing_given line budget accuracy memory stats option.Accuracy = rw accuracy re
 nothing_given line budget accuracy memory stats option.Memory = rw memory refl
 nothing_given line budget accuracy memory stats option.Stats = rw stats refl
 
--- nothing collected yet
 pub start_asked : (name : CommandName) (line : Line) (words : List Word) → words_of line.places ≡ [] → ((o : OptionName) → given_to line o ≡ [])
     → ((f : FlagName) → times_of line f ≡ 0) → asked_from name line next.Item words ≡ asked_by name words
 unfolding asked_from asked_by asked_with
@@ -579,7 +527,6 @@ start_asked name line words places given times =
     (λ o. ap (λ ws. ws ++ flat_map (given_by o) parts.0) (given o))
     (λ f. omega (arith, times f))))
 
--- the line before any word
 abbrev no_words : Line
 no_words = record { places = places.Nothing; budget = None; accuracy = None; memory = None; stats = None; reduce = false; bushy = false; keys = false; count = false }
 
@@ -592,7 +539,6 @@ never_set flag.Count = refl
 pub first_asked : (name : CommandName) (words : List Word) → asked_from name no_words next.Item words ≡ asked_by name words
 first_asked name words = start_asked name no_words words refl (nothing_given no_words refl refl refl refl) never_set
 
--- no word is left
 none_left : (words : List (Bor (List ℕ))) (i : ℕ) → length words ≤ i → map (λ w. w.now) (drop i words) ≡ []
 none_left words i past = rw (drop_all i words past) refl
 

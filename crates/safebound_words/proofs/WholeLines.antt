@@ -1,4 +1,4 @@
--- What a whole line asks for.
+-- The lemmas say what a whole line asks for, as the specification has it and as the code computes it.
 use Rattle.std.proofs.Common.{◌≡◌, ℕ, List, [], ◌∷◌, Bor, Option, Some, None, arith, length, map, refl, sym}
 use Rattle.safebound_words.specs.Answer.{Parts, command_named, command_of, parts_from, reading_of}
 use Rattle.safebound_words.specs.Collected.{asked_by}
@@ -15,7 +15,6 @@ regrouped : (name : CommandName) (parts : Option Parts)
 regrouped name None = refl
 regrouped name (Some p) = refl
 
--- a command's word, and the words behind it
 pub named_line : (first : Word) (words : List Word) (name : CommandName) → command_named first ≡ Some name
     → command_of (first ∷ words) ≡ asked_by name words
 unfolding command_of reading_of asked_by
@@ -29,14 +28,13 @@ pub no_line : command_of [] ≡ None
 unfolding command_of reading_of
 no_line = refl
 
--- what `command_of` computes is asked for; if it computes nothing, nothing is asked for
 pub asks : (words : List Word) (request : Command) → Some request ≡ command_of words → AskFor words request
 asks words request is = computed_asked words request (sym is)
 
 pub asks_nothing : (words : List Word) → None ≡ command_of words → (request : Command) → AskFor words request → ⊥
 asks_nothing words is request asked = let some = asked_computed words request asked in cc
 
--- in the words of a slice
+-- these lemmas are about the words in a slice, as the code has them
 
 pub no_words : (words : List (Bor (List ℕ))) → length words ≡ 0 → command_of (map (λ w. w.now) words) ≡ None
 no_words [] none = no_line

@@ -1,4 +1,5 @@
--- A command line has few words: those of its places, one of each flag, two of each option, its command's word and `--`.
+-- A command line has at most 16 words: its place words, one word for each flag, two words for each option, the command's word and `--`. So the code refuses
+-- longer lines.
 use Rattle.std.proofs.Common.{◌≡◌, ◌+◌, ◌*◌, ◌≤◌, ◌<◌, ◌&&◌, ◌++◌, ℕ, Bool, true, false, suc, zero, inl, inr, List, [], ◌∷◌, length, Option, None, Some, ap, sym, refl, ◌∙◌, arith}
 use Rattle.std.specs.Prelude.{if◌then◌else◌, option_map, ◌==◌}
 use Rattle.std.specs.List.{AllByRecursion, flat_map, list_any, sum_by}
@@ -9,11 +10,13 @@ use Rattle.std.proofs.lemmas.Slice.Eq.{bytes_eq-Decides}
 use Rattle.safebound_words.specs.Answer.{command_of}
 use Rattle.safebound_words.specs.CommandLines.{Alone, Beside, IsEnd, IsItemOf, Item, Joined, Place, given_by, given_in, place_words, same_flag, same_option, set_by, spelling}
 use Rattle.safebound_words.specs.Commands.{over_query}
-use Rattle.safebound_words.specs.Table.{Given, command_row, option_file, flag_word, from_file, is_set, limit_of, of_append, of_number, of_stats, option_row, over_files, over_schema_and_query, plan_from_stats_or_tables, value_of}
+use Rattle.safebound_words.specs.Table.{Given, command_row, file_alone, flag_word, from_file, from_file_or_tables, is_set, of_append, of_number, of_stats, option_file, option_row, over_files, over_tables, terms_given, value_of, work_given}
 use Rattle.safebound_words.specs.Words.{Word}
 use Rattle.safebound_words.specs.declared.command.Command.{Command}
 use Rattle.safebound_words.specs.declared.command.OutText.{OutText}
 use Rattle.safebound_words.specs.declared.command.OutText.TheVariants as out_text
+use Rattle.safebound_words.specs.declared.command.PlanTerms.{PlanTerms}
+use Rattle.safebound_words.specs.declared.command.Work.{Work}
 use Rattle.safebound_words.specs.declared.command.Work.TheVariants as works
 use Rattle.safebound_words.specs.declared.table.CommandName.{CommandName}
 use Rattle.safebound_words.specs.declared.table.CommandName.TheVariants as command
@@ -23,9 +26,8 @@ use Rattle.safebound_words.specs.declared.table.OptionName.{OptionName}
 use Rattle.safebound_words.specs.declared.table.OptionName.TheVariants as option
 use Rattle.safebound_words.proofs.Readings.{bind_so, computed_asked}
 
--- ---- the words of items, by what they give
+-- ---- an item's words are at most its place words, two words for each value that it gives, and one for each flag that it sets
 
--- an item of an option of these gives it a value
 option_given : (option : OptionName) (item : Item) (value : Word) (options : List OptionName)
     → ((other : OptionName) → given_by other item ≡ (if same_option other option then value ∷ [] else []))
     → list_any (same_option option) options ≡ true → 1 ≤ sum_by (λ other. length (given_by other item)) options
@@ -41,7 +43,6 @@ option_given option item value (first ∷ options) gives has = elim (cases_Bool 
       omega (arith, option_given option item value options gives rest, sum_by-cons (λ other. length (given_by other item)) first options)
 ]
 
--- an item of a flag of these sets it
 flag_given : (flag : FlagName) (flags : List FlagName) → list_any (same_flag flag) flags ≡ true → 1 ≤ sum_by (λ other. set_by other (Alone flag)) flags
 flag_given flag [] has = absurd (false≢true has)
 flag_given flag (first ∷ flags) has = elim (cases_Bool (same_flag flag first)) [
@@ -89,7 +90,7 @@ times_split item items (first ∷ flags) =
       sum_by-cons (set_by first) item items,
     )
 
--- what is given to a command, in words
+-- a command's place words, options and flags have at most so many words
 abbrev weight : CommandName → List Word → Given → ℕ
 weight name places given =
     length places + (2 * sum_by (λ option. length (given.values option)) (command_row name).options + sum_by (λ flag. given.times flag) (command_row name).flags)
@@ -108,7 +109,7 @@ all_words name (item ∷ items) all =
       all_words name items all.1,
     )
 
--- ---- what a command takes at most
+-- ---- a command takes each option and each flag at most once
 
 one_value : (option : OptionName) (given : List Word) (n : ℕ) → value_of option given ≡ Some n → length given ≤ 1
 one_value option [] n is = omega arith
@@ -125,8 +126,7 @@ once zero set is = omega arith
 once (suc zero) set is = omega arith
 once (suc (suc more)) set is = absurd (cc)
 
--- a test before what is asked for
-asked_if : (test : Bool) (made r : Command) → (if test then Some made else None) ≡ Some r → test ≡ true
+asked_if : {A : Type 0} (test : Bool) (made r : A) → (if test then Some made else None) ≡ Some r → test ≡ true
 asked_if true made r is = refl
 asked_if false made r is = absurd (cc)
 
@@ -138,69 +138,80 @@ map_so : {A B : Type 0} (f : A → B) (from : Option A) (b : B) → option_map f
 map_so f None b is = absurd (cc)
 map_so f (Some a) b is = (a, refl)
 
--- two places, and each of these at most once
-record AreFew (places : List Word) (given : Given) : Type 0 where
-  two : length places ≡ 2
+record AreTermsFew (given : Given) : Type 0 where
+  memory : length (given.values option.Memory) ≤ 1
   budget : length (given.values option.Budget) ≤ 1
+  bushy : given.times flag.Bushy ≤ 1
+
+record AreSourcesFew (given : Given) : Type 0 where
   accuracy : length (given.values option.Accuracy) ≤ 1
   reduce : given.times flag.Reduce ≤ 1
-  bushy : given.times flag.Bushy ≤ 1
   keys : given.times flag.Keys ≤ 1
   count : given.times flag.Count ≤ 1
 
-two_few : (out : OutText) (memory : Option ℕ) (places : List Word) (given : Given) (r : Command) → over_schema_and_query out memory places given ≡ Some r → AreFew places given
-two_few out memory [] given r is = absurd (cc)
-two_few out memory (schema ∷ []) given r is = absurd (cc)
-two_few out memory (schema ∷ query ∷ []) given r is =
-    let budget = bind_so (value_of option.Budget (given.values option.Budget)) _ r is in
-    let accuracy = bind_so (value_of option.Accuracy (given.values option.Accuracy)) _ r budget.2 in
-    let reduce = bind_so (is_set (given.times flag.Reduce)) _ r accuracy.2 in
-    let bushy = bind_so (is_set (given.times flag.Bushy)) _ r reduce.2 in
-    let keys = bind_so (is_set (given.times flag.Keys)) _ r bushy.2 in
-    let count = bind_so (is_set (given.times flag.Count)) _ r keys.2 in
+terms_few : (given : Given) (terms : PlanTerms) → terms_given given ≡ Some terms → AreTermsFew given
+terms_few given terms is =
+    let bytes = bind_so (value_of option.Memory (given.values option.Memory)) _ terms is in
+    let budget = bind_so (value_of option.Budget (given.values option.Budget)) _ terms bytes.2 in
+    let bushy = bind_so (is_set (given.times flag.Bushy)) _ terms budget.2 in
     record {
-      two = refl;
+      memory = one_value option.Memory (given.values option.Memory) bytes.0 bytes.1;
       budget = one_value option.Budget (given.values option.Budget) budget.0 budget.1;
-      accuracy = one_value option.Accuracy (given.values option.Accuracy) accuracy.0 accuracy.1;
-      reduce = once (given.times flag.Reduce) reduce.0 reduce.1;
       bushy = once (given.times flag.Bushy) bushy.0 bushy.1;
-      keys = once (given.times flag.Keys) keys.0 keys.1;
-      count = once (given.times flag.Count) count.0 count.1;
     }
-two_few out memory (schema ∷ query ∷ more ∷ places) given r is = absurd (cc)
 
-files_few : (out : OutText) (places : List Word) (given : Given) (r : Command) → over_files out places given ≡ Some r → AreFew places given × (length (given.values option.Memory) ≤ 1)
+module _ (out : OutText) (terms : PlanTerms) (given : Given) (work : Work) where
+  tables_few : over_tables out terms given ≡ Some work → AreSourcesFew given
+  tables_few is =
+      let accuracy = bind_so (value_of option.Accuracy (given.values option.Accuracy)) _ work is in
+      let reduce = bind_so (is_set (given.times flag.Reduce)) _ work accuracy.2 in
+      let keys = bind_so (is_set (given.times flag.Keys)) _ work reduce.2 in
+      let count = bind_so (is_set (given.times flag.Count)) _ work keys.2 in
+      record {
+        accuracy = one_value option.Accuracy (given.values option.Accuracy) accuracy.0 accuracy.1;
+        reduce = once (given.times flag.Reduce) reduce.0 reduce.1;
+        keys = once (given.times flag.Keys) keys.0 keys.1;
+        count = once (given.times flag.Count) count.0 count.1;
+      }
+
+  file_few : (file : Word) → from_file file terms given ≡ Some work → AreSourcesFew given
+  file_few file is =
+      let alone = asked_if (file_alone given) (works.PlanFromStats file terms) work is in
+      let first = both_true (length (given.values option.Accuracy) == 0) _ alone in
+      let second = both_true (given.times flag.Reduce == 0) _ first.1 in
+      let third = both_true (given.times flag.Keys == 0) (given.times flag.Count == 0) second.1 in
+      record {
+        accuracy = omega (arith, eqb-true (length (given.values option.Accuracy)) 0 first.0);
+        reduce = omega (arith, eqb-true (given.times flag.Reduce) 0 second.0);
+        keys = omega (arith, eqb-true (given.times flag.Keys) 0 third.0);
+        count = omega (arith, eqb-true (given.times flag.Count) 0 third.1);
+      }
+
+  either_few : (file : Option Word) → from_file_or_tables out file terms given ≡ Some work → AreSourcesFew given
+  either_few None is = tables_few is
+  either_few (Some file) is = file_few file is
+
+  work_few : work_given out terms given ≡ Some work → AreSourcesFew given × (length (given.values option.Stats) ≤ 1)
+  work_few is =
+      let file = bind_so (option_file (given.values option.Stats)) _ work is in
+      (either_few file.0 file.2, one_file (given.values option.Stats) file.0 file.1)
+
+record AreFew (places : List Word) (given : Given) : Type 0 where
+  two : length places ≡ 2
+  terms : AreTermsFew given
+  sources : AreSourcesFew given
+  stats : length (given.values option.Stats) ≤ 1
+
+files_few : (out : OutText) (places : List Word) (given : Given) (r : Command) → over_files out places given ≡ Some r → AreFew places given
 unfolding over_files
-files_few out places given r is =
-    let memory = bind_so (value_of option.Memory (given.values option.Memory)) _ r is in
-    (two_few out (limit_of memory.0) places given r memory.2, one_value option.Memory (given.values option.Memory) memory.0 memory.1)
-
-from_few : (file : Word) (memory : Option ℕ) (places : List Word) (given : Given) (r : Command) → from_file file memory places given ≡ Some r → AreFew places given
-from_few file memory [] given r is = absurd (cc)
-from_few file memory (schema ∷ []) given r is = absurd (cc)
-from_few file memory (schema ∷ query ∷ []) given r is =
-    let budget = bind_so (value_of option.Budget (given.values option.Budget)) _ r is in
-    let alone = asked_if _ (over_query None schema query (works.PlanFromStats file budget.0 memory)) r budget.2 in
-    let first = both_true (length (given.values option.Accuracy) == 0) _ alone in
-    let second = both_true (given.times flag.Reduce == 0) _ first.1 in
-    let third = both_true (given.times flag.Bushy == 0) _ second.1 in
-    let fourth = both_true (given.times flag.Keys == 0) (given.times flag.Count == 0) third.1 in
-    record {
-      two = refl;
-      budget = one_value option.Budget (given.values option.Budget) budget.0 budget.1;
-      accuracy = omega (arith, eqb-true (length (given.values option.Accuracy)) 0 first.0);
-      reduce = omega (arith, eqb-true (given.times flag.Reduce) 0 second.0);
-      bushy = omega (arith, eqb-true (given.times flag.Bushy) 0 third.0);
-      keys = omega (arith, eqb-true (given.times flag.Keys) 0 fourth.0);
-      count = omega (arith, eqb-true (given.times flag.Count) 0 fourth.1);
-    }
-from_few file memory (schema ∷ query ∷ more ∷ places) given r is = absurd (cc)
-
-planned_few : (file : Option Word) (places : List Word) (given : Given) (r : Command) → plan_from_stats_or_tables file places given ≡ Some r → AreFew places given × (length (given.values option.Memory) ≤ 1)
-planned_few None places given r is = files_few out_text.Nothing places given r is
-planned_few (Some file) places given r is =
-    let memory = bind_so (value_of option.Memory (given.values option.Memory)) _ r is in
-    (from_few file (limit_of memory.0) places given r memory.2, one_value option.Memory (given.values option.Memory) memory.0 memory.1)
+files_few out [] given r is = absurd (cc)
+files_few out (schema ∷ []) given r is = absurd (cc)
+files_few out (schema ∷ query ∷ []) given r is =
+    let terms = bind_so (terms_given given) _ r is in
+    let work = bind_so (work_given out terms.0 given) _ r terms.2 in
+    let few = work_few out terms.0 given work.0 work.1 in
+    record { two = refl; terms = terms_few given terms.0 terms.1; sources = few.0; stats = few.1 }
+files_few out (schema ∷ query ∷ more ∷ places) given r is = absurd (cc)
 
 stats_few : (places : List Word) (given : Given) (r : Command) → of_stats places given ≡ Some r → (length places ≡ 2) × (length (given.values option.Accuracy) ≤ 1)
 stats_few [] given r is = absurd (cc)
@@ -223,17 +234,18 @@ demo_few [] given r is = absurd (cc)
 demo_few (number ∷ []) given r is = refl
 demo_few (number ∷ more ∷ places) given r is = absurd (cc)
 
--- two places, three options and four flags; a plan may have one option more
-whole_few : (places : List Word) (given : Given) → AreFew places given → length (given.values option.Memory) ≤ 1 → weight command.Run places given ≤ 12
-whole_few places given few memory = omega (arith, few.two, few.budget, few.accuracy, few.reduce, few.bushy, few.keys, few.count, memory)
+-- two place words, three options of two words each and four flags have 12 words; `plan` may have one more option of two words
+whole_few : (places : List Word) (given : Given) → AreFew places given → weight command.Run places given ≤ 12
+whole_few places given few =
+    let terms = few.terms in
+    let sources = few.sources in
+    omega (arith, few.two, terms.memory, terms.budget, terms.bushy, sources.accuracy, sources.reduce, sources.keys, sources.count)
 
 asks_few : (name : CommandName) (places : List Word) (given : Given) (r : Command) → (command_row name).asks places given ≡ Some r → weight name places given ≤ 14
-asks_few command.Run places given r is = let few = files_few out_text.Rows places given r is in omega (arith, whole_few places given few.0 few.1)
+asks_few command.Run places given r is = omega (arith, whole_few places given (files_few out_text.Rows places given r is))
 asks_few command.Plan places given r is =
-    let file = bind_so (option_file (given.values option.Stats)) _ r is in
-    let few = planned_few file.0 places given r file.2 in
-    omega (arith, whole_few places given few.0 few.1, one_file (given.values option.Stats) file.0 file.1)
-asks_few command.Audit places given r is = let few = files_few out_text.Audit places given r is in omega (arith, whole_few places given few.0 few.1)
+    let few = files_few out_text.Nothing places given r is in omega (arith, whole_few places given few, few.stats)
+asks_few command.Audit places given r is = omega (arith, whole_few places given (files_few out_text.Audit places given r is))
 asks_few command.Stats places given r is = let few = stats_few places given r is in omega (arith, few.0, few.1)
 asks_few command.Append places given r is = omega (arith, append_few places given r is)
 asks_few command.Demo places given r is = omega (arith, demo_few places given r is)
@@ -263,7 +275,7 @@ few_words words r is =
       takes,
     )
 
--- more words ask for nothing
+-- more than 16 words ask for nothing
 pub too_many : (words : List Word) → 16 < length words → command_of words ≡ None
 too_many words many = by (command_of words) refl
   where

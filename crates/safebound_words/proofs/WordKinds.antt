@@ -1,4 +1,4 @@
--- What a word is told to be, and the words of items.
+-- `kind_of` gives a word its kind. The lemmas say which kinds the words of the table's rows have, and what a word is if it has a kind.
 use Rattle.std.proofs.Common.{◌≡◌, ◌⊎◌, ℕ, ◌==◌, Bool, true, false, cond, if◌then◌else◌, List, [], ◌∷◌, ◌++◌, Option, Some, None, MatchOption, sym, refl, ap, ◌∙◌, codes, inl, inr, append_assoc}
 use Rattle.std.proofs.lemmas.Bool.{eqb-true, false≢true, or_left, or_right}
 use Rattle.std.proofs.lemmas.Slice.Eq.{bytes_eq-Decides}
@@ -16,9 +16,8 @@ use Rattle.safebound_words.specs.declared.table.FlagName.TheVariants as flag
 use Rattle.safebound_words.specs.declared.table.OptionName.{OptionName}
 use Rattle.safebound_words.specs.declared.table.OptionName.TheVariants as option
 
--- From the line to the word. A new command, option or flag is a line in each of these.
+-- ---- from a row of the table to its word: a new command, option or flag takes a line in each of these lemmas
 
--- a command's word names it
 pub names_itself : (name : CommandName) → command_named (command_row name).word ≡ Some name
 names_itself command.Run = refl
 names_itself command.Plan = refl
@@ -27,7 +26,6 @@ names_itself command.Stats = refl
 names_itself command.Append = refl
 names_itself command.Demo = refl
 
--- a flag's word sets it
 pub kind-sets : (name : CommandName) (f : FlagName) → IsTrue (has_flag name f) → kind_of name (flag_word f) ≡ Sets f
 unfolding kind_of
 kind-sets command.Run flag.Reduce has = refl
@@ -55,7 +53,6 @@ kind-sets command.Demo flag.Bushy has = absurd (false≢true has)
 kind-sets command.Demo flag.Keys has = absurd (false≢true has)
 kind-sets command.Demo flag.Count has = absurd (false≢true has)
 
--- an option's word wants a value
 pub kind-wants : (name : CommandName) (o : OptionName) → IsTrue (has_option name o) → kind_of name (option_row o).word ≡ Wants o
 unfolding kind_of
 kind-wants command.Run option.Budget has = refl
@@ -83,7 +80,6 @@ kind-wants command.Demo option.Accuracy has = absurd (false≢true has)
 kind-wants command.Demo option.Memory has = absurd (false≢true has)
 kind-wants command.Demo option.Stats has = absurd (false≢true has)
 
--- an option's word, `=` and a value gives the value
 pub kind-gives : (name : CommandName) (o : OptionName) (value : Word) → IsTrue (has_option name o)
     → kind_of name ((option_row o).word ++ codes "=" ++ value) ≡ Gives o value
 unfolding kind_of
@@ -122,19 +118,16 @@ place_of_two : (name : CommandName) (word : Word) (same : Bool) → (same ≡ tr
 place_of_two name word true two place = absurd (false≢true (sym place ∙ ap is_dashed (two refl)))
 place_of_two name word false two place = rw place refl
 
--- a word that isn't dashed is a place word
 pub kind-place : (name : CommandName) (word : Word) → is_dashed word ≡ false → kind_of name word ≡ IsPlace
 unfolding kind_of
 kind-place name word place = place_of_two name word (bytes_eq word (codes "--")) (bytes_eq-Decides word (codes "--")).0 place
 
--- From the word to the line.
+-- ---- from a word to the row of the table
 
--- what a choice of the first that fits gives
 chosen : {X : Type 0} (b : Bool) (x y : X) (rest : Option X) → cond b (Some x) rest ≡ Some y → ((b ≡ true) × (x ≡ y)) ⊎ ((b ≡ false) × (rest ≡ Some y))
 chosen true x y rest e = inl (refl, cc)
 chosen false x y rest e = inr (refl, e)
 
--- what is found passes, and stands in the list
 found_so : {X : Type 0} (p q : X → Bool) (xs : List X) (x : X) → find p xs ≡ Some x → (p x ≡ true) × (q x ≡ true → list_any q xs ≡ true)
 found_so p q [] x e = cc
 found_so p q (y ∷ ys) x e = elim (chosen (p y) y x (find p ys) e) [
@@ -142,24 +135,20 @@ found_so p q (y ∷ ys) x e = elim (chosen (p y) y x (find p ys) e) [
   | inr w ↦ let rest = found_so p q ys x w.1 in (rest.0, λ passes. or_right (q y) (list_any q ys) (rest.1 passes))
 ]
 
--- the name that a word is found to be
 pub named_so : (word : Word) (name : CommandName) → command_named word ≡ Some name → word ≡ (command_row name).word
 named_so word name found =
     (bytes_eq-Decides word (command_row name).word).0 (found_so (λ n. bytes_eq word (command_row n).word) (λ n. true) (command.Run ∷ command.Plan ∷ command.Audit ∷ command.Stats ∷ command.Append ∷ command.Demo ∷ []) name found).0
 
--- the option that a word is found to be
 option_so : (name : CommandName) (word : Word) (o : OptionName) → option_named name word ≡ Some o → (word ≡ (option_row o).word) × IsTrue (has_option name o)
 option_so name word o found =
     let so = found_so (λ other. bytes_eq word (option_row other).word) (same_option o) (command_row name).options o found in
     ((bytes_eq-Decides word (option_row o).word).0 so.0, so.1 ((bytes_eq-Decides (option_row o).word (option_row o).word).1 refl))
 
--- the flag that a word is found to be
 flag_so : (name : CommandName) (word : Word) (f : FlagName) → flag_named name word ≡ Some f → (word ≡ flag_word f) × IsTrue (has_flag name f)
 flag_so name word f found =
     let so = found_so (λ other. bytes_eq word (flag_word other)) (same_flag f) (command_row name).flags f found in
     ((bytes_eq-Decides word (flag_word f)).0 so.0, so.1 ((bytes_eq-Decides (flag_word f) (flag_word f)).1 refl))
 
--- a word is its parts
 IsOfParts : Word → Word → Option Word → Type 0
 IsOfParts word front value = MatchOption value (word ≡ front) (λ v. word ≡ front ++ 61 ∷ v)
 
@@ -180,7 +169,6 @@ unfolding IsOfParts
 are_parts [] = refl
 are_parts (first ∷ rest) = parts_step (first == 61) first rest (eqb-true first 61) (are_parts rest)
 
--- what a word is told to be, it is
 abbrev pub Told : CommandName → Word → Kind → Type 0
 Told name word Ends = word ≡ codes "--"
 Told name word IsPlace = is_dashed word ≡ false

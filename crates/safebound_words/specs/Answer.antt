@@ -51,14 +51,14 @@ kind_of name word =
     then dashed_kind (flag_named name word) (option_kind (option_named name (split_value word).0) (split_value word).1)
     else IsPlace
 
--- items, and the words behind `--`
+-- items, and the words after `--`
 abbrev pub Parts : Type 0
 Parts = List Item × List Word
 
 abbrev pub in_front : Item → Option Parts → Option Parts
 in_front item parts = option_map (λ p. (item ∷ p.0, p.1)) parts
 
--- how a word and the words behind it are read, by what the word is
+-- how a word and the words after it are read, by the kind of the word
 abbrev pub read_by : Kind → Word → List Word → (Option OptionName → Option Parts) → Option Parts
 read_by Ends word words read_on = Some ([], words)
 read_by IsPlace word words read_on = in_front (Place word) (read_on None)
@@ -67,7 +67,7 @@ read_by (Wants option) word words read_on = read_on (Some option)
 read_by (Gives option value) word words read_on = in_front (Joined option value) (read_on None)
 read_by Unknown word words read_on = None
 
--- how the words from here on are read; if an option wants its value, the next word is it
+-- how the words from here on are read. If an option waits for its value, the next word is this value
 unfoldable pub parts_from : CommandName → Option OptionName → List Word → Option Parts
 parts_from name None [] = Some ([], [])
 parts_from name (Some option) [] = None

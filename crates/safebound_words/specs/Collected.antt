@@ -1,4 +1,4 @@
--- What the code has collected from a command line, and what is asked for by this and by the words that are still to be read.
+-- The words that the code has collected from a command line (a `Line`), and what they ask for, together with the words that are still to be read.
 use Rattle.std.specs.Prelude.{ℕ, ◌+◌, if◌then◌else◌, List, [], ◌∷◌, ◌++◌, Option, Some, None}
 use Rattle.std.specs.Borrow.{Bor}
 use Rattle.std.specs.Bool.{IsTrue}
@@ -70,15 +70,15 @@ asked_with name line parts = (command_row name).asks
     (words_of line.places ++ (flat_map place_words parts.0 ++ parts.1))
     (given_with line parts.0)
 
--- what is asked for by a line and the words that are left
+-- what is asked for by a line and the words that are still to be read
 unfoldable pub asked_from : CommandName → Line → Next → List Word → Option Command
 asked_from name line next words = parts_next name next words >>= asked_with name line
 
--- what is asked for by a command's word and all words behind it
+-- what is asked for by a command's word and all words after it
 unfoldable pub asked_by : CommandName → List Word → Option Command
 asked_by name words = parts_from name None words >>= λ parts. requested (record { command = name; items = parts.0; behind = parts.1 })
 
--- if an option wants its value, it is an option of the command
+-- if an option waits for its value, it is an option of the command
 abbrev pub FitsNext : CommandName → Next → Type 0
 FitsNext name next.Item = Unit {0}
 FitsNext name (next.Value option) = IsTrue (has_option name option)

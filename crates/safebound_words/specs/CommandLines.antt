@@ -1,4 +1,4 @@
--- Command lines: a command's word, items of its row, and maybe `--` with further place words behind it.
+-- Command lines: a command's word, items that its row of the table allows, and maybe `--` with further place words after it.
 use Rattle.std.specs.Prelude.{ℕ, ◌≡◌, ◌⊎◌, Bool, false, if◌then◌else◌, List, [], ◌∷◌, ◌++◌, Option, Some, codes}
 use Rattle.std.specs.List.{AllByRecursion, flat_map, list_any, sum_by}
 use Rattle.std.specs.Str.{bytes_eq}
@@ -10,7 +10,7 @@ use Rattle.safebound_words.specs.declared.table.CommandName.{CommandName}
 use Rattle.safebound_words.specs.declared.table.FlagName.{FlagName}
 use Rattle.safebound_words.specs.declared.table.OptionName.{OptionName}
 
--- what stands before `--`: a place word, a flag, an option and its value in two words, or both in one
+-- an item, which stands before `--`, is a place word, a flag, an option and its value in two words, or an option and its value in one word
 pub data Item : Type 0 where
   Place : Word → Item
   Alone : FlagName → Item
@@ -47,7 +47,7 @@ IsItemOf command (Alone flag) = IsTrue (has_flag command flag)
 IsItemOf command (Beside option value) = IsTrue (has_option command option)
 IsItemOf command (Joined option value) = IsTrue (has_option command option)
 
--- how a list of words is read: a command, items, and the words behind `--`
+-- how a list of words is read: a command, items, and the words after `--`
 pub record CommandReading : Type 0 where
   pub command : CommandName
   pub items : List Item
@@ -64,7 +64,7 @@ pub record AreReadAs (words : List Word) (reading : CommandReading) : Type 0 whe
   pub end : IsEnd rest reading.behind
   pub items : AllByRecursion (IsItemOf reading.command) reading.items
 
--- the place words of items, what they give to an option, and how often they have a flag
+-- the place words of an item, the words that it gives to an option, and how often it has a flag
 abbrev pub place_words : Item → List Word
 place_words (Place word) = word ∷ []
 place_words (Alone flag) = []
@@ -94,6 +94,6 @@ given_in items = record {
 abbrev pub requested : CommandReading → Option Command
 requested reading = (command_row reading.command).asks (flat_map place_words reading.items ++ reading.behind) (given_in reading.items)
 
--- the words ask for this: it is requested by some reading of them
+-- the words ask for this command: they are read in a way that requests it
 abbrev pub AskFor : List Word → Command → Type 0
 AskFor words command = (reading : CommandReading) × AreReadAs words reading × (requested reading ≡ Some command)

@@ -9,12 +9,13 @@ use Rattle.safebound_words.specs.declared.command.ListSource.TheVariants as sour
 use Rattle.safebound_words.specs.declared.command.NewRows.{NewRows}
 use Rattle.safebound_words.specs.declared.command.OutText.{OutText}
 use Rattle.safebound_words.specs.declared.command.OutText.TheVariants as out_text
+use Rattle.safebound_words.specs.declared.command.PlanTerms.{PlanTerms}
 use Rattle.safebound_words.specs.declared.command.Shape.{Shape}
 use Rattle.safebound_words.specs.declared.command.Shape.TheVariants as shapes
 use Rattle.safebound_words.specs.declared.command.Work.{Work}
 use Rattle.safebound_words.specs.declared.command.Work.TheVariants as works
 
--- the command to do this work on the query in a file, over the schema in a file. With a number these are files of the shop of this number
+-- the command to do this work on the query in a file, over the schema in a file. If `shop` has a number, both are files of the shop of this number
 abbrev pub over_query : Option ℕ → Word → Word → Work → Command
 over_query shop schema query work = record { schema_file = schema; aim = aims.Query query work; shop = shop }
 
@@ -22,24 +23,29 @@ over_query shop schema query work = record { schema_file = schema; aim = aims.Qu
 abbrev pub with_rows : Word → NewRows → Command
 with_rows schema rows = record { schema_file = schema; aim = aims.Append rows; shop = None }
 
--- the source by the flags `--reduce`, `--keys` and `--count`: a command has at most one. Without them it is the statistics of whole columns
+-- the source of bounds, by the flags `--reduce`, `--keys` and `--count`. A command has at most one of these flags. Without them the source is the
+-- statistics of whole columns
 abbrev pub source_by : Bool → Bool → Bool → ListSource
 source_by false false false = sources.Columns
 source_by false true false = sources.Keyed
 source_by true keys false = sources.Reduced
 source_by reduce keys true = sources.Counted
 
--- the shape by the flag `--bushy`: without it an order
+-- the shape of a plan: with the flag `--bushy` a tree, without it an order
 abbrev pub shape_by : Bool → Shape
 shape_by false = shapes.Order
 shape_by true = shapes.Tree
 
+-- the terms of a plan, by a budget, the flag `--bushy`, and a limit of memory, if there is one
+abbrev pub terms_by : ℕ → Bool → Option ℕ → PlanTerms
+terms_by budget bushy memory = record { budget = budget; shape = shape_by bushy; memory = memory }
+
 -- a plan with a text for out, a budget, an accuracy, a source, the flag `--bushy`, and a limit of memory, if there is one
 abbrev pub plan_work : OutText → ℕ → ℕ → ListSource → Bool → Option ℕ → Work
-plan_work out budget accuracy source bushy memory = works.Plan
-    (record { budget = budget; accuracy = accuracy; source = source; shape = shape_by bushy; memory = memory; out = out })
+plan_work out budget accuracy source bushy memory =
+    works.Plan (record { terms = terms_by budget bushy memory; accuracy = accuracy; source = source; out = out })
 
--- the same by the flags `--reduce`, `--bushy` and `--keys`, without `--count`
+-- a plan as `plan_work` has it, by the flags `--reduce`, `--bushy` and `--keys`, without `--count`
 abbrev pub plan_by : OutText → ℕ → ℕ → Bool → Bool → Bool → Option ℕ → Work
 plan_by out budget accuracy reduce bushy keys memory = plan_work out budget accuracy (source_by reduce keys false) bushy memory
 

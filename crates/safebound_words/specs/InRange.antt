@@ -1,6 +1,6 @@
 -- Which values a command may have.
-use Rattle.std.specs.Prelude.{ℕ, ◌<◌, ◌≤◌, ⊤}
-use Rattle.limits.specs.Profile.{most_accuracy, most_budget}
+use Rattle.std.specs.Prelude.{◌<◌, ◌≤◌, ⊤}
+use Rattle.limits.specs.Profile.{most_accuracy}
 use Rattle.safebound_words.specs.Commands.{most_budget_of}
 use Rattle.safebound_words.specs.declared.command.Aim.{Aim}
 use Rattle.safebound_words.specs.declared.command.Aim.TheVariants as aims
@@ -12,12 +12,12 @@ use Rattle.safebound_words.specs.declared.command.Work.TheVariants as works
 pub record IsInRange (plan : PlanWork) : Type 0 where
   pub accuracy_least : 0 < plan.accuracy
   pub accuracy_most : plan.accuracy ≤ most_accuracy
-  pub budget : plan.budget ≤ most_budget_of plan.shape
+  pub budget : plan.terms.budget ≤ most_budget_of plan.terms.shape
 
 abbrev pub WorkHasRanges : Work → Type 0
 WorkHasRanges (works.Plan plan) = IsInRange plan
 WorkHasRanges (works.WriteStats accuracy) = (0 < accuracy) × (accuracy ≤ most_accuracy)
-WorkHasRanges (works.PlanFromStats file budget memory) = budget ≤ most_budget
+WorkHasRanges (works.PlanFromStats file terms) = terms.budget ≤ most_budget_of terms.shape
 
 abbrev pub HasRanges : Aim → Type 0
 HasRanges (aims.Query file work) = WorkHasRanges work

@@ -2,12 +2,14 @@
 use Rattle.std.specs.Prelude.{ℕ, ◌^◌, ◌-◌, ◌==◌, ◌&&◌, ◌||◌, not, nat_le, if◌then◌else◌, suc, zero, Bool, true, false, List, [], ◌∷◌, length, Option, Some, None, codes}
 use Rattle.std.specs.Option.{option_map}
 use Rattle.limits.specs.Profile.{least_accuracy, least_budget, most_accuracy, most_budget, usual_accuracy, usual_budget}
-use Rattle.safebound_words.specs.Commands.{demo_of, most_budget_of, over_query, plan_work, shape_by, source_by, with_rows}
+use Rattle.safebound_words.specs.Commands.{demo_of, most_budget_of, over_query, shape_by, source_by, terms_by, with_rows}
 use Rattle.safebound_words.specs.Numbers.{number_within}
 use Rattle.safebound_words.specs.Words.{Word}
 use Rattle.safebound_words.specs.declared.command.Command.{Command}
 use Rattle.safebound_words.specs.declared.command.OutText.{OutText}
 use Rattle.safebound_words.specs.declared.command.OutText.TheVariants as out_text
+use Rattle.safebound_words.specs.declared.command.PlanTerms.{PlanTerms}
+use Rattle.safebound_words.specs.declared.command.Work.{Work}
 use Rattle.safebound_words.specs.declared.command.Work.TheVariants as works
 use Rattle.safebound_words.specs.declared.table.CommandName.{CommandName}
 use Rattle.safebound_words.specs.declared.table.CommandName.TheVariants as command
@@ -56,13 +58,14 @@ pub record Given : Type 0 where
   pub values : OptionName → List Word
   pub times : FlagName → ℕ
 
--- the value of an option, which is given at most once: the number in its word, which has to be in its range, or else the default
+-- the value of an option. Without a word it is the default. With one word it is the number in this word, which has to be in the option's range. With more
+-- words there is no value
 abbrev pub value_of : OptionName → List Word → Option ℕ
 value_of option [] = Some (option_row option).otherwise
 value_of option (word ∷ []) = number_within (option_row option).least (option_row option).most word
 value_of option (word ∷ another ∷ words) = None
 
--- the limit of memory, if there is one: 0 is the default, and says that there is no limit
+-- the limit of memory, if there is a limit: 0 is the default, and says that there is no limit
 abbrev pub limit_of : ℕ → Option ℕ
 limit_of bytes = if bytes == 0 then None else Some bytes
 
@@ -71,13 +74,13 @@ abbrev pub is_file : Word → Bool
 is_file [] = false
 is_file (first ∷ rest) = not (first == 45)
 
--- the file that an option names, if the option is given; it is given at most once
+-- the file that an option names, if the option is given. There is no result if the option is given twice
 abbrev pub option_file : List Word → Option (Option Word)
 option_file [] = Some None
 option_file (word ∷ []) = if is_file word then Some (Some word) else None
 option_file (word ∷ another ∷ words) = None
 
--- whether a flag is given; it is given at most once
+-- whether a flag is given. There is no result if the flag is given twice
 abbrev pub is_set : ℕ → Option Bool
 is_set zero = Some false
 is_set (suc zero) = Some true
@@ -93,71 +96,71 @@ pub record CommandRow : Type 0 where
 abbrev pub named : Word → List OptionName → List FlagName → (List Word → Given → Option Command) → CommandRow
 named word options flags asks = record { word = word; options = options; flags = flags; asks = asks }
 
--- if there is a value, goes on with it to the rest
+-- if there is a value, gives it to `rest`; otherwise there is no result
 infixl 10 ◌>>=◌
 abbrev pub ◌>>=◌ : {A B : Type 0} → Option A → (A → Option B) → Option B
 None >>= rest = None
 (Some value) >>= rest = rest value
 
--- whether neither another source nor an accuracy is given, as `--count` requires: it compresses nothing
+-- what is asked of a plan: a budget, a shape and a limit of memory. The budget is at most the greatest budget of the shape
+abbrev pub terms_given : Given → Option PlanTerms
+terms_given given = do
+  bytes ← value_of option.Memory (given.values option.Memory)
+  budget ← value_of option.Budget (given.values option.Budget)
+  bushy ← is_set (given.times flag.Bushy)
+  if nat_le budget (most_budget_of (shape_by bushy)) then Some (terms_by budget bushy (limit_of bytes)) else None
+
+-- whether neither another source of bounds nor an accuracy is given. `--count` requires this; an accuracy makes no sense, since nothing is compressed
 abbrev pub count_alone : Given → Bool → Bool → Bool
 count_alone given reduce keys = not (reduce || (keys || not (length (given.values option.Accuracy) == 0)))
 
--- exactly two place words, SCHEMA and QUERY. With `--keys` no other flag is given; `--count` is as above. The budget is at most the shape's greatest
-abbrev pub over_schema_and_query : OutText → Option ℕ → List Word → Given → Option Command
-over_schema_and_query out limit (schema ∷ query ∷ []) given = do
-  budget ← value_of option.Budget (given.values option.Budget)
+-- a plan over tables. At most one of `--reduce`, `--keys` and `--count` is given, and `--count` without an accuracy
+abbrev pub over_tables : OutText → PlanTerms → Given → Option Work
+over_tables out terms given = do
   accuracy ← value_of option.Accuracy (given.values option.Accuracy)
   reduce ← is_set (given.times flag.Reduce)
-  bushy ← is_set (given.times flag.Bushy)
   keys ← is_set (given.times flag.Keys)
   count ← is_set (given.times flag.Count)
-  if keys && (reduce || bushy) then None
+  if keys && reduce then None
       else if count && not (count_alone given reduce keys) then None
-      else if nat_le budget (most_budget_of (shape_by bushy))
-      then Some (over_query None schema query (plan_work out budget accuracy (source_by reduce keys count) bushy limit))
-      else None
-over_schema_and_query out limit places given = None
+      else Some (works.Plan (record { terms = terms; accuracy = accuracy; source = source_by reduce keys count; out = out }))
 
--- what is asked for with the limit of memory, if one is given
-abbrev pub with_limit : (Option ℕ → List Word → Given → Option Command) → List Word → Given → Option Command
-with_limit asks places given = value_of option.Memory (given.values option.Memory) >>= λ bytes. asks (limit_of bytes) places given
+-- whether neither an accuracy nor another source of bounds is given: a statistics file has its own accuracy
+abbrev pub file_alone : Given → Bool
+file_alone given =
+    length (given.values option.Accuracy) == 0 && (given.times flag.Reduce == 0 && (given.times flag.Keys == 0 && given.times flag.Count == 0))
 
+-- a plan from a statistics file
+abbrev pub from_file : Word → PlanTerms → Given → Option Work
+from_file file terms given = if file_alone given then Some (works.PlanFromStats file terms) else None
+
+-- a plan from a statistics file, if such a file is given, otherwise a plan over the tables
+abbrev pub from_file_or_tables : OutText → Option Word → PlanTerms → Given → Option Work
+from_file_or_tables out None terms given = over_tables out terms given
+from_file_or_tables out (Some file) terms given = from_file file terms given
+
+abbrev pub work_given : OutText → PlanTerms → Given → Option Work
+work_given out terms given = option_file (given.values option.Stats) >>= λ file. from_file_or_tables out file terms given
+
+-- a plan takes exactly two place words, SCHEMA and QUERY
 unfoldable pub over_files : OutText → List Word → Given → Option Command
-over_files out places given = with_limit (over_schema_and_query out) places given
+over_files out (schema ∷ query ∷ []) given = do
+  terms ← terms_given given
+  work ← work_given out terms given
+  Some (over_query None schema query work)
+over_files out places given = None
 
--- whether neither an accuracy nor a flag is given: a statistics file has its own accuracy. A budget and a limit of memory may be given
-abbrev pub stands_alone : Given → Bool
-stands_alone given =
-    length (given.values option.Accuracy) == 0
-    && (given.times flag.Reduce == 0 && (given.times flag.Bushy == 0 && (given.times flag.Keys == 0 && given.times flag.Count == 0)))
-
--- a plan from a statistics file, with exactly two place words, SCHEMA and QUERY
-abbrev pub from_file : Word → Option ℕ → List Word → Given → Option Command
-from_file file limit (schema ∷ query ∷ []) given = do
-  budget ← value_of option.Budget (given.values option.Budget)
-  if stands_alone given then Some (over_query None schema query (works.PlanFromStats file budget limit)) else None
-from_file file limit places given = None
-
--- a plan from a statistics file, if one is given, else from the tables
-abbrev pub plan_from_stats_or_tables : Option Word → List Word → Given → Option Command
-plan_from_stats_or_tables None places given = over_files out_text.Nothing places given
-plan_from_stats_or_tables (Some file) places given = with_limit (from_file file) places given
-
-abbrev pub of_plan : List Word → Given → Option Command
-of_plan places given = option_file (given.values option.Stats) >>= λ file. plan_from_stats_or_tables file places given
-
--- exactly two place words, SCHEMA and QUERY, and the accuracy
+-- `stats` takes exactly two place words, SCHEMA and QUERY, and the accuracy
 abbrev pub of_stats : List Word → Given → Option Command
 of_stats (schema ∷ query ∷ []) given = option_map (λ accuracy. over_query None schema query (works.WriteStats accuracy)) (value_of option.Accuracy (given.values option.Accuracy))
 of_stats places given = None
 
--- exactly four place words: SCHEMA, STATS, TABLE and ROWS
+-- `append` takes exactly four place words: SCHEMA, STATS, TABLE and ROWS
 abbrev pub of_append : List Word → Given → Option Command
 of_append (schema ∷ file ∷ table ∷ rows ∷ []) given = Some (with_rows schema (record { stats_file = file; table = table; rows_file = rows }))
 of_append places given = None
 
--- exactly one place word, NUMBER
+-- `demo` takes exactly one place word, NUMBER
 abbrev pub of_number : List Word → Given → Option Command
 of_number (number ∷ []) given = option_map demo_of (number_within 0 (2 ^ 32 - 1) number)
 of_number places given = None
@@ -165,7 +168,7 @@ of_number places given = None
 -- one line for each command
 abbrev pub command_row : CommandName → CommandRow
 command_row command.Run = named (codes "run") (option.Budget ∷ option.Accuracy ∷ option.Memory ∷ []) (flag.Reduce ∷ flag.Bushy ∷ flag.Keys ∷ flag.Count ∷ []) (over_files out_text.Rows)
-command_row command.Plan = named (codes "plan") (option.Budget ∷ option.Accuracy ∷ option.Memory ∷ option.Stats ∷ []) (flag.Reduce ∷ flag.Bushy ∷ flag.Keys ∷ flag.Count ∷ []) of_plan
+command_row command.Plan = named (codes "plan") (option.Budget ∷ option.Accuracy ∷ option.Memory ∷ option.Stats ∷ []) (flag.Reduce ∷ flag.Bushy ∷ flag.Keys ∷ flag.Count ∷ []) (over_files out_text.Nothing)
 command_row command.Audit = named (codes "audit") (option.Budget ∷ option.Accuracy ∷ option.Memory ∷ []) (flag.Reduce ∷ flag.Bushy ∷ flag.Keys ∷ flag.Count ∷ []) (over_files out_text.Audit)
 command_row command.Stats = named (codes "stats") (option.Accuracy ∷ []) [] of_stats
 command_row command.Append = named (codes "append") [] [] of_append

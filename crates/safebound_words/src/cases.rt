@@ -1,12 +1,12 @@
 //! What small command lines ask for.
 ghost use Rattle.std.specs.Prelude.{◌≡◌, Some, None, [], ◌∷◌, codes, false, true};
 ghost use Rattle.safebound_words.specs.Answer.{command_of};
-ghost use Rattle.safebound_words.specs.Commands.{demo_of, over_query, plan_by, plan_work, with_rows};
+ghost use Rattle.safebound_words.specs.Commands.{demo_of, over_query, plan_by, plan_work, terms_by, with_rows};
 ghost use Rattle.safebound_words.specs.declared.command.ListSource.TheVariants as sources;
 ghost use Rattle.safebound_words.specs.declared.command.OutText.TheVariants as out_text;
 ghost use Rattle.safebound_words.specs.declared.command.Work.TheVariants as works;
 
-/// Commands and their place words. It does nothing.
+/// Commands and their place words: arguments that are no options, no values of options and no flags. This function does nothing.
 pub fn small_commands()
     ensures run { command_of (codes "run" ∷ codes "s" ∷ codes "q" ∷ []) ≡ Some (over_query None (codes "s") (codes "q") (plan_by out_text.Rows 1000000 1 false false false None)) }
     ensures audit { command_of (codes "audit" ∷ codes "s" ∷ codes "q" ∷ []) ≡ Some (over_query None (codes "s") (codes "q") (plan_by out_text.Audit 1000000 1 false false false None)) }
@@ -16,7 +16,7 @@ pub fn small_commands()
     ensures zeros { command_of (codes "demo" ∷ codes "007" ∷ []) ≡ Some (demo_of 7) }
     ensures last_number { command_of (codes "demo" ∷ codes "4294967295" ∷ []) ≡ Some (demo_of 4294967295) }
 
-    // Behind `--` every word is a place word, a second `--` too.
+    // After `--` every word is a place word, also a second `--`.
     ensures behind { command_of (codes "run" ∷ codes "--" ∷ codes "--budget" ∷ codes "--" ∷ [])
         ≡ Some (over_query None (codes "--budget") (codes "--") (plan_by out_text.Rows 1000000 1 false false false None)) }
     ensures value_behind { command_of (codes "run" ∷ codes "--budget" ∷ codes "5" ∷ codes "--" ∷ codes "--budget" ∷ codes "6" ∷ [])
@@ -24,7 +24,7 @@ pub fn small_commands()
     ensures number_behind { command_of (codes "demo" ∷ codes "--" ∷ codes "7" ∷ []) ≡ Some (demo_of 7) }
 {}
 
-/// Options and their values. It does nothing.
+/// Options and their values. This function does nothing.
 pub fn small_options()
     ensures joined { command_of (codes "run" ∷ codes "--budget=12" ∷ codes "--" ∷ codes "s" ∷ codes "q" ∷ [])
         ≡ Some (over_query None (codes "s") (codes "q") (plan_by out_text.Rows 12 1 false false false None)) }
@@ -39,7 +39,7 @@ pub fn small_options()
     ensures past_accuracy { command_of (codes "run" ∷ codes "s" ∷ codes "q" ∷ codes "--accuracy" ∷ codes "65" ∷ []) ≡ None }
     ensures twice { command_of (codes "run" ∷ codes "--budget" ∷ codes "12" ∷ codes "s" ∷ codes "q" ∷ codes "--budget=12" ∷ []) ≡ None }
 
-    // A value is the next word, whatever it is.
+    // An option's value is the next word, even if this word is `--`.
     ensures next_word { command_of (codes "run" ∷ codes "s" ∷ codes "q" ∷ codes "--budget" ∷ codes "--" ∷ []) ≡ None }
     ensures no_word { command_of (codes "run" ∷ codes "s" ∷ codes "q" ∷ codes "--budget" ∷ []) ≡ None }
     ensures no_digit { command_of (codes "run" ∷ codes "s" ∷ codes "q" ∷ codes "--budget=" ∷ []) ≡ None }
@@ -47,7 +47,7 @@ pub fn small_options()
     ensures sign { command_of (codes "run" ∷ codes "s" ∷ codes "q" ∷ codes "--budget=+5" ∷ []) ≡ None }
 {}
 
-/// Words that are no command. It does nothing.
+/// Words that are no command. This function does nothing.
 pub fn small_refusals()
     ensures no_words { command_of [] ≡ None }
     ensures help { command_of (codes "--help" ∷ []) ≡ None }
@@ -64,7 +64,7 @@ pub fn small_refusals()
     ensures no_option { command_of (codes "demo" ∷ codes "7" ∷ codes "--budget" ∷ codes "12" ∷ []) ≡ None }
 {}
 
-/// Words with `--reduce`. It does nothing.
+/// Words with `--reduce`. This function does nothing.
 pub fn small_flags()
     ensures behind { command_of (codes "run" ∷ codes "s" ∷ codes "q" ∷ codes "--reduce" ∷ [])
         ≡ Some (over_query None (codes "s") (codes "q") (plan_by out_text.Rows 1000000 1 true false false None)) }
@@ -82,7 +82,7 @@ pub fn small_flags()
     ensures letter_case { command_of (codes "run" ∷ codes "s" ∷ codes "q" ∷ codes "--Reduce" ∷ []) ≡ None }
 {}
 
-/// Words with `--bushy`. It does nothing.
+/// Words with `--bushy`. This function does nothing.
 pub fn small_trees()
     ensures behind { command_of (codes "run" ∷ codes "s" ∷ codes "q" ∷ codes "--bushy" ∷ [])
         ≡ Some (over_query None (codes "s") (codes "q") (plan_by out_text.Rows 1000000 1 false true false None)) }
@@ -98,7 +98,7 @@ pub fn small_trees()
     ensures of_demo { command_of (codes "demo" ∷ codes "7" ∷ codes "--bushy" ∷ []) ≡ None }
 {}
 
-/// Words with `--keys`. It does nothing.
+/// Words with `--keys`. This function does nothing.
 pub fn small_keys()
     ensures behind { command_of (codes "run" ∷ codes "s" ∷ codes "q" ∷ codes "--keys" ∷ [])
         ≡ Some (over_query None (codes "s") (codes "q") (plan_by out_text.Rows 1000000 1 false false true None)) }
@@ -106,18 +106,20 @@ pub fn small_keys()
         ≡ Some (over_query None (codes "s") (codes "q") (plan_by out_text.Nothing 20000000 1 false false true None)) }
     ensures between { command_of (codes "audit" ∷ codes "s" ∷ codes "--accuracy=8" ∷ codes "--keys" ∷ codes "q" ∷ codes "--memory=9" ∷ [])
         ≡ Some (over_query None (codes "s") (codes "q") (plan_by out_text.Audit 1000000 8 false false true (Some 9))) }
+    ensures tree { command_of (codes "plan" ∷ codes "--bushy" ∷ codes "s" ∷ codes "q" ∷ codes "--keys" ∷ [])
+        ≡ Some (over_query None (codes "s") (codes "q") (plan_by out_text.Nothing 1000000 1 false true true None)) }
+    ensures past_most { command_of (codes "run" ∷ codes "--keys" ∷ codes "--budget=4000001" ∷ codes "s" ∷ codes "q" ∷ codes "--bushy" ∷ []) ≡ None }
     ensures twice { command_of (codes "run" ∷ codes "--keys" ∷ codes "s" ∷ codes "q" ∷ codes "--keys" ∷ []) ≡ None }
     ensures value { command_of (codes "run" ∷ codes "s" ∷ codes "q" ∷ codes "--keys=1" ∷ []) ≡ None }
     ensures of_demo { command_of (codes "demo" ∷ codes "7" ∷ codes "--keys" ∷ []) ≡ None }
     ensures of_stats { command_of (codes "stats" ∷ codes "s" ∷ codes "q" ∷ codes "--keys" ∷ []) ≡ None }
 
-    // It can't stand beside `--reduce`, `--bushy` or `--stats`.
+    // `--keys` can't stand beside `--reduce` or `--stats`.
     ensures reduced { command_of (codes "run" ∷ codes "--keys" ∷ codes "s" ∷ codes "q" ∷ codes "--reduce" ∷ []) ≡ None }
-    ensures tree { command_of (codes "plan" ∷ codes "--bushy" ∷ codes "s" ∷ codes "q" ∷ codes "--keys" ∷ []) ≡ None }
     ensures of_a_file { command_of (codes "plan" ∷ codes "s" ∷ codes "q" ∷ codes "--stats=f" ∷ codes "--keys" ∷ []) ≡ None }
 {}
 
-/// Words with `--count`. It does nothing.
+/// Words with `--count`. This function does nothing.
 pub fn small_counts()
     ensures behind { command_of (codes "run" ∷ codes "s" ∷ codes "q" ∷ codes "--count" ∷ [])
         ≡ Some (over_query None (codes "s") (codes "q") (plan_work out_text.Rows 1000000 1 sources.Counted false None)) }
@@ -131,21 +133,21 @@ pub fn small_counts()
     ensures of_demo { command_of (codes "demo" ∷ codes "7" ∷ codes "--count" ∷ []) ≡ None }
     ensures of_stats { command_of (codes "stats" ∷ codes "s" ∷ codes "q" ∷ codes "--count" ∷ []) ≡ None }
 
-    // It can't stand beside `--reduce`, `--keys` or `--stats`, nor beside `--accuracy`: nothing is compressed.
+    // `--count` can't stand beside `--reduce`, `--keys` or `--stats`. Nor can `--count` stand beside `--accuracy`, since `--count` compresses nothing.
     ensures reduced { command_of (codes "run" ∷ codes "--count" ∷ codes "s" ∷ codes "q" ∷ codes "--reduce" ∷ []) ≡ None }
     ensures keyed { command_of (codes "plan" ∷ codes "--keys" ∷ codes "s" ∷ codes "q" ∷ codes "--count" ∷ []) ≡ None }
     ensures of_a_file { command_of (codes "plan" ∷ codes "s" ∷ codes "q" ∷ codes "--stats=f" ∷ codes "--count" ∷ []) ≡ None }
     ensures accuracy { command_of (codes "audit" ∷ codes "s" ∷ codes "q" ∷ codes "--count" ∷ codes "--accuracy" ∷ codes "1" ∷ []) ≡ None }
 {}
 
-/// `stats`, and `plan` with `--stats`. It does nothing.
+/// Words with the command `stats`, and words with `plan` and `--stats`. This function does nothing.
 pub fn small_statistics()
     ensures stats { command_of (codes "stats" ∷ codes "s" ∷ codes "q" ∷ codes "--accuracy" ∷ codes "8" ∷ []) ≡ Some (over_query None (codes "s") (codes "q") (works.WriteStats 8)) }
     ensures usual { command_of (codes "stats" ∷ codes "s" ∷ codes "q" ∷ []) ≡ Some (over_query None (codes "s") (codes "q") (works.WriteStats 1)) }
     ensures plan { command_of (codes "plan" ∷ codes "s" ∷ codes "q" ∷ codes "--stats" ∷ codes "f" ∷ codes "--budget=5" ∷ [])
-        ≡ Some (over_query None (codes "s") (codes "q") (works.PlanFromStats (codes "f") 5 None)) }
+        ≡ Some (over_query None (codes "s") (codes "q") (works.PlanFromStats (codes "f") (terms_by 5 false None))) }
     ensures joined { command_of (codes "plan" ∷ codes "--stats=a=b" ∷ codes "s" ∷ codes "q" ∷ [])
-        ≡ Some (over_query None (codes "s") (codes "q") (works.PlanFromStats (codes "a=b") 1000000 None)) }
+        ≡ Some (over_query None (codes "s") (codes "q") (works.PlanFromStats (codes "a=b") (terms_by 1000000 false None))) }
 
     // The file's name isn't empty, and doesn't begin with a dash.
     ensures no_name { command_of (codes "plan" ∷ codes "s" ∷ codes "q" ∷ codes "--stats=" ∷ []) ≡ None }
@@ -153,17 +155,25 @@ pub fn small_statistics()
     ensures next_word { command_of (codes "plan" ∷ codes "s" ∷ codes "q" ∷ codes "--stats" ∷ codes "--budget=5" ∷ []) ≡ None }
     ensures two_files { command_of (codes "plan" ∷ codes "s" ∷ codes "q" ∷ codes "--stats=f" ∷ codes "--stats=f" ∷ []) ≡ None }
 
-    // Only `--budget` and `--memory` may stand beside `--stats`, and `stats` has only `--accuracy`.
+    // `--stats` can stand beside `--bushy`.
+    ensures tree { command_of (codes "plan" ∷ codes "s" ∷ codes "q" ∷ codes "--stats=f" ∷ codes "--bushy" ∷ codes "--budget=5" ∷ [])
+        ≡ Some (over_query None (codes "s") (codes "q") (works.PlanFromStats (codes "f") (terms_by 5 true None))) }
+    ensures limited { command_of (codes "plan" ∷ codes "--bushy" ∷ codes "s" ∷ codes "q" ∷ codes "--memory=9" ∷ codes "--stats" ∷ codes "f" ∷ [])
+        ≡ Some (over_query None (codes "s") (codes "q") (works.PlanFromStats (codes "f") (terms_by 1000000 true (Some 9)))) }
+    ensures past_most { command_of (codes "plan" ∷ codes "s" ∷ codes "q" ∷ codes "--stats=f" ∷ codes "--budget=4000001" ∷ codes "--bushy" ∷ []) ≡ None }
+    ensures of_orders { command_of (codes "plan" ∷ codes "s" ∷ codes "q" ∷ codes "--stats=f" ∷ codes "--budget=4000001" ∷ [])
+        ≡ Some (over_query None (codes "s") (codes "q") (works.PlanFromStats (codes "f") (terms_by 4000001 false None))) }
+
+    // `--stats` can't stand beside another source of bounds or an accuracy. The command `stats` has only the option `--accuracy`.
     ensures accuracy { command_of (codes "plan" ∷ codes "s" ∷ codes "q" ∷ codes "--stats=f" ∷ codes "--accuracy=1" ∷ []) ≡ None }
     ensures reduced { command_of (codes "plan" ∷ codes "s" ∷ codes "q" ∷ codes "--stats=f" ∷ codes "--reduce" ∷ []) ≡ None }
-    ensures tree { command_of (codes "plan" ∷ codes "s" ∷ codes "q" ∷ codes "--stats=f" ∷ codes "--bushy" ∷ []) ≡ None }
     ensures of_run { command_of (codes "run" ∷ codes "s" ∷ codes "q" ∷ codes "--stats=f" ∷ []) ≡ None }
     ensures budget { command_of (codes "stats" ∷ codes "s" ∷ codes "q" ∷ codes "--budget=5" ∷ []) ≡ None }
     ensures flag { command_of (codes "stats" ∷ codes "s" ∷ codes "q" ∷ codes "--reduce" ∷ []) ≡ None }
     ensures a_third { command_of (codes "stats" ∷ codes "s" ∷ codes "q" ∷ codes "f" ∷ []) ≡ None }
 {}
 
-/// `--memory`. It does nothing.
+/// Words with `--memory`. This function does nothing.
 pub fn small_limits()
     ensures run { command_of (codes "run" ∷ codes "s" ∷ codes "q" ∷ codes "--memory" ∷ codes "556" ∷ [])
         ≡ Some (over_query None (codes "s") (codes "q") (plan_by out_text.Rows 1000000 1 false false false (Some 556))) }
@@ -178,12 +188,12 @@ pub fn small_limits()
     ensures twice { command_of (codes "run" ∷ codes "--memory=5" ∷ codes "s" ∷ codes "q" ∷ codes "--memory=5" ∷ []) ≡ None }
     ensures no_number { command_of (codes "run" ∷ codes "s" ∷ codes "q" ∷ codes "--memory=5k" ∷ []) ≡ None }
     ensures of_a_file { command_of (codes "plan" ∷ codes "s" ∷ codes "q" ∷ codes "--stats=f" ∷ codes "--memory=5" ∷ [])
-        ≡ Some (over_query None (codes "s") (codes "q") (works.PlanFromStats (codes "f") 1000000 (Some 5))) }
+        ≡ Some (over_query None (codes "s") (codes "q") (works.PlanFromStats (codes "f") (terms_by 1000000 false (Some 5)))) }
     ensures of_stats { command_of (codes "stats" ∷ codes "s" ∷ codes "q" ∷ codes "--memory=5" ∷ []) ≡ None }
     ensures of_demo { command_of (codes "demo" ∷ codes "7" ∷ codes "--memory=5" ∷ []) ≡ None }
 {}
 
-/// `append`. It does nothing.
+/// Words with the command `append`. This function does nothing.
 pub fn small_appends()
     ensures append { command_of (codes "append" ∷ codes "s" ∷ codes "f" ∷ codes "T" ∷ codes "n" ∷ [])
         ≡ Some (with_rows (codes "s") (record { stats_file = (codes "f"); table = (codes "T"); rows_file = (codes "n") })) }
@@ -191,7 +201,7 @@ pub fn small_appends()
     ensures behind { command_of (codes "append" ∷ codes "s" ∷ codes "--" ∷ codes "-f" ∷ codes "--" ∷ codes "n" ∷ [])
         ≡ Some (with_rows (codes "s") (record { stats_file = (codes "-f"); table = (codes "--"); rows_file = (codes "n") })) }
 
-    // Four place words, and nothing else.
+    // `append` takes four place words, and nothing else.
     ensures of_three { command_of (codes "append" ∷ codes "s" ∷ codes "f" ∷ codes "T" ∷ []) ≡ None }
     ensures a_fifth { command_of (codes "append" ∷ codes "s" ∷ codes "f" ∷ codes "T" ∷ codes "n" ∷ codes "m" ∷ []) ≡ None }
     ensures accuracy { command_of (codes "append" ∷ codes "s" ∷ codes "f" ∷ codes "T" ∷ codes "n" ∷ codes "--accuracy=1" ∷ []) ≡ None }

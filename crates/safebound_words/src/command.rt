@@ -1,4 +1,4 @@
-//! What the words of a command line ask for: which text goes out, over which source and in which shape.
+//! What the words of a command line ask for: which text is written to `out`, what bounds are made from, and whether a plan is an order or a tree.
 
 use crate::word::Word;
 
@@ -13,16 +13,16 @@ pub enum OutText {
     Nothing,
 }
 
-/// What the bounds of a plan are made from, and the rows that are joined.
+/// What the bounds of a plan are made from, and which rows are joined.
 #[derive(Clone, Copy, Debug)]
 pub enum ListSource {
-    /// Statistics of whole columns, and whole scans.
+    /// Bounds are made from statistics of whole columns, and whole scans are joined.
     Columns,
-    /// The same statistics, with conditions that are carried through keys, and whole scans.
+    /// Bounds are made from statistics of whole columns, with conditions that are carried along references to keys, and whole scans are joined.
     Keyed,
-    /// Reduced scans, for both.
+    /// Bounds are made from reduced scans, and reduced scans are joined.
     Reduced,
-    /// Reduced scans, for both. Bounds are made by counting choices of their rows.
+    /// Bounds are made by counting choices of rows of reduced scans, and reduced scans are joined.
     Counted,
 }
 
@@ -35,37 +35,37 @@ pub enum Shape {
     Tree,
 }
 
-/// How a query is planned over its tables. `budget` is the most rows that a plan may cost, `accuracy` that of compression. `source` says what bounds
-/// are made from, `shape` how entries are joined, and `out` which text goes to `out`. `memory` is the most bytes that the plan's buffers may take, if
-/// there is a limit.
+/// What is asked of a plan, whatever its bounds are made from. `budget` is the most rows that it may cost, and `shape` says how entries are joined.
+/// `memory` is the most bytes that the plan's buffers may take, if there is a limit.
 #[derive(Clone, Copy, Debug)]
-pub struct PlanWork {
+pub struct PlanTerms {
     pub budget: u64,
-    pub accuracy: u8,
-    pub source: ListSource,
     pub shape: Shape,
     pub memory: Option<u64>,
+}
+
+/// How a query is planned over its tables. `terms` is what is asked of any plan, and `accuracy` is the accuracy of compression. `source` says what
+/// bounds are made from, and `out` says which text goes to `out`.
+#[derive(Clone, Copy, Debug)]
+pub struct PlanWork {
+    pub terms: PlanTerms,
+    pub accuracy: u8,
+    pub source: ListSource,
     pub out: OutText,
 }
 
 /// What is done with a query.
 #[derive(Debug, Drop)]
 pub enum Work<'a> {
-    /// It is planned over its tables, and joined if a text goes to `out`.
+    /// The query is planned over its tables, and joined if a text goes to `out`.
     Plan(PlanWork),
-    /// The statistics file of its tables is written, at an accuracy of compression from 1 to 64.
-    WriteStats {
-        accuracy: u8,
-    },
-    /// It is planned from the statistics file of this name, within a budget and a limit of memory, if there is one.
-    PlanFromStats {
-        file: Word<'a>,
-        budget: u64,
-        memory: Option<u64>,
-    },
+    /// The statistics file of the query's tables is written, at an accuracy of compression from 1 to 64.
+    WriteStats { accuracy: u8 },
+    /// The query is planned from the statistics file of this name, and no table is read.
+    PlanFromStats { file: Word<'a>, terms: PlanTerms },
 }
 
-/// The name of a statistics file, the name of a table, and the name of a file with new rows of it.
+/// The name of a statistics file, the name of a table, and the name of a file with new rows of this table.
 #[derive(Debug, Drop)]
 pub struct NewRows<'a> {
     pub stats_file: Word<'a>,
@@ -93,6 +93,6 @@ pub struct Command<'a> {
 /// Why the words are no command.
 #[derive(Clone, Copy, Debug, PartialEq, Eq)]
 pub enum WordsError {
-    /// They ask for nothing that the table of commands has.
+    /// The words ask for nothing that the table of commands has.
     Usage,
 }

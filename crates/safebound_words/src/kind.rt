@@ -22,7 +22,7 @@ pub(crate) enum Kind<'a> {
     Unknown,
 }
 
-// Whether a word is a dash with more behind it.
+// Whether a word is a dash with at least one more byte after it.
 fn is_dashed(word: &str) -> bool
     ensures { result ≡ dashed word.now }
 {

@@ -1,4 +1,4 @@
-//! Laws of the definitions. None of them does anything when it runs.
+//! Laws of the definitions. These functions do nothing.
 ghost use Rattle.std.specs.Prelude.{◌≡◌, ◌↔◌, ℕ, List, Some};
 ghost use Rattle.safebound_words.specs.Answer.{command_of};
 ghost use Rattle.safebound_words.specs.CommandLines.{AskFor, CommandReading, AreReadAs};

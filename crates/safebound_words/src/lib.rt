@@ -1,10 +1,10 @@
 //! The words of a command line: the first stage of a run.
 //!
-//! `read_words` takes the words behind the program's own name and gives a `Command`, or `Usage`. It takes no memory. A command says what is asked of
-//! a run: which text goes out, over which source and in which shape. Its words are seen as bytes (`Word`), so contracts speak of the command itself.
-//! For what words ask for, callers cite `AskFor` (in `specs/CommandLines.antt`), or `command_of`, which is the same as a function of the words. For
-//! the values that a command may have they cite `HasRanges` (in `specs/InRange.antt`). The commands, options and flags stand in one table,
-//! `specs/Table.antt`.
+//! `read_words` takes the words after the program's own name and gives a `Command`, or `Usage`. The call takes no memory. A command says what is asked of
+//! a run: which text is written to `out`, what bounds are made from, and whether the plan is an order or a tree. In contracts the words of a command
+//! are their bytes (`Word`), so contracts speak of the command itself. For what words ask for, callers cite `AskFor` (in `specs/CommandLines.antt`), or
+//! `command_of`, which computes from the words what they ask for. For the values that a command may have, callers cite `HasRanges` (in
+//! `specs/InRange.antt`). The commands, options and flags stand in one table, `specs/Table.antt`.
 #![tactic(auto)]
 
 mod cases;
@@ -22,7 +22,9 @@ pub use cases::{
     small_appends, small_commands, small_flags, small_keys, small_limits, small_options,
     small_refusals, small_statistics, small_trees,
 };
-pub use command::{Aim, Command, ListSource, NewRows, OutText, PlanWork, Shape, WordsError, Work};
+pub use command::{
+    Aim, Command, ListSource, NewRows, OutText, PlanTerms, PlanWork, Shape, WordsError, Work,
+};
 pub use laws::{one_command, one_reading};
 pub use table::{CommandName, FlagName, OptionName};
 pub use word::Word;

@@ -1,4 +1,4 @@
-//! Reads the words behind a command's word, from left to right.
+//! Reads the words after a command's word, from left to right.
 ghost use Rattle.std.specs.Prelude.{◌≡◌, ◌+◌, ◌∷◌, ◌++◌, ℕ, [], length, List, map, if◌then◌else◌, IfOk, IfErr, IsTrue, None, false, true, OnErr, OnOk};
 ghost use Rattle.safebound_words.specs.Collected.{asked_by, asked_from, collected, FitsNext, given_to, option_words, times_of, words_of};
 ghost use Rattle.safebound_words.specs.CommandLines.{has_option, same_flag, same_option};
@@ -8,7 +8,7 @@ use crate::command::WordsError;
 use crate::kind::{Kind, kind_of};
 use crate::table::{CommandName, FlagName, OptionName};
 
-/// The place words so far. No command has more than four.
+/// The place words so far: arguments that are no options, no values of options and no flags. No command has more than four place words.
 #[derive(Clone, Copy)]
 pub(crate) enum Places<'a> {
     Nothing,
@@ -18,7 +18,7 @@ pub(crate) enum Places<'a> {
     Four(&'a str, &'a str, &'a str, &'a str),
 }
 
-/// What the next word is: an item, an option's value, or, after `--`, a place word.
+/// What the next word is: an item (a place word, a flag or an option), an option's value, or, after `--`, a place word.
 #[derive(Clone, Copy)]
 pub(crate) enum Next {
     Item,
@@ -114,7 +114,7 @@ impl<'a> Line<'a> {
         }
     }
 
-    // Takes the next word, and says what comes after it.
+    // Takes the next word, and says what kind of word comes after it.
     fn take(&mut self, name: CommandName, next: Next, word: &'a str) -> Result<Next, WordsError>
         requires { FitsNext name next }
         ensures ok { IfOk result (λ after. (words : List Word) →
@@ -135,7 +135,7 @@ impl<'a> Line<'a> {
         }
     }
 
-    // Takes the next word before `--`, if no option wants its value.
+    // Takes the next word, if it stands before `--` and no option waits for its value.
     fn take_item(&mut self, name: CommandName, word: &'a str) -> Result<Next, WordsError>
         ensures ok { IfOk result (λ after. (words : List Word) →
             asked_from name self.new after words ≡ asked_from name self.old Next.Item (word.now ∷ words)) }
@@ -162,7 +162,7 @@ impl<'a> Line<'a> {
     }
 }
 
-/// Reads the words behind a command's word.
+/// Reads the words after a command's word.
 pub(crate) fn read_line<'a>(name: CommandName, words: &[&'a str]) -> Result<Line<'a>, WordsError>
     ensures ok { IfOk result (λ line. collected name line ≡ asked_by name (map (λ w. w.now) words.now)) }
     ensures err { OnErr result (asked_by name (map (λ w. w.now) words.now) ≡ None) }

@@ -3,10 +3,12 @@ ghost use Rattle.std.specs.Prelude.{◌≡◌, ◌≤◌, IfSome, None, Some};
 ghost use Rattle.std.specs.Option.{option_map};
 ghost use Rattle.safebound_words.specs.Collected.{collected, given_of, option_words, words_of};
 ghost use Rattle.safebound_words.specs.Commands.{demo_of, most_budget_of, over_query, shape_by, source_by};
-ghost use Rattle.safebound_words.specs.Table.{is_file, limit_of, of_append as asked_of_append, of_number as asked_of_number, of_plan, of_stats, option_row, over_files as asked_over_files, plan_from_stats_or_tables, value_of as option_value};
+ghost use Rattle.safebound_words.specs.Table.{from_file as plan_from_file, is_file, limit_of, of_append as asked_of_append, of_number as asked_of_number, of_stats, option_row, over_files as asked_over_files, over_tables as plan_over_tables, terms_given, value_of as option_value, work_given};
 ghost use Rattle.safebound_words.specs.declared.table.OptionName.TheVariants as option;
 
-use crate::command::{Aim, Command, ListSource, NewRows, OutText, PlanWork, Shape, Work};
+use crate::command::{
+    Aim, Command, ListSource, NewRows, OutText, PlanTerms, PlanWork, Shape, Work,
+};
 use crate::line::{Line, Places};
 use crate::number::number_within;
 use crate::table::{CommandName, OptionName};
@@ -37,7 +39,7 @@ fn limit_in(line: &Line) -> Option<Option<u64>>
     }
 }
 
-// The source that the flags ask for.
+// The source of bounds that the flags ask for.
 fn source_of(reduce: bool, keys: bool, count: bool) -> ListSource
     ensures { result ≡ source_by reduce keys count }
 {
@@ -49,7 +51,7 @@ fn source_of(reduce: bool, keys: bool, count: bool) -> ListSource
     }
 }
 
-// The shape that the flag asks for.
+// The shape of the plan, an order or a tree, that the flag asks for.
 fn shape_of(bushy: bool) -> Shape
     ensures { result ≡ shape_by bushy }
 {
@@ -80,36 +82,40 @@ fn over<'a>(schema: &'a str, query: &'a str, work: Work<'a>) -> Command<'a>
     }
 }
 
-// A plan over SCHEMA and QUERY, if these are the place words, each option has a right value, and the flags may stand together.
-#[tactic(auto, unfolding(crate::specs::Table::over_files))]
-fn over_files<'a>(out: OutText, line: &Line<'a>) -> Option<Command<'a>>
-    ensures { result ≡ asked_over_files out (words_of line.now.places) (given_of line.now) }
+// What is asked of a plan, if the budget and the limit of memory have right values, and the budget is at most the greatest budget of the shape.
+fn terms_in(line: &Line) -> Option<PlanTerms>
+    ensures { result ≡ terms_given (given_of line.now) }
 {
     let memory = limit_in(line)?;
-    let Places::Two(schema, query) = line.places else {
-        return None;
-    };
     let budget = value_of(OptionName::Budget, line.budget)?;
+    let shape = shape_of(line.bushy);
+    if budget > most_budget(shape) {
+        return None;
+    }
+    Some(PlanTerms {
+        budget,
+        shape,
+        memory,
+    })
+}
+
+// A plan over tables, if at most one source of bounds is given and each option has a right value.
+fn over_tables<'a>(out: OutText, terms: PlanTerms, line: &Line<'a>) -> Option<Work<'a>>
+    ensures { result ≡ plan_over_tables out terms (given_of line.now) }
+{
     let accuracy = value_of(OptionName::Accuracy, line.accuracy)?;
-    if line.keys && (line.reduce || line.bushy) {
+    if line.keys && line.reduce {
         return None;
     }
     if line.count && (line.reduce || line.keys || line.accuracy.is_some()) {
         return None;
     }
-    let shape = shape_of(line.bushy);
-    if budget > most_budget(shape) {
-        return None;
-    }
-    let plan = PlanWork {
-        budget,
+    Some(Work::Plan(PlanWork {
+        terms,
         accuracy: accuracy as u8,
         source: source_of(line.reduce, line.keys, line.count),
-        shape,
-        memory,
         out,
-    };
-    Some(over(schema, query, Work::Plan(plan)))
+    }))
 }
 
 // Whether an option's value may be a file's name: it isn't empty, and doesn't begin with a dash.
@@ -122,41 +128,43 @@ fn is_file(word: &str) -> bool
     }
 }
 
-// A plan from a statistics file, if the place words are SCHEMA and QUERY, and only the budget and a limit of memory stand beside the file.
-fn plan_from<'a>(line: &Line<'a>, stats: &'a str) -> Option<Command<'a>>
-    ensures { result ≡ plan_from_stats_or_tables (Some stats.now) (words_of line.now.places) (given_of line.now) }
+// A plan from a statistics file, if neither an accuracy nor another source is given.
+fn from_file<'a>(file: &'a str, terms: PlanTerms, line: &Line<'a>) -> Option<Work<'a>>
+    ensures { result ≡ plan_from_file file.now terms (given_of line.now) }
 {
-    let memory = limit_in(line)?;
+    if line.accuracy.is_some() || line.reduce || line.keys || line.count {
+        return None;
+    }
+    Some(Work::PlanFromStats {
+        file: Word::new(file),
+        terms,
+    })
+}
+
+// A plan from a statistics file, if such a file is given, otherwise a plan over tables.
+fn work_in<'a>(out: OutText, terms: PlanTerms, line: &Line<'a>) -> Option<Work<'a>>
+    ensures { result ≡ work_given out terms (given_of line.now) }
+{
+    let Some(stats) = line.stats else {
+        return over_tables(out, terms, line);
+    };
+    if is_file(stats) {
+        return from_file(stats, terms, line);
+    }
+    None
+}
+
+// A plan over SCHEMA and QUERY, if these are the place words, each option has a right value, and the options and flags may stand together.
+#[tactic(auto, unfolding(crate::specs::Table::over_files))]
+fn over_files<'a>(out: OutText, line: &Line<'a>) -> Option<Command<'a>>
+    ensures { result ≡ asked_over_files out (words_of line.now.places) (given_of line.now) }
+{
     let Places::Two(schema, query) = line.places else {
         return None;
     };
-    let budget = value_of(OptionName::Budget, line.budget)?;
-    if line.accuracy.is_some() || line.reduce || line.bushy || line.keys || line.count {
-        return None;
-    }
-    let file = Word::new(stats);
-    Some(over(
-        schema,
-        query,
-        Work::PlanFromStats {
-            file,
-            budget,
-            memory,
-        },
-    ))
-}
-
-// A plan from a statistics file, or from tables.
-fn plan_of<'a>(line: &Line<'a>) -> Option<Command<'a>>
-    ensures { result ≡ of_plan (words_of line.now.places) (given_of line.now) }
-{
-    let Some(stats) = line.stats else {
-        return over_files(OutText::Nothing, line);
-    };
-    if is_file(stats) {
-        return plan_from(line, stats);
-    }
-    None
+    let terms = terms_in(line)?;
+    let work = work_in(out, terms, line)?;
+    Some(over(schema, query, work))
 }
 
 // The statistics of a query, if the place words are SCHEMA and QUERY, at the accuracy of the line.
@@ -199,11 +207,13 @@ fn demo<'a>(number: u32) -> Command<'a>
     ensures { result ≡ demo_of number }
 {
     let plan = PlanWork {
-        budget: USUAL_BUDGET,
+        terms: PlanTerms {
+            budget: USUAL_BUDGET,
+            shape: Shape::Order,
+            memory: None,
+        },
         accuracy: USUAL_ACCURACY,
         source: ListSource::Columns,
-        shape: Shape::Order,
-        memory: None,
         out: OutText::Audit,
     };
     Command {
@@ -229,7 +239,7 @@ pub(crate) fn command_of<'a>(name: CommandName, line: &Line<'a>) -> Option<Comma
 {
     match name {
         CommandName::Run => over_files(OutText::Rows, line),
-        CommandName::Plan => plan_of(line),
+        CommandName::Plan => over_files(OutText::Nothing, line),
         CommandName::Stats => stats_of(line),
         CommandName::Audit => over_files(OutText::Audit, line),
         CommandName::Append => append_of(line),

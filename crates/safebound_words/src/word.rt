@@ -3,7 +3,7 @@ ghost use Rattle.std.specs.Prelude.{◌≡◌};
 
 use std::marker::Model;
 
-/// A word as it was given, which contracts see as its bytes.
+/// A word as it was given. In contracts a word is its bytes.
 #[derive(Debug, Drop)]
 pub struct Word<'a> {
     text: &'a str,
@@ -25,7 +25,7 @@ impl<'a> Word<'a> {
         Word { text }
     }
 
-    /// Its text.
+    /// The text of the word.
     pub fn get(&self) -> &'a str
         ensures { result.now ≡ self.now }
     {

@@ -26,16 +26,15 @@ fn command_in<'a>(words: &[&'a str]) -> Option<Command<'a>>
     }
 }
 
-/// Reads the words of a command line, without the program's own name, in one walk from left to right. It takes
-/// no memory.
+/// Reads the words of a command line, without the program's own name, in one walk from left to right. The call takes no memory.
 ///
-/// It answers `Usage` exactly if the words ask for nothing. For example they name no command, an option is given twice, two flags can't stand
+/// The answer is `Usage` exactly if the words ask for nothing. For example they name no command, an option is given twice, two flags can't stand
 /// together, or a value is outside its range.
 pub fn read_words<'a>(words: &[&'a str]) -> Result<Command<'a>, WordsError>
     ensures command { IfOk result (AskFor (map (λ w. w.now) words.now)) }
     ensures usage { OnErr result ((command : Command) → AskFor (map (λ w. w.now) words.now) command → ⊥) }
 
-    // The same as a function of the words.
+    // The answer is what `asked_by` computes from the words.
     ensures answer { result_ok result ≡ asked_by (map (λ w. w.now) words.now) }
     ensures ranges { IfOk result (λ command. HasRanges command.aim) }
     ensures few { OnOk result (length words.now ≤ MOST_WORDS) }

@@ -1,4 +1,4 @@
--- What the reader of schemas answers for a whole list of tokens.
+-- The lemmas say what the reader of schemas answers for a whole list of tokens.
 use Rattle.std.proofs.Common.{◌≡◌, ℕ, true, false, List, [], Some, None}
 use Rattle.ll_grammars.specs.declared.lexeme.Lexeme.{Lexeme}
 use Rattle.ll_grammars.specs.Rules.{place, is_empty}

@@ -1,4 +1,4 @@
--- The tokens of a schema's syntax tree are those of the text.
+-- If every token of a schema text has a property, every token of its syntax tree has the property.
 use Rattle.std.proofs.Common.{All, Contains, List, [], ◌∷◌}
 use Rattle.std.proofs.lemmas.List.Elements.{All-cons}
 use Rattle.ll_grammars.specs.declared.lexeme.Lexeme.{Lexeme}
@@ -65,7 +65,6 @@ module _ (P : Lexeme → Type 0) where
   table_of =
       keeps_made table (IsTableOf P) (keeps_then (a_word terminal.Create) (keeps_then (a_word terminal.Table) (keeps_then name (keeps_inside (keeps_listed element_of))))) (λ parts q. (q.1.1.0, q.1.1.1))
 
-  -- where every token of the text has P, so has every token of its trees
   pub tables_of : Keeps P SchemaText (AreOf P)
   unfolding SchemaText AreOf
   tables_of =

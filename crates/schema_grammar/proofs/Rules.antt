@@ -1,4 +1,4 @@
--- Each reader reads its rule. The conditions of an LL(1) grammar are the `refl`s.
+-- Each reader reads exactly its rule of the grammar. Each `refl` proves a condition of an LL(1) grammar by computation.
 use Rattle.std.proofs.Common.{◌≡◌, true, [], ◌∷◌, List, refl}
 use Rattle.ll_grammars.specs.declared.lexeme.Lexeme.{Lexeme}
 use Rattle.ll_grammars.specs.declared.terminal.Terminal.{Terminal}
@@ -192,7 +192,7 @@ pub reads_table : Reads TableDefinition table_shape read_table
 unfolding read_table
 reads_table = value table (row (a_word terminal.Create refl) (row (a_word terminal.Table refl) (row reads_name reads_element_list refl) refl) refl)
 
--- a semicolon is read, and the token behind it says whether another table follows
+-- a semicolon is read, and the token after the semicolon says whether another table follows
 pub reads_other_tables : Reads (tails (terminal.Semicolon ∷ []) TableDefinition) (tails_shape (terminal.Semicolon ∷ []) table_shape) read_other_tables
 unfolding read_other_tables
 reads_other_tables = reads_tails (terminal.Semicolon ∷ []) reads_table refl refl

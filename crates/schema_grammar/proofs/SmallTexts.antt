@@ -1,4 +1,4 @@
--- What the readers give for small texts, by computation.
+-- The readers' answers for small texts are computed.
 use Rattle.std.proofs.Common.{◌≡◌, [], ◌∷◌, Some, None, refl}
 use Rattle.ll_grammars.specs.declared.terminal.Terminal.TheVariants as terminal
 use Rattle.ll_grammars.specs.Reading.{read_many, read_tails}

@@ -1,4 +1,4 @@
--- The loop over the tables of a schema.
+-- The loop reads the tables of a schema. After each table it looks for a semicolon and for another table after this semicolon.
 use Rattle.std.proofs.Common.{◌≡◌, ◌<◌, Bool, true, false, List, [], ◌∷◌, ◌++◌, length, Some, None, Err, refl, sym, ap, ◌∙◌, arith}
 use Rattle.std.proofs.lemmas.List.{append-nil}
 use Rattle.ll_grammars.specs.declared.lexeme.Lexeme.{Lexeme}
@@ -20,7 +20,6 @@ unfolding read_other_tables
 after t rest true e h = (tails_more (terminal.Semicolon ∷ []) TableDefinition table_shape read_table reads_table refl t rest e h, omega arith)
 after t rest false e h = tails_last (terminal.Semicolon ∷ []) TableDefinition table_shape read_table reads_table refl t rest e h
 
--- a semicolon was read
 pub follows : (old new : List Lexeme) (b : Bool) → starts (terminal.Semicolon ∷ []) old ≡ true → new ≡ (read_one (terminal.Semicolon ∷ []) old).1 → starts (terminal.Create ∷ []) new ≡ b → Follows b old new
 follows [] new b h e s = absurd cc
 follows (t ∷ rest) new b h e s = let k : new ≡ rest = rw h at e in rw k (after t rest b h (rw (sym k) s))
@@ -29,7 +28,6 @@ none_follows : (text : List Lexeme) → starts (terminal.Semicolon ∷ []) text 
 unfolding read_other_tables
 none_follows text h = tails_none (terminal.Semicolon ∷ []) TableDefinition table_shape read_table reads_table refl text h
 
--- no semicolon was read
 pub follows_not : (old new : List Lexeme) → starts (terminal.Semicolon ∷ []) old ≡ false → new ≡ (read_one (terminal.Semicolon ∷ []) old).1 → Follows false old new
 follows_not [] new h e = rw e (none_follows [] h)
 follows_not (t ∷ rest) new h e = let k : new ≡ t ∷ rest = rw h at e in rw k (none_follows (t ∷ rest) h)

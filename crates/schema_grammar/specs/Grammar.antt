@@ -20,7 +20,7 @@ use Rattle.schema_grammar.specs.declared.tree.TableNode.{TableNode}
 
 -- ---- how the values of parts are put together
 
--- a part that is read, and whose value is dropped
+-- a part that is read, and whose value isn't kept
 abbrev pub nothing : {A : Type 0} → A → Unit {0}
 nothing value = tt
 

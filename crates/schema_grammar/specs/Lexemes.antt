@@ -1,5 +1,5 @@
--- The tokens of a schema's syntax tree: each token has the property P, each name has one of the terminals of names, and each text's length is a
--- number that isn't zero.
+-- The tokens of a schema's syntax tree: each token has the property P, each name has one of the terminals of names, and each length of a text type
+-- is a number that isn't zero.
 use Rattle.std.specs.Prelude.{All, IfSome, ⊤, List, [], ◌∷◌}
 use Rattle.ll_grammars.specs.declared.lexeme.Lexeme.{Lexeme}
 use Rattle.ll_grammars.specs.declared.terminal.Terminal.TheVariants as terminal

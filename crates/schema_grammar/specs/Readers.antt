@@ -117,7 +117,7 @@ read_other_tables = read_tails (terminal.Semicolon ∷ []) (terminal.Create ∷ 
 unfoldable pub read_all_tables : Parser (List TableNode)
 read_all_tables = read_made all (read_then read_table read_other_tables)
 
--- whether another table follows; the semicolon before it, or one at the end, was read
+-- whether another table follows. A semicolon before this table, or at the end of the text, was read
 abbrev pub Follows : Bool → List Lexeme → List Lexeme → Type 0
 Follows true old new = (read_other_tables old ≡ (read_table new >>= read_others read_other_tables)) × (length new < length old)
 Follows false old new = read_other_tables old ≡ (Some [], new)

@@ -105,7 +105,7 @@ fn table(reader: &mut Reader<'_>) -> Result<TableNode, Stop>
     Ok(TableNode { name, elements })
 }
 
-// Whether another table follows. The semicolon before it, or one at the end, is read.
+// Whether another table follows. A semicolon before this table, or at the end of the text, is read.
 #[tactic(auto, using(crate::proofs::TableLoop::follows, crate::proofs::TableLoop::follows_not))]
 fn another(reader: &mut Reader<'_>) -> bool
     ensures { Follows result reader.old reader.new }

@@ -1,4 +1,4 @@
--- Numbers above a limit, list by list.
+-- The code lists the numbers above a limit table by table. The lemmas say that these lists, one after another, are the list for the whole text.
 use Rattle.std.proofs.Common.{◌≡◌, ℕ, suc, ◌<◌, ◌≤◌, Bool, true, false, cond, inl, inr, get_or, take, drop, List, [], ◌∷◌, ◌++◌, length, map, refl, sym, ◌∙◌, ap, arith}
 use Rattle.std.specs.Prelude.{nat_lt}
 use Rattle.std.specs.List.{flat_map}
@@ -20,7 +20,6 @@ pub above-flat_map : {X : Type 0} (most : ℕ) (f : X → List ℕ) (xs : List X
 above-flat_map most f [] = refl
 above-flat_map most f (x ∷ xs) = filter-append (nat_lt most) (f x) (flat_map f xs) ∙ ap (λ rest. above most (f x) ++ rest) (above-flat_map most f xs)
 
--- the numbers of columns above a limit, by the tables' indexes
 pub column_counts_above : (text : List ℕ) (most : ℕ) (tables : List TableNode) → flat_map (λ index. above most (length index.columns ∷ [])) (map (table_index text) tables) ≡ above most (column_counts tables)
 unfolding table_index
 column_counts_above text most [] = refl
@@ -28,7 +27,6 @@ column_counts_above text most (table ∷ tables) =
     let same : length (column_names text table.elements) ≡ length (columns table.elements) = simp length-map in
     rw (same, column_counts_above text most tables) (sym (kept_front (nat_lt most (length (columns table.elements))) (length (columns table.elements)) [] (above most (column_counts tables))))
 
--- the lengths above a limit, table by table and element by element
 pub text_lengths_above : (text : List ℕ) (most : ℕ) (tables : List TableNode) → flat_map (λ table. flat_map (λ element. above most (element_lengths text element)) table.elements) tables ≡ above most (text_lengths text tables)
 unfolding text_lengths
 text_lengths_above text most [] = refl
@@ -51,7 +49,6 @@ pub empty_right : (front rest : List ℕ) → front ++ rest ≡ [] → rest ≡ 
 empty_right [] rest e = e
 empty_right (x ∷ front) rest e = cc
 
--- if all elements together give nothing, each element gives nothing
 pub none_at : {X : Type 0} (f : X → List ℕ) (xs : List X) (i : ℕ) (x : X) → flat_map f xs ≡ [] → i < length xs → x ≡ get_or xs i x → f x ≡ []
 none_at f xs i x none within here =
     let cut : xs ≡ take i xs ++ (x ∷ drop (suc i) xs) = sym (take-append-drop i xs) ∙ ap (λ tail. take i xs ++ tail) (drop-cons xs i x within ∙ ap (λ y. y ∷ drop (suc i) xs) (sym here)) in

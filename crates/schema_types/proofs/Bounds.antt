@@ -1,4 +1,4 @@
--- Numbers of columns lie in their table.
+-- In the schema of a text, each number of a column is below the number of columns of its table.
 use Rattle.std.proofs.Common.{◌≡◌, ℕ, zero, suc, ◌+◌, ◌<◌, ◌≤◌, List, [], ◌∷◌, ◌++◌, length, map, Option, Some, None, All, refl, sym, ◌∙◌, ap, subst, arith}
 use Rattle.std.specs.List.{flat_map, slice_get}
 use Rattle.std.specs.Option.{unwrap_or, option_map, option_and_then}
@@ -32,7 +32,7 @@ names_of_columns text (element.Rule rule ∷ elements) = names_of_columns text e
 pub count_of_columns : (text : List ℕ) (elements : List Element) → length (flat_map (element_column text) elements) ≡ length (column_names text elements)
 count_of_columns text elements = sym (length-map (flat_map (element_column text) elements) (λ column. column.name)) ∙ ap length (names_of_columns text elements)
 
--- ---- numbers
+-- ---- numbers of columns and of tables
 
 number_within : (declared : List (List ℕ)) (name : List ℕ) → 0 < length declared → number_of_name declared name < length declared
 number_within declared name some = at (place_of declared name) (place_of_within declared name)
@@ -69,7 +69,6 @@ element_keys_within text declared (element.Rule (table_rule.Unique columns)) som
     All-cons (Within (length declared)) (numbers_in text declared columns) [] (numbers_within text declared columns some) (All-nil (Within (length declared)))
 element_keys_within text declared (element.Rule (table_rule.ForeignKey columns target)) some = All-nil (Within (length declared))
 
--- a table's keys are over its columns
 pub keys_valid : (text : List ℕ) (tables : List TableNode) (table : TableNode) → 0 < length (column_names text table.elements) → All (AreColumnsOf (table_of text tables table)) (table_of text tables table).keys
 unfolding table_of
 keys_valid text tables table some =
@@ -85,7 +84,6 @@ resolved_within : (text : List ℕ) (declared : List (List ℕ)) (chosen : Optio
 resolved_within text declared None some = All-nil (λ n. n < length declared)
 resolved_within text declared (Some tokens) some = numbers_within text declared tokens some
 
--- a reference to the table at a place leads to its columns
 reference_to : (text : List ℕ) (tables : List TableNode) (table : Table) (from : List ℕ) (written : Option (List Lexeme)) (place : ℕ) (target : TableNode) → AreColumnsOf table from → slice_get tables place ≡ Some target → HasColumns text target → IsReference (map (table_of text tables) tables) table (record { columns = from; table = place; targets = led_numbers text written (Some target) })
 unfolding table_of
 reference_to text tables table from written place target within here some = record {
@@ -95,7 +93,6 @@ reference_to text tables table from written place target within here some = reco
   targets = rw (count_of_columns text target.elements) (resolved_within text (column_names text target.elements) (referenced_columns written target.elements) some);
 }
 
--- no table has the name: none of the first table's columns
 reference_to_none : (text : List ℕ) (tables : List TableNode) (table : Table) (from : List ℕ) (first : TableNode) → AreColumnsOf table from → slice_get tables 0 ≡ Some first → IsReference (map (table_of text tables) tables) table (record { columns = from; table = 0; targets = [] })
 reference_to_none text tables table from first within here = record {
   columns = within;
@@ -149,7 +146,6 @@ listed_references : (text : List ℕ) (tables : List TableNode) (table : TableNo
 unfolding table_of
 listed_references text tables table = refl
 
--- a table's references lead to columns of tables
 pub references_valid : (text : List ℕ) (tables : List TableNode) (table : TableNode) → 0 < length tables → All (HasColumns text) tables → HasColumns text table → All (IsReference (map (table_of text tables) tables) (table_of text tables table)) (table_of text tables table).references
 references_valid text tables table some all filled = of_table (table_of text tables table) (counted text tables table) (listed_references text tables table)
   where

@@ -1,4 +1,4 @@
--- A schema text has a table, each table an element, and each list of columns a column.
+-- A schema text has at least one table, each table has at least one element, and each list of columns has at least one column.
 use Rattle.std.proofs.Common.{All, List, [], ◌∷◌}
 use Rattle.std.specs.Prelude.{⊤}
 use Rattle.std.proofs.lemmas.List.Elements.{All-cons}
@@ -28,7 +28,7 @@ abbrev pub ElementFilled : Element → Type 0
 ElementFilled (element.Column _) = ⊤
 ElementFilled (element.Rule rule) = RuleFilled rule
 
--- the first of a table's elements
+-- if the first element is a rule, its list of columns isn't empty
 abbrev pub FirstFilled : List Element → Type 0
 FirstFilled [] = ⊥
 FirstFilled (x ∷ xs) = ElementFilled x

@@ -1,4 +1,4 @@
--- Checks that walk a list.
+-- Checks walk a list. f gives the places or numbers that offend in each element, and the check's answer is the first of them.
 use Rattle.std.proofs.Common.{◌≡◌, ℕ, suc, ◌+◌, ◌<◌, List, [], ◌∷◌, ◌++◌, length, get_or, take, drop, Option, Some, None, Err, refl, sym, ◌∙◌, ap}
 use Rattle.std.specs.List.{flat_map}
 use Rattle.std.specs.Option.{option_map, unwrap_or}
@@ -21,7 +21,6 @@ first-map-append : (g : ℕ → ℕ) (front rest : List ℕ) (at : ℕ) → opti
 first-map-append g [] rest at e = cc
 first-map-append g (x ∷ front) rest at e = e
 
--- nothing was found so far, and nothing here
 pub flat_more : {X : Type 0} (f : X → List ℕ) (xs : List X) (i : ℕ) (x : X) → i < length xs → x ≡ get_or xs i x → flat_map f (take i xs) ≡ [] → f x ≡ [] → flat_map f (take (i + 1) xs) ≡ []
 flat_more f xs i x within here clean none =
     let longer : take (i + 1) xs ≡ take i xs ++ x ∷ [] = take_more xs i x within ∙ ap (λ y. take i xs ++ y ∷ []) (sym here) in
@@ -32,7 +31,6 @@ flat_at f xs i x within here clean =
     let cut : xs ≡ take i xs ++ (x ∷ drop (suc i) xs) = sym (take-append-drop i xs) ∙ ap (λ tail. take i xs ++ tail) (drop-cons xs i x within ∙ ap (λ y. y ∷ drop (suc i) xs) (sym here)) in
     ap (flat_map f) cut ∙ flat_map-append f (take i xs) (x ∷ drop (suc i) xs) ∙ ap (λ front. front ++ (f x ++ flat_map f (drop (suc i) xs))) clean
 
--- nothing was found so far, and something here
 pub nullable_first : {X : Type 0} (f : X → List ℕ) (xs : List X) (i : ℕ) (x : X) (e : SchemaError) → i < length xs → x ≡ get_or xs i x → flat_map f (take i xs) ≡ [] → FindsNullable {A = Unit {0}} (Err e) (f x) → FindsNullable {A = Unit {0}} (Err e) (flat_map f xs)
 nullable_first f xs i x (error.Nullable at) within here clean found = rw (flat_at f xs i x within here clean) (first-append (f x) (flat_map f (drop (suc i) xs)) at found)
 nullable_first f xs i x error.NoMemory within here clean found = tt
@@ -48,7 +46,6 @@ above_first limit f xs i x (error.Syntax at) within here clean found = found
 above_first limit f xs i x (error.Name at) within here clean found = found
 above_first limit f xs i x (error.Nullable at) within here clean found = found
 
--- the names in a primary key, where there is one
 pub key_is : (text : List ℕ) (key : Option (List Lexeme)) → unwrap_or (option_map (names_of text) key) [] ≡ key_names text key
 key_is text None = refl
 key_is text (Some key) = refl

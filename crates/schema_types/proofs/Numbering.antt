@@ -1,4 +1,4 @@
--- Columns by their numbers.
+-- A text names the columns of a key. The lemmas say that the code finds the numbers of these columns.
 use Rattle.std.proofs.Common.{◌≡◌, ℕ, List, [], ◌∷◌, Option, Some, None, map, refl, ap}
 use Rattle.std.specs.Option.{option_map, unwrap_or}
 use Rattle.ll_grammars.specs.declared.lexeme.Lexeme.{Lexeme}
@@ -10,7 +10,6 @@ unfolding numbers_in
 numbers_are text declared [] = refl
 numbers_are text declared (column ∷ columns) = ap (λ rest. number_in text declared column ∷ rest) (numbers_are text declared columns)
 
--- the numbers of a key by its names
 pub key_numbers_none : (text : List ℕ) (declared : List (List ℕ)) (written : Option (List Lexeme)) → None ≡ option_map (names_of text) written → [] ≡ unwrap_or (option_map (numbers_in text declared) written) []
 key_numbers_none text declared None e = refl
 key_numbers_none text declared (Some columns) e = cc

@@ -1,4 +1,4 @@
--- A list of tokens goes wrong at one place at most, and at no place if it spells a value.
+-- A list of tokens goes wrong at one place at most. If it spells a value, it goes wrong at no place.
 use Rattle.std.proofs.Common.{◌≡◌, ℕ, List, [], ◌∷◌, ◌++◌, sym, ◌∙◌, ap, subst, append_assoc}
 use Rattle.std.proofs.lemmas.List.{append-nil}
 use Rattle.ll_grammars.specs.declared.lexeme.Lexeme.{Lexeme}
@@ -10,7 +10,7 @@ module _ {A : Type 0} (L : Language A) where
   shorter : (front more : List Lexeme) → IsViablePrefix L (front ++ more) → IsViablePrefix L front
   shorter front more viable = record { more = more ++ viable.more; value = viable.value; spelled = subst (λ text. L text viable.value) (append_assoc front more viable.more) viable.spelled }
 
-  -- tokens don't go wrong where a longer front is viable
+  -- the tokens don't go wrong after `front` if `front` with one more token still begins a text of the language
   goes_on : (front rest more : List Lexeme) (token : Lexeme) → rest ≡ token ∷ more → Fails L front rest → IsViablePrefix L (front ++ token ∷ []) → ⊥
   goes_on front rest more token e fails viable = let f : Fails L front (token ∷ more) = subst (λ r. Fails L front r) e fails in f viable
 

@@ -1,4 +1,4 @@
--- The place of a name in a list of names, also when a name is added at its end.
+-- A name has a place in a list of names. The lemmas say which place it has, also after a name was added at the list's end.
 use Rattle.std.proofs.Common.{◌≡◌, ℕ, ◌+◌, ◌<◌, Bool, true, false, cond, ◌||◌, List, [], ◌∷◌, ◌++◌, length, Option, Some, None, is_some, is_none, refl, sym, ◌∙◌, ap, subst, inl, inr, arith}
 use Rattle.std.proofs.lemmas.Bool.{cases_Bool}
 use Rattle.std.specs.Option.{option_map}
@@ -16,7 +16,6 @@ or_last_cond : (b : Bool) (o : Option ℕ) (count : ℕ) (same : Bool) → cond 
 or_last_cond true o count same = refl
 or_last_cond false o count same = or_last_shift o count same
 
--- with one more name at the end, a name has the place that it had, or else the last one if it is the new name
 pub place_of-append : (names : List (List ℕ)) (last name : List ℕ) → place_of (names ++ last ∷ []) name ≡ or_last (place_of names name) (length names) (bytes_eq name last)
 unfolding place_of
 place_of-append [] last name = refl
@@ -25,7 +24,6 @@ place_of-append (other ∷ names) last name =
     rw count (ap (λ o. cond (bytes_eq name other) (Some 0) (option_map (λ place. place + 1) o)) (place_of-append names last name)
     ∙ or_last_cond (bytes_eq name other) (place_of names name) (length names) (bytes_eq name last))
 
--- two tests are equal if each holds where the other does
 same_tests : (a b : Bool) → (a ≡ true → b ≡ true) → (b ≡ true → a ≡ true) → a ≡ b
 same_tests true true f g = refl
 same_tests true false f g = sym (f refl)
@@ -45,7 +43,6 @@ is_last : (o : Option ℕ) (last : ℕ) → is_none o ≡ true → Some last ≡
 is_last (Some place) last none = cc
 is_last None last none = refl
 
--- a name without a place by `f` gets the last one: the place of any name after that is `or_last` of its place before
 pub place_added : (f : List ℕ → Option ℕ) (name other : List ℕ) (last : ℕ) → is_none (f name) ≡ true → cond (bytes_eq name other) (Some last) (f other) ≡ or_last (f other) last (bytes_eq other name)
 place_added f name other last none = elim (cases_Bool (bytes_eq name other)) [
   | inl e ↦
@@ -56,11 +53,9 @@ place_added f name other last none = elim (cases_Bool (bytes_eq name other)) [
       rw (e, other_one) (not_last (f other) last)
 ]
 
--- the same as `place_of-append`, where equations say what the lists and places are
 pub place_pushed : (old new : List (List ℕ)) (last name : List ℕ) (count : ℕ) (before after : Option ℕ) → new ≡ old ++ last ∷ [] → count ≡ length old → before ≡ place_of old name → after ≡ or_last before count (bytes_eq name last) → after ≡ place_of new name
 place_pushed old new last name count before after grown counted stood stands = cc (place_of-append old last name)
 
--- a name has a place exactly if it stands in the list
 pub stands_in_is : (names : List (List ℕ)) (name : List ℕ) → is_some (place_of names name) ≡ stands_in name names
 unfolding place_of
 stands_in_is [] name = refl
@@ -71,7 +66,6 @@ stands_in_is (other ∷ names) name = by_test (bytes_eq name other) (place_of na
     by_test false (Some place) stands e = e
     by_test false None stands e = e
 
--- the place of a name is less than the list's length
 pub place_of_within : (names : List (List ℕ)) (name : List ℕ) (place : ℕ) → place_of names name ≡ Some place → place < length names
 unfolding place_of
 place_of_within [] name place e = cc

@@ -1,4 +1,4 @@
--- One stage of the answer after the other.
+-- The answer to a schema text is found in stages: the names, the nullable columns, the limits.
 use Rattle.std.proofs.Common.{◌≡◌, ℕ, List, Option, Some, None, Result, Ok, Err, refl, sym, ◌∙◌, ap, All}
 use Rattle.std.specs.Option.{option_map}
 use Rattle.ll_grammars.specs.declared.lexeme.Lexeme.{Lexeme}
@@ -43,7 +43,6 @@ stage_above limit numbers rest (error.Syntax at) found = found
 stage_above limit numbers rest (error.Name at) found = absurd found
 stage_above limit numbers rest (error.Nullable at) found = absurd found
 
--- the answer to the tables that a text spells is the answer to the text
 pub answered : (text : List ℕ) (tables : List TableNode) (answer : Result Schema SchemaError) → Spells text tables → Answers answer (schema_or_refusal text tables) → IsSchemaOf text answer
 answered text tables (Ok schema) spells due = record { tables = tables; spells = spells; answers = due }
 answered text tables (Err (error.Name at)) spells due = record { tables = tables; spells = spells; answers = due }
@@ -55,7 +54,6 @@ answered text tables (Err (error.Syntax at)) spells due = absurd due
 pub spells_from : (text : List ℕ) (lexemes : List Lexeme) (tables : List TableNode) → AreLexemes text lexemes → SchemaText lexemes tables → Spells text tables
 spells_from text lexemes tables are spelled = record { tokens = are.tokens; lexed = are.lexed; spelled = rw are.are at spelled }
 
--- the tokens of the trees lie in the text
 pub lie_in : (text : List ℕ) (lexemes : List Lexeme) (tables : List TableNode) → SchemaText lexemes tables → All (IsLexemeOf text) lexemes → All (IsTableOf (IsLexemeOf text)) tables
 unfolding AreOf
 lie_in text lexemes tables spelled within = are_of (IsLexemeOf text) lexemes tables spelled within

@@ -1,4 +1,4 @@
--- The table to which a reference leads.
+-- A reference leads to the table that it names.
 use Rattle.std.proofs.Common.{◌≡◌, ℕ, ◌<◌, length, List, Option, Some, None, map, refl, sym}
 use Rattle.std.specs.List.{slice_get}
 use Rattle.std.specs.Option.{option_map, option_and_then}
@@ -9,12 +9,10 @@ use Rattle.schema_types.specs.Declarations.{table_names}
 use Rattle.schema_types.specs.Names.{place_of}
 use Rattle.schema_types.proofs.Places.{place_of_within}
 
--- without a place there is no table
 pub no_target : {A B : Type 0} (f : A → B) (xs : List A) (o : Option ℕ) → o ≡ None → None ≡ option_map f (option_and_then (slice_get xs) o)
 no_target f xs None e = refl
 no_target f xs (Some place) e = cc
 
--- the table at the place
 pub target_found : {A B : Type 0} (f : A → B) (xs : List A) (ys : List B) (o : Option ℕ) (place : ℕ) (y : B) → ys ≡ map f xs → o ≡ Some place → slice_get ys place ≡ Some y → Some y ≡ option_map f (option_and_then (slice_get xs) o)
 target_found f xs ys None place y same e here = cc
 target_found f xs ys (Some p) place y same e here =
@@ -29,7 +27,6 @@ pub some_map : {A B : Type 0} (f : A → B) (o : Option A) (y : B) → option_ma
 some_map f None y e = cc
 some_map f (Some x) y e = (x, refl, cc)
 
--- a named table has an index
 pub indexed_within : {B : Type 0} (f : TableNode → B) (text : List ℕ) (tables : List TableNode) (indexes : List B) (name : List ℕ) (place : ℕ) → indexes ≡ map f tables → place_of (table_names text tables) name ≡ Some place → place < length indexes
 indexed_within f text tables indexes name place indexed here =
     let within : place < length (table_names text tables) = place_of_within (table_names text tables) name place here in

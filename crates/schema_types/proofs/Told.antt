@@ -1,4 +1,4 @@
--- Checks that walk a list and know the elements before.
+-- Checks walk a list. f gives the offences of an element and may look at the elements before it. The check's answer is the first offence.
 use Rattle.std.proofs.Common.{◌≡◌, ℕ, suc, ◌+◌, ◌<◌, List, [], ◌∷◌, ◌++◌, length, get_or, take, drop, Err, refl, sym, ◌∙◌, ap, append_assoc}
 use Rattle.std.proofs.Math.Seq.{drop-cons}
 use Rattle.std.proofs.lemmas.List.{take-append-drop, append-nil, take_more}
@@ -30,7 +30,6 @@ told_at f xs i x within here clean =
     ap (each_told f) cut ∙ told_from-append f [] (take i xs) (x ∷ drop (suc i) xs) ∙ ap (λ found. each_told f (take i xs) ++ found) (told_one f (take i xs) x (drop (suc i) xs)) in
     (told_from f (take i xs ++ x ∷ []) (drop (suc i) xs), rw clean at parts)
 
--- no offence so far, and none here
 pub told_more : {X : Type 0} (f : List X → X → List ℕ) (xs : List X) (i : ℕ) (x : X) → i < length xs → x ≡ get_or xs i x → each_told f (take i xs) ≡ [] → f (take i xs) x ≡ [] → each_told f (take (i + 1) xs) ≡ []
 unfolding told_from
 told_more f xs i x within here clean none =
@@ -39,7 +38,6 @@ told_more f xs i x within here clean none =
     ap (each_told f) longer ∙ told_from-append f [] (take i xs) (x ∷ []) ∙ ap (λ found. each_told f (take i xs) ++ found) (told_one f (take i xs) x []) in
     rw (clean, none) at parts
 
--- no offence so far, and one here
 pub told_first : {X : Type 0} (f : List X → X → List ℕ) (xs : List X) (i : ℕ) (x : X) (e : SchemaError) → i < length xs → x ≡ get_or xs i x → each_told f (take i xs) ≡ [] → Finds {A = Unit {0}} (Err e) (f (take i xs) x) → Finds {A = Unit {0}} (Err e) (each_told f xs)
 told_first f xs i x (error.Name at) within here clean found = let t = told_at f xs i x within here clean in rw t.1 (first-append (f (take i xs) x) t.0 at found)
 told_first f xs i x error.NoMemory within here clean found = tt

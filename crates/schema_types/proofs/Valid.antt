@@ -30,7 +30,7 @@ use Rattle.schema_types.proofs.Above.{empty_left, empty_right, not_above}
 use Rattle.schema_types.proofs.Bounds.{names_of_columns, count_of_columns, keys_valid, references_valid, HasColumns}
 use Rattle.schema_types.proofs.Filled.{IsFilled, RuleFilled, ElementFilled, FirstFilled, TableFilled, AreFilled, filled}
 
--- ---- nothing is told of a list
+-- ---- a list in which no element offends
 
 when_none : (b : Bool) (n : ℕ) → when b n ≡ [] → b ≡ false
 when_none true n e = cc
@@ -68,7 +68,6 @@ differ_none = λ i j d below within. absurd (omega arith)
 columns_push : (text : List ℕ) (earlier : List Element) (x : Element) → column_names text (earlier ++ x ∷ []) ≡ column_names text earlier ++ column_names text (x ∷ [])
 columns_push text earlier x = simp (flat_map-append, map-append)
 
--- an element leaves the names of columns different
 differ_after : (text : List ℕ) (tables : List TableNode) (declared : List (List ℕ)) (earlier : List Element) (x : Element) → Differ (column_names text earlier) → element_offences text tables declared earlier x ≡ [] → Differ (column_names text earlier ++ column_names text (x ∷ []))
 unfolding element_offences column_offences
 differ_after text tables declared earlier (element.Column column) differ none =

@@ -1,4 +1,4 @@
--- What the stages within the whole call answer.
+-- What the stages of `read_schema` answer.
 use Rattle.std.specs.Prelude.{◌≡◌, ℕ, List, map, Result, Ok, Err, ⊤}
 use Rattle.ll_grammars.specs.declared.lexeme.Lexeme.{Lexeme}
 use Rattle.sql_tokens.specs.declared.token.Token.{Token}
@@ -17,7 +17,7 @@ Answers (Err (error.Limit which found)) due = due ≡ Err (error.Limit which fou
 Answers (Err error.NoMemory) due = ⊤
 Answers (Err (error.Syntax at)) due = ⊥
 
--- these are the text's tokens, as grammars see them
+-- the list has the text's tokens, as `Lexeme`s, which grammars take
 pub record AreLexemes (text : List ℕ) (lexemes : List Lexeme) : Type 0 where
   pub tokens : List Token
   pub lexed : IsLexed text tokens

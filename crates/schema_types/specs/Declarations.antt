@@ -62,14 +62,14 @@ primary_key elements = first (flat_map element_primary_key elements)
 
 -- ---- references
 
--- the number of the table that a reference names: the first of that name
+-- the number of the table that a reference names: the first table of this name
 abbrev pub target_place : List ℕ → List TableNode → TargetNode → Option ℕ
 target_place text tables target = place_of (table_names text tables) (name_of text target.table)
 
 abbrev pub target_table : List ℕ → List TableNode → TargetNode → Option TableNode
 target_table text tables target = option_and_then (slice_get tables) (target_place text tables target)
 
--- the columns to which a reference leads: those that are written, else the target's primary key
+-- the columns to which a reference leads: the columns that are written, or the target's primary key if no columns are written
 abbrev pub referenced_columns : Option (List Lexeme) → List Element → Option (List Lexeme)
 referenced_columns (Some columns) elements = Some columns
 referenced_columns None elements = primary_key elements

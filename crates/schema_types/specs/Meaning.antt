@@ -54,13 +54,13 @@ element_keys text declared (element.Rule rule) = table_rule_keys text declared r
 
 -- ---- references
 
--- the numbers of the columns of a table to which a reference leads. If their list is left out, they are the primary key
+-- the numbers of the columns of a table to which a reference leads. If the reference lists no columns, they are the table's primary key
 abbrev pub led_numbers : List ℕ → Option (List Lexeme) → Option TableNode → List ℕ
 led_numbers text written None = []
 led_numbers text written (Some table) =
     unwrap_or (option_map (numbers_in text (column_names text table.elements)) (referenced_columns written table.elements)) []
 
--- the reference from these columns to a target. The rows of files aren't tested against it
+-- the reference from these columns to a target. The rows of files aren't tested against the reference
 unfoldable pub reference_of : List ℕ → List TableNode → List ℕ → TargetNode → Reference
 reference_of text tables from target = record {
   columns = from;

@@ -4,21 +4,21 @@ use Rattle.std.specs.Str.{bytes_eq}
 use Rattle.ll_grammars.specs.declared.lexeme.Lexeme.{Lexeme}
 use Rattle.sql_tokens.specs.Words.{name_of}
 
--- the first of a list
+-- the first element of a list, if there is one
 abbrev pub first : {A : Type 0} → List A → Option A
 first [] = None
 first (x ∷ rest) = Some x
 
--- a list of one thing if the condition holds, and otherwise the empty list
+-- a list of one element if the condition is true, and otherwise the empty list
 abbrev pub when : {A : Type 0} → Bool → A → List A
 when condition x = if condition then x ∷ [] else []
 
--- the number of the first of these names that is equal to a name, counted from 0
+-- the place of the first name in the list that is equal to `name`, counted from 0
 unfoldable pub place_of : List (List ℕ) → List ℕ → Option ℕ
 place_of [] name = None
 place_of (other ∷ rest) name = if bytes_eq name other then Some 0 else option_map (λ place. place + 1) (place_of rest name)
 
--- a place that was found, or otherwise the place of the last name, if that is the same name
+-- the place that was found. If no place was found, it is the place `last`, if `same` says that the last name is the name
 abbrev pub or_last : Option ℕ → ℕ → Bool → Option ℕ
 or_last (Some place) last same = Some place
 or_last None last same = if same then Some last else None

@@ -18,11 +18,11 @@ use Rattle.schema_types.specs.Names.{when, place_of, names_of, each_told}
 use Rattle.schema_types.specs.Declarations.{column_names, table_names, is_primary_rule, primary_key, target_table}
 use Rattle.schema_types.specs.Validity.{upper_case, is_plain}
 
--- a name is equal to one of these
+-- whether a name is equal to one of `names`
 abbrev pub stands_in : List ℕ → List (List ℕ) → Bool
 stands_in name names = list_any (bytes_eq name) names
 
--- a name is equal to one of these, both in ASCII upper case
+-- whether a name is equal to one of `names`, both in ASCII upper case
 abbrev pub is_taken : List ℕ → List (List ℕ) → Bool
 is_taken name names = stands_in (upper_case name) (map upper_case names)
 
@@ -38,14 +38,14 @@ list_offences text declared columns = each_told (listed_offences text declared) 
 
 -- ---- references
 
--- the offences of the columns to which a reference of `count` columns leads, in the table of these elements. If they aren't as many, the target's
--- name offends
+-- the offences of the columns to which a reference of `count` columns leads, in the table of these elements. If there aren't `count` of them, the
+-- target's name offends
 abbrev pub led_offences : List ℕ → ℕ → Lexeme → Option (List Lexeme) → List Element → List ℕ
 led_offences text count name (Some columns) elements =
     when (not (length columns == count)) name.start ++ list_offences text (column_names text elements) columns
 led_offences text count name None elements = key_offences (primary_key elements)
   where
-    -- the list is left out: there must be a primary key of as many columns
+    -- the reference lists no columns: there must be a primary key of `count` columns
     key_offences : Option (List Lexeme) → List ℕ
     key_offences None = name.start ∷ []
     key_offences (Some key) = when (not (length key == count)) name.start

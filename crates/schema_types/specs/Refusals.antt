@@ -23,7 +23,7 @@ is_not_null (column_rule.PrimaryKey _) = false
 is_not_null column_rule.Unique = false
 is_not_null (column_rule.References _) = false
 
--- the names in a table's primary key, where it has one
+-- the names in a table's primary key, if the table has one
 abbrev pub key_names : List ℕ → Option (List Lexeme) → List (List ℕ)
 key_names text None = []
 key_names text (Some key) = names_of text key
@@ -50,7 +50,7 @@ nullable_places text tables = flat_map (nullable_in text) tables
 abbrev pub above : ℕ → List ℕ → List ℕ
 above most numbers = filter (nat_lt most) numbers
 
--- the number, or 2^64 - 1 where it is larger
+-- the number, or 2^64 - 1 if the number is larger
 abbrev pub in_64_bits : ℕ → ℕ
 in_64_bits n = min n (2 ^ 64 - 1)
 
@@ -67,6 +67,6 @@ abbrev pub element_lengths : List ℕ → Element → List ℕ
 element_lengths text (element.Column column) = type_lengths text column.kind
 element_lengths text (element.Rule _) = []
 
--- the lengths of all texts, in text order
+-- the lengths of all text types, in text order
 unfoldable pub text_lengths : List ℕ → List TableNode → List ℕ
 text_lengths text tables = flat_map (λ table. flat_map (element_lengths text) table.elements) tables

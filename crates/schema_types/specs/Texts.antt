@@ -17,7 +17,7 @@ pub record Spells (text : List ℕ) (tables : List TableNode) : Type 0 where
   pub lexed : IsLexed text tokens
   pub spelled : SchemaText (map (lexeme_of text) tokens) tables
 
--- the text has tokens, and they go wrong at this place
+-- the text has tokens, and these go wrong at this place
 pub record IsUngrammatical (text : List ℕ) (at : ℕ) : Type 0 where
   pub tokens : List Token
   pub lexed : IsLexed text tokens
@@ -29,8 +29,7 @@ pub record Declares (text : List ℕ) (answer : Result Schema SchemaError) : Typ
   pub spells : Spells text tables
   pub answers : schema_or_refusal text tables ≡ answer
 
--- an answer to a schema text: its schema, or the first refusal in the order Syntax, Name, Nullable, Limit, or that memory ran
--- out
+-- an answer to a schema text: its schema, or the first refusal in the order Syntax, Name, Nullable, Limit, or that memory ran out
 abbrev pub IsSchemaOf : List ℕ → Result Schema SchemaError → Type 0
 IsSchemaOf text (Ok schema) = Declares text (Ok schema)
 IsSchemaOf text (Err (error.Syntax at)) = IsBad text at ⊎ IsUngrammatical text at

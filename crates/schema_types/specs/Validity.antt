@@ -1,4 +1,4 @@
--- What holds of every schema that was read.
+-- What is true of every schema that was read.
 use Rattle.std.specs.Prelude.{◌≡◌, ◌≢◌, ℕ, Bool, ◌<◌, ◌≤◌, ◌||◌, ◌==◌, List, length, map, All, AllPairs, Some, slice_get, IsTrue}
 use Rattle.std.specs.Char.{is_ascii_alphanumeric, to_ascii_uppercase}
 use Rattle.std.specs.List.{list_all}
@@ -14,7 +14,7 @@ upper_case name = map to_ascii_uppercase name
 abbrev pub Differ : List (List ℕ) → Type 0
 Differ names = AllPairs (λ a b. upper_case a ≢ upper_case b) names
 
--- ASCII letters, digits and underscores
+-- a name has only ASCII letters, digits and underscores
 abbrev pub is_plain : List ℕ → Bool
 is_plain name = list_all (λ c. is_ascii_alphanumeric c || c == 95) name
 
@@ -22,7 +22,7 @@ is_plain name = list_all (λ c. is_ascii_alphanumeric c || c == 95) name
 abbrev pub AreColumnsOf : Table → List ℕ → Type 0
 AreColumnsOf table columns = All (λ column. column < length table.columns) columns
 
--- a reference leads from columns of its table to columns of a table of the schema. No row is tested against it
+-- a reference leads from columns of its table to columns of a table of the schema. No row is tested against the reference
 pub record IsReference (tables : List Table) (table : Table) (reference : Reference) : Type 0 where
   pub columns : AreColumnsOf table reference.columns
   pub target : Table
@@ -37,7 +37,7 @@ pub record IsValidTable (table : Table) : Type 0 where
   pub names : Differ (map (λ column. column.name) table.columns)
   pub keys : All (AreColumnsOf table) table.keys
 
--- from 1 to 64 valid tables with different names, and references among them
+-- a schema has from 1 to 64 valid tables with different names, and references between these tables
 pub record IsValid (schema : Schema) : Type 0 where
   pub some : 0 < length schema.tables
   pub few : length schema.tables ≤ 64

@@ -12,7 +12,7 @@ use schema_grammar::TableNode;
 use std::alloc::Global;
 
 impl Scope<'_> {
-    // The schema, or the refusal by the first limit that is passed.
+    // The schema, or a refusal that names the first limit that is passed.
     #[tactic(auto, unfolding(crate::specs::Meaning::within_limits))]
     fn limited(&self) -> Result<Schema, SchemaError>
         requires { All (IsTableOf (IsLexemeOf self.now.text.now)) self.now.tables.now }
@@ -26,7 +26,7 @@ impl Scope<'_> {
         Ok(schema)
     }
 
-    // The schema, or the first refusal by names, nullability or limits.
+    // The schema, or the first refusal: for a name, for a column that may be null, or for a limit.
     #[tactic(auto, unfolding(crate::specs::Meaning::schema_or_refusal))]
     fn answer(&self) -> Result<Schema, SchemaError>
         requires { All (IsTableOf (IsLexemeOf self.now.text.now)) self.now.tables.now }

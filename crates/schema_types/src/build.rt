@@ -1,4 +1,4 @@
-//! The schema that tables declare, once nothing offends.
+//! The schema that tables declare, when no rule is broken.
 ghost use Rattle.std.specs.Prelude.{◌≡◌, ℕ, ◌++◌, [], List, All, IfOk, OnOk, Some, map};
 ghost use Rattle.std.specs.List.{flat_map};
 ghost use Rattle.ll_grammars.specs.declared.lexeme.Lexeme.{Lexeme};
@@ -26,7 +26,7 @@ pub struct Links {
 }
 
 impl Scope<'_> {
-    // The number of a column in a table with these columns. It is 0 if there is no such column.
+    // The number of a column in a table with these columns. The number is 0 if the table has no such column.
     fn number(&self, declared: &NameList, column: &Lexeme) -> Result<u32, NoMemory>
         requires { IsNameOf (IsLexemeOf self.now.text.now) column.now }
         ensures { IfOk result (λ found. found ≡ number_in self.now.text.now declared.now column.now) }
@@ -48,7 +48,7 @@ impl Scope<'_> {
         Ok(found)
     }
 
-    // The numbers of the columns of this table to which a reference leads.
+    // The numbers of the columns to which a reference leads. `table` is the reference's target.
     #[tactic(auto, unfolding(crate::specs::Index::table_index))]
     fn led(&self, target: &TargetNode, table: &TableIndex) -> Result<Seq<u32>, NoMemory>
         requires { IsTargetOf (IsLexemeOf self.now.text.now) target.now }
@@ -87,7 +87,7 @@ impl Scope<'_> {
         }
     }
 
-    // Adds what a rule of the column with this number declares.
+    // Adds the keys and references that a rule of the column with this number declares.
     fn add_rule(&self, number: u32, rule: &ColumnRule, links: &mut Links) -> Result<(), NoMemory>
         requires { IsColumnRuleOf (IsLexemeOf self.now.text.now) rule.now }
         ensures keys { OnOk result (links.new.keys ≡ links.old.keys ++ rule_keys number rule.now) }
@@ -112,7 +112,7 @@ impl Scope<'_> {
         }
     }
 
-    // Adds what a column declares.
+    // Adds the keys and references that a column declares.
     fn add_column(
         &self,
         declared: &NameList,
@@ -131,7 +131,7 @@ impl Scope<'_> {
         Ok(())
     }
 
-    // Adds what a rule of a table with these columns declares.
+    // Adds the keys and references that a rule of a table with these columns declares.
     fn add_table_rule(
         &self,
         declared: &NameList,

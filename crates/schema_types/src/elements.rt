@@ -20,7 +20,7 @@ use ll_grammars::Lexeme;
 use schema_grammar::{ColumnNode, ColumnRule, Element, TableRule};
 use sql_tokens::name;
 
-// Whether a primary key stands in a rule or before it.
+// Whether a rule, or one before it (`keyed`), is a primary key.
 fn is_keyed_after_rule(keyed: bool, rule: &ColumnRule) -> bool
     ensures { result ≡ (keyed || is_primary_rule rule.now) }
 {
@@ -41,7 +41,7 @@ fn is_primary_element(element: &Element) -> bool
     }
 }
 
-// Whether a primary key stands in an element or before it.
+// Whether an element, or one before it (`keyed`), declares a primary key.
 fn is_keyed_after(keyed: bool, element: &Element) -> bool
     ensures { result ≡ (keyed || is_primary element.now) }
 {
@@ -49,7 +49,7 @@ fn is_keyed_after(keyed: bool, element: &Element) -> bool
 }
 
 impl Scope<'_> {
-    // Checks a column's rule. `keyed` says whether a primary key stands before it.
+    // Checks a column's rule. `keyed` says whether a primary key stands before this rule.
     #[tactic(auto, unfolding(crate::specs::Offences::rule_offences))]
     fn check_rule(&self, keyed: bool, rule: &ColumnRule) -> Result<(), SchemaError>
         requires { IsColumnRuleOf (IsLexemeOf self.now.text.now) rule.now }
@@ -83,7 +83,7 @@ impl Scope<'_> {
         Ok(())
     }
 
-    /// Adds a name to the taken ones. It has to differ from them in ASCII upper case.
+    /// Adds a name to the names that are taken. In ASCII upper case it has to differ from all of these.
     #[tactic(auto, using(crate::proofs::Places::stands_in_is))]
     pub fn take_name(&self, taken: &mut NameList, token: &Lexeme) -> Result<(), SchemaError>
         requires { IsNameOf (IsLexemeOf self.now.text.now) token.now }
@@ -100,7 +100,7 @@ impl Scope<'_> {
         Ok(())
     }
 
-    // Checks a column. `keyed` says whether a primary key stands before it.
+    // Checks a column. `keyed` says whether a primary key stands before this column.
     #[tactic(auto, unfolding(crate::specs::Offences::column_offences))]
     fn check_column(
         &self,
@@ -118,7 +118,7 @@ impl Scope<'_> {
         self.check_rules(keyed, column.rules.as_slice())
     }
 
-    // Checks a rule of a table with these columns. `keyed` says whether a primary key stands before it.
+    // Checks a rule of a table with these columns. `keyed` says whether a primary key stands before this rule.
     #[tactic(auto, unfolding(crate::specs::Offences::table_rule_offences))]
     fn check_table_rule(
         &self,

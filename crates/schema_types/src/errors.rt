@@ -23,13 +23,13 @@ pub enum LimitKind {
 /// Why no schema was read. Places are offsets in the text, in bytes from 0.
 #[derive(Clone, Copy, Debug, PartialEq, Eq)]
 pub enum SchemaError {
-    /// The text isn't one of the grammar's: it goes wrong at this place.
+    /// The text doesn't follow the grammar: it goes wrong at this place.
     Syntax { at: u32 },
-    /// A rule on names is broken here.
+    /// A rule on names is broken at this place.
     Name { at: u32 },
-    /// The column named here may be null.
+    /// The column whose name stands at this place may be null.
     Nullable { at: u32 },
-    /// This limit is passed: `found` is how many there are, or 2^64 - 1 if there are more.
+    /// The limit `which` is passed. `found` is the number that passes it, or 2^64 - 1 if this number is larger.
     Limit { which: LimitKind, found: u64 },
     NoMemory,
 }

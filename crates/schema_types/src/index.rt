@@ -96,7 +96,7 @@ fn element_key(alloc: Global, text: &[u8], element: &Element) -> Result<Option<N
     }
 }
 
-// The names in the first primary key.
+// The names in the first primary key of a table.
 #[tactic(auto, using(crate::proofs::Keys::no_key, crate::proofs::Keys::key_found), unfolding(crate::specs::Declarations::primary_key))]
 fn primary_key(
     alloc: Global,

@@ -1,9 +1,9 @@
 //! Schema texts: from the bytes of a schema file to its tables.
 //!
 //! This is the first stage after the files are read. It finds the tokens of a text (`sql_tokens`) and the tables that they spell (`schema_grammar`),
-//! and then checks names, nullability and limits. Callers cite `IsSchemaOf` (in `specs/Texts.antt`), which says what each text is answered, and
-//! `IsValid` (in `specs/Validity.antt`), which says what holds of every schema that was read. `NameList` is a list of names that finds the place of a
-//! name. Later stages use it too.
+//! and then checks names, nullability and limits. Callers cite `IsSchemaOf` (in `specs/Texts.antt`), which says which answers each text has, and
+//! `IsValid` (in `specs/Validity.antt`), which says what is true of every schema that was read. `NameList` is a list of names that finds the place of a
+//! name. Later stages use `NameList` too.
 #![tactic(auto)]
 
 mod answer;

@@ -13,7 +13,7 @@ use ll_grammars::Lexeme;
 use sql_tokens::name;
 use std::alloc::Global;
 
-// Checks a column of a list, and adds it to the names before it.
+// Checks a column of a list, and adds its name to the names of the columns before it.
 #[tactic(auto, using(crate::proofs::Places::stands_in_is), unfolding(crate::specs::Offences::listed_offences))]
 fn check_listed(
     alloc: Global,

@@ -10,7 +10,7 @@ use std::alloc::Global;
 use std::collections::HashMap;
 use std::marker::Model;
 
-/// A list of names, which contracts see as the bytes of each name. It finds a name's first place with one look-up.
+/// A list of names. In contracts it is a list of the bytes of each name. The list finds a name's first place with one look-up.
 #[derive(Drop)]
 pub struct NameList {
     names: Vec<String>,

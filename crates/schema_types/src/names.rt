@@ -28,7 +28,7 @@ fn is_plain(name: &str) -> bool
 }
 
 impl Scope<'_> {
-    // Checks a table's name, and adds it to the taken ones.
+    // Checks a table's name, and adds it to the names that are taken.
     fn check_table_name(&self, taken: &mut NameList, token: &Lexeme) -> Result<(), SchemaError>
         requires { IsNameOf (IsLexemeOf self.now.text.now) token.now }
         ensures offence { (before : List (List ℕ)) → taken.old ≡ map upper_case before

@@ -15,7 +15,7 @@ use schema_grammar::read_tables;
 use sql_tokens::{LexError, lexemes, tokens};
 use std::alloc::Global;
 
-// The tokens of a text as grammars see them.
+// The tokens of a text, as `Lexeme`s, which grammars take.
 fn read_lexemes(alloc: Global, text: &[u8]) -> Result<Seq<Lexeme>, SchemaError>
     requires { length text.now ≤ most_text }
     ensures are { IfOk result (λ found. AreLexemes text.now found) }

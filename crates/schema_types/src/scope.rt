@@ -1,4 +1,4 @@
-//! The tables of a schema text, with what look-ups need.
+//! The tables of a schema text, with their names and indexes for look-ups.
 ghost use Rattle.std.specs.Prelude.{◌≡◌, All, IfOk, map};
 ghost use Rattle.sql_tokens.specs.Words.{IsLexemeOf, name_of};
 ghost use Rattle.schema_grammar.specs.Lexemes.{IsNameOf, IsTableOf};
@@ -14,7 +14,7 @@ use schema_grammar::TableNode;
 use sql_tokens::name;
 use std::alloc::Global;
 
-/// The tables of a schema text, with what look-ups need.
+/// The tables of a schema text, with their names and an index of each table, which look-ups need.
 #[derive(Drop)]
 pub struct Scope<'a> {
     pub alloc: Global,

@@ -15,7 +15,7 @@ pub struct Column {
     pub kind: Kind,
 }
 
-/// A declared reference from columns of its table to target columns of a table. All are given by their places.
+/// A declared reference from columns of its table to target columns of a table. Columns and the table are given by their places.
 #[derive(Debug, Drop)]
 pub struct Reference {
     pub columns: Seq<u32>,

@@ -1,4 +1,4 @@
--- What classes tell of whether equalities are alike.
+-- If the columns of each equality of `es` are in one class of `fs`, and the other way round, then `es` and `fs` are alike.
 use Rattle.std.proofs.Common.{◌≡◌, ◌≢◌, ℕ, zero, suc, ◌<◌, List, [], ◌∷◌, get_or, length, take, ap, sym, subst, inl, inr, arith}
 use Rattle.std.specs.List.{AllByRecursion, Contains}
 use Rattle.entry_sets.proofs.Listing.{in_none, one_in}
@@ -10,7 +10,7 @@ use Rattle.berge_tree.proofs.Closed.{named}
 use Rattle.set_bounds.specs.Alike.{AreAlike, AreInOneClass}
 use Rattle.set_bounds.proofs.Forests.{all_in, each}
 
--- ---- equalities whose columns are in the classes of others
+-- ---- equalities whose columns are in one class of other equalities
 
 pub all_more : (Q : Edge → Type 0) (es : List Edge) (i : ℕ) (d : Edge) → i < length es → AllByRecursion Q (take i es) → Q (get_or es i d)
     → AllByRecursion Q (take (suc i) es)
@@ -18,13 +18,12 @@ all_more Q [] i d low h k = absurd (omega arith)
 all_more Q (e ∷ es) zero d low h k = (k, tt)
 all_more Q (e ∷ es) (suc i) d low h k = (h.0, all_more Q es i d (omega arith) h.1 k)
 
--- the others make one class of whatever these make one class of
 wider : (es fs : List Edge) → AllByRecursion (AreInOneClass es) fs → (p q : Place) → class_of fs p ≡ class_of fs q → class_of es p ≡ class_of es q
 wider es fs h p q same =
     class_of-joined es p q (λ key all. joined fs p q same key (all_in (λ f. key f.left.entry f.left.column ≡ key f.right.entry f.right.column) fs
     (λ f k. joined es f.left f.right (each (AreInOneClass es) fs h f k) key all)))
 
--- ---- alike
+-- ---- equalities that are alike
 
 two_columns : (earlier es : List Edge) → ClosesNoCycleAfter earlier es → AllByRecursion (λ e. e.left ≢ e.right) es
 two_columns earlier [] h = tt

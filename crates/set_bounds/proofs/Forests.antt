@@ -1,4 +1,4 @@
--- If equalities close no cycle, they close no cycle when they are rotated, nor when some are left out. Then all of them are kept.
+-- If equalities close no cycle, they also close no cycle when they are rotated or when some are left out. A turn keeps all of them.
 use Rattle.std.proofs.Common.{◌≡◌, ◌≢◌, ◌⊎◌, ℕ, Bool, true, false, not, List, [], ◌∷◌, ◌++◌, take, drop, refl, ap, sym, ◌∙◌, subst, inl, inr}
 use Rattle.std.specs.Prelude.{filter}
 use Rattle.std.specs.List.{AllByRecursion, Contains}
@@ -28,7 +28,6 @@ both_hold : {X : Type 0} (Q R T : X → Type 0) → ((x : X) → Q x → R x →
 both_hold Q R T so [] h k = tt
 both_hold Q R T so (x ∷ xs) h k = (so x h.0 k.0, both_hold Q R T so xs h.1 k.1)
 
--- each equality of the one list is one of the other
 abbrev pub AreAmong : List Edge → List Edge → Type 0
 AreAmong xs ys = (e : Edge) → Contains xs e → Contains ys e
 
@@ -44,7 +43,7 @@ other_order xs ys e k = elim (Contains-append_cases xs ys e k) [
   | inr behind ↦ Contains-append_left ys xs e behind
 ]
 
--- ---- what some equalities hold apart, fewer do
+-- ---- if equalities leave two entries apart (don't connect them), fewer equalities leave them apart too
 
 abbrev Together : (ℕ → Bool) → Edge → Type 0
 Together side e = side e.left.entry ≡ side e.right.entry
@@ -64,7 +63,7 @@ closes_filtered p earlier fewer (e ∷ es) among h = elim (cases_Bool (p e)) [
   | inr n ↦ rw n (closes_filtered p (e ∷ earlier) fewer es (λ f k. in_rest e earlier f (among f k)) h.1)
 ]
 
--- ---- one equality goes to the end
+-- ---- an equality is moved to the end of the list
 
 abbrev turned : Bool → Bool → Bool
 turned true x = not x
@@ -99,7 +98,7 @@ turned_back true true false e = absurd (cc e)
 turned_back true false true e = absurd (cc e)
 turned_back true false false e = refl
 
--- where f joins what e and those before it leave apart, e still joins what is apart when f comes before it
+-- so e and f can be exchanged
 still_apart : (earlier : List Edge) (e f : Edge) → AreApart earlier e.left.entry e.right.entry → AreApart (e ∷ earlier) f.left.entry f.right.entry → AreApart (f ∷ earlier) e.left.entry e.right.entry
 still_apart earlier e f s t = elim (same_or_not (s.side f.left.entry) (s.side f.right.entry)) [
   | inl same ↦ record { side = s.side; together = (same, s.together); across = s.across }
@@ -120,7 +119,6 @@ still_apart earlier e f s t = elim (same_or_not (s.side f.left.entry) (s.side f.
     so : (x y : ℕ) → s.side x ≡ s.side y → t.side x ≡ t.side y → side x ≡ side y
     so x y one other = ap (λ v. turned (beside v (t.side f.right.entry)) (s.side x)) other ∙ ap (turned (beside (t.side y) (t.side f.right.entry))) one
 
--- the earlier equalities, after these were added to them
 abbrev pub onto : List Edge → List Edge → List Edge
 onto earlier [] = earlier
 onto earlier (e ∷ es) = onto (e ∷ earlier) es
@@ -151,7 +149,7 @@ goes_round (e ∷ front) behind h =
     subst ClosesNoCycle (append_assoc behind (e ∷ []) front)
     (goes_round front (behind ++ e ∷ []) (subst ClosesNoCycle (append_assoc front behind (e ∷ [])) (moved_last e (front ++ behind) h)))
 
--- ---- all are kept
+-- ---- if equalities close no cycle, all of them are kept
 
 all_kept : (earlier es : List Edge) → ClosesNoCycleAfter earlier es → KeepsAfter earlier es es
 all_kept earlier [] h = at_end earlier
@@ -171,7 +169,7 @@ round_among turn es e k = subst (λ (xs : List Edge). Contains xs e) (take-appen
 pub among_round : (turn : ℕ) (es : List Edge) → AreAmong es (gone_round turn es)
 among_round turn es e k = other_order (take turn es) (drop turn es) e (subst (λ (xs : List Edge). Contains xs e) (sym (take-append-drop turn es)) k)
 
--- ---- fewer entries
+-- ---- fewer entries: the equalities within a smaller set close no cycle either
 
 not_more : (subset whole : ℕ) → IsWithin subset whole → (e : Edge) → joins_within whole e ≡ false → joins_within subset e ≡ false
 not_more subset whole within e out = elim (cases_Bool (joins_within subset e)) [

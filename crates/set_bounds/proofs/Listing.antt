@@ -25,7 +25,6 @@ listed_within lists es subset whole within h = record {
       (λ k d low joins. named_at (λ entry column. IsSome (list_of lists entry column)) whole es h.columns k d low (joins_more subset whole within (get_or es k d) joins));
 }
 
--- a set whose number is below 2^n has only entries below n
 pub first_within : (n subset : ℕ) → subset < 2 ^ n → IsWithin subset (2 ^ n - 1)
 first_within n subset fits entry has =
     let bit : (entry < 16) × (bit_at subset entry ≡ 1) = has_bit subset entry has in

@@ -1,4 +1,4 @@
--- A set whose equalities close no cycle and fall apart has the product of the bounds of its parts.
+-- If the equalities of a set close no cycle, and the set falls into two parts that no equality joins, its bound is the product of the parts' bounds.
 use Rattle.std.proofs.Common.{◌≡◌, ◌≢◌, ◌⊎◌, ℕ, ◌*◌, Bool, true, false, cond, not, ◌&&◌, List, [], ◌∷◌, ◌++◌, refl, ap, sym, ◌∙◌, subst, inl, inr, mul_assoc, mul_comm, arith}
 use Rattle.std.specs.Prelude.{filter}
 use Rattle.std.specs.List.{AllByRecursion, AllPairs, Contains}
@@ -100,7 +100,6 @@ module _ (es : List Edge) (subset part : ℕ) (forest : ClosesNoCycle (equalitie
   same_side : (e : Edge) → Contains kept_whole e → side e.left.entry ≡ side e.right.entry
   same_side e k = each (λ (f : Edge). side f.left.entry ≡ side f.right.entry) (equalities_within subset es) unjoined e (of_whole e k)
 
-  -- an equality with one entry in the part is one of the part
   whole_in_part : (e : Edge) → Contains kept_whole e → side e.left.entry ≡ true → Contains kept_part e
   whole_in_part e k left =
       to_part e (subst (λ (xs : List Edge). Contains xs e) (sym (within_of part subset within es))

@@ -1,4 +1,5 @@
--- Equalities that name the same columns and make the same classes, of some entries, have the same trees of these.
+-- Let two lists of equalities name the same columns of some entries, and make the same classes of these columns. Then both have the same trees of these
+-- entries.
 use Rattle.std.proofs.Common.{◌≡◌, ◌⊎◌, ℕ, zero, suc, ◌-◌, List, [], ◌∷◌, refl, ap, sym, subst, inl, inr, arith}
 use Rattle.std.specs.Prelude.{⊤, Option, Some, None}
 use Rattle.std.specs.List.{AllByRecursion, Contains}
@@ -18,9 +19,9 @@ use Rattle.tree_bounds.proofs.Turns.{trees_are, trees_there}
 use Rattle.set_bounds.specs.Alike.{AreAlike}
 use Rattle.set_bounds.proofs.Forests.{AreAmong, all_among, all_in, among_round, each, forest_kept, round_among}
 
--- ---- trees go from some equalities to others
+-- ---- when a tree of one list of equalities is a tree of another list
 
--- for the entries of Q, es and fs name the same columns and make the same classes. fs names no column that es doesn't
+-- for the entries that have Q, es and fs name the same columns and make the same classes. For other entries, each column that fs names is also named by es
 pub record Carries (Q : ℕ → Type 0) (es fs : List Edge) : Type 0 where
   pub places_to : (q : Place) → Contains (places_of fs) q → Contains (places_of es) q
   pub places_from : (q : Place) → Q q.entry → Contains (places_of es) q → Contains (places_of fs) q
@@ -64,7 +65,7 @@ module _ (Q : ℕ → Type 0) (es fs : List Edge) (c : Carries Q es fs) where
   pub tree_carries : (t : BergeTree) → AllByRecursion Q (entries t) → IsTreeOf es t → IsTreeOf fs t
   tree_carries t qs h = record { columns = columns_carry t.root None (class_columns t.below) qs.0 h.columns; follows = below_carry t.root t.below qs.0 qs.1 h.follows; least = h.least }
 
--- ---- equalities of which each is among the others
+-- ---- two lists of equalities, where each equality of the first list is in the second
 
 record EndOf (es : List Edge) (q : Place) : Type 0 where
   edge : Edge
@@ -92,7 +93,6 @@ in_places (f ∷ es) e k = elim (one_in f es e k) [
       (in_rest f.left (f.right ∷ places_of es) e.left (in_rest f.right (places_of es) e.left later.0), in_rest f.left (f.right ∷ places_of es) e.right (in_rest f.right (places_of es) e.right later.1)))
 ]
 
--- if the equalities in xs that name the column q are in ys, then ys names q too
 pub places_where : (xs ys : List Edge) (q : Place) → ((e : Edge) → Contains xs e → ((q ≡ e.left) ⊎ (q ≡ e.right)) → Contains ys e) → Contains (places_of xs) q → Contains (places_of ys) q
 places_where xs ys q there k =
     let found : EndOf xs q = end_of xs q k in
@@ -137,7 +137,7 @@ alike_trees es subset turn other h = same_trees es subset turn other (record {
   class_from = λ p q any e. (h.classes p q).0 e;
 })
 
--- ---- where a set's equalities close no cycle, its turns are alike
+-- ---- if a set's equalities close no cycle, all its turns are alike
 
 pub forest_turn : (b : EntryBounds) (es : List Edge) (subset turn : ℕ) → ClosesNoCycle (equalities_within subset es) → bound_of_turn b es subset turn ≡ bound_of_turn b es subset 0
 forest_turn b es subset turn h =

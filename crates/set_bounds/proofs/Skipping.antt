@@ -1,4 +1,4 @@
--- A turn that is like an earlier one leaves the least bound as it is.
+-- A turn that is like an earlier turn doesn't change the least bound, so it can be skipped.
 use Rattle.std.proofs.Common.{◌≡◌, ℕ, zero, suc, ◌+◌, ◌-◌, ◌<◌, ◌≤◌, List, [], ◌∷◌, ◌++◌, get_or, length, ap, sym, ◌∙◌, subst, arith}
 use Rattle.degree_sequences.specs.Saturation.{saturated}
 use Rattle.berge_tree.specs.declared.edges.Edge.{Edge}
@@ -10,7 +10,7 @@ use Rattle.tree_bounds.proofs.Turns.{closes, least_to-le}
 use Rattle.set_bounds.specs.Alike.{AreAlike, AreOfTurnsBefore, IsLikeEarlier, IsOfTurnBefore, least_told}
 use Rattle.set_bounds.proofs.SameTrees.{alike_trees}
 
--- ---- the least
+-- ---- the least bound
 
 least_same : (f : ℕ → ℕ) (n k : ℕ) → k ≤ n → f k ≡ f (suc n) → least_to f (suc n) ≡ least_to f n
 least_same f n k low same = omega (arith, least_to-le f n k low, same)

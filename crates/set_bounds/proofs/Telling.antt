@@ -1,4 +1,4 @@
--- The bounds of the first sets, one after another.
+-- The bounds of the sets are computed one after another, in the order of the sets' numbers.
 use Rattle.std.proofs.Common.{◌≡◌, ◌⊎◌, ℕ, ◌+◌, ◌*◌, ◌-◌, ◌%◌, ◌^◌, ◌<◌, ◌≤◌, List, [], ◌∷◌, ◌++◌, get_or, length, ap, sym, ◌∙◌, pow_mono, arith}
 use Rattle.std.specs.List.{AllByRecursion}
 use Rattle.std.proofs.lemmas.List.FromFn.{get_or-map-range_with_len, map-range_with_len_more}
@@ -14,7 +14,6 @@ use Rattle.bound_fold.proofs.SetBounds.{set_never_under}
 use Rattle.set_bounds.specs.AllSets.{bound_told, bounds_below, bounds_in_sets, bounds_of_sets, first_entries, in_every_set}
 use Rattle.set_bounds.proofs.Listing.{first_listed}
 
--- how many sets there are
 pub sets_fit : (n : ℕ) → n ≤ 12 → 1 * 2 ^ n % 65536 ≡ 2 ^ n
 sets_fit n few = let powers : 2 ^ n ≤ 2 ^ 12 = pow_mono few in omega (arith, powers)
 
@@ -30,7 +29,7 @@ told_in b es n subset bounds is fits =
 pub told_at : (b : EntryBounds) (es : List Edge) (n subset : ℕ) (bounds : List ℕ) → bounds ≡ bounds_of_sets b es n → subset < 2 ^ n → get_or bounds subset 0 ≡ bound_told b es subset
 told_at b es n subset bounds is fits = told_in (in_every_set b) es n subset bounds is fits
 
--- no join of a set's tables has more rows than its bound
+-- no join of a set's tables has more rows than the set's bound, unless the bound is the greatest number of 128 bits
 abbrev pub AreNeverUnder : EntryLists → List Edge → ℕ → List ℕ → Type 0
 AreNeverUnder lists es n bounds = (subset : ℕ) → subset < 2 ^ n → (tables : KeyedTables) → SetDominates (bounds_of lists) tables es subset → (choices : List (ℕ → ℕ))
     → AllByRecursion (Satisfies tables (entries_of_set subset) (equalities_within subset es)) choices → ChoicesAreDifferent (entries_of_set subset) choices

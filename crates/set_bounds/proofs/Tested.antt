@@ -1,4 +1,5 @@
--- What the tests of a set tell.
+-- The code tests whether a turn keeps all equalities of a set, and whether an equality crosses from a part of the set to the rest. The lemmas say what these
+-- tests mean.
 use Rattle.std.proofs.Common.{◌≡◌, ℕ, zero, suc, ◌-◌, ◌*◌, ◌^◌, ◌<◌, ◌≤◌, min, Bool, true, false, cond, not, ◌&&◌, eqb, ltb, bit_and, w16, List, [], ◌∷◌, get_or, length, refl, ap, sym, ◌∙◌, subst, inl, inr, arith}
 use Rattle.std.specs.Int.{bit_at, bit_not}
 use Rattle.std.proofs.lemmas.Bool.{cases_Bool, ltb-true, or_parts}
@@ -18,7 +19,7 @@ use Rattle.set_bounds.specs.AllSets.{bound_told, bounds_below}
 use Rattle.set_bounds.specs.Parts.{LooksAtParts, AreUnjoined, FallsInto, crosses, some_cross}
 use Rattle.set_bounds.proofs.Parted.{parts_multiply}
 
--- ---- as many are kept as there are
+-- ---- if a turn keeps as many equalities as the set has, they close no cycle
 
 kept_fewer : (name : ℕ → ℕ) (es : List Edge) → length (kept_by_names name es) ≤ length es
 kept_fewer name [] = omega arith
@@ -27,7 +28,6 @@ kept_fewer name (e ∷ es) = elim (cases_Bool (eqb (name e.left.entry) (name e.r
   | inr n ↦ rw n (omega (arith, kept_fewer (joined_parts name e.left.entry e.right.entry) es))
 ]
 
--- if as many are kept as there are, all are kept
 kept_step : (name : ℕ → ℕ) (e : Edge) (es : List Edge)
     → ((name : ℕ → ℕ) → length (kept_by_names name es) ≡ length es → kept_by_names name es ≡ es)
     → (t : Bool) → eqb (name e.left.entry) (name e.right.entry) ≡ t → length (kept_by_names name (e ∷ es)) ≡ suc (length es) → kept_by_names name (e ∷ es) ≡ e ∷ es
@@ -49,7 +49,7 @@ forest_told es subset kept is same closes =
     let round : kept ≡ kept_by_names (λ x. x) of_set = is ∙ ap (kept_by_names (λ x. x)) (append-nil of_set) in
     subst ClosesNoCycle (round ∙ kept_every (λ x. x) of_set (ap length (sym round) ∙ same)) closes
 
--- ---- no equality crosses
+-- ---- if no equality crosses from the part to the rest, the two are unjoined
 
 one_side : (joins a b : Bool) → joins ≡ true → (joins && cond a (not b) b) ≡ false → a ≡ b
 one_side true true true t e = refl
@@ -84,7 +84,7 @@ rest_has set part entry fits = elim (cases_Bool (ltb entry 16)) [
   | inr high ↦ rw high refl
 ]
 
--- ---- the product of what was told of both parts
+-- ---- the bound of a set as the product of the bounds that were found for its parts
 
 module _ (b : ℕ → EntryBounds) (es : List Edge) where
   told_below : (k subset : ℕ) (told : List ℕ) → told ≡ bounds_below b es k → subset < k → get_or told subset 0 ≡ bound_told (b subset) es subset

@@ -1,4 +1,4 @@
--- Of all equalities a set asks only for its own.
+-- A set's bound depends only on those equalities that are within the set.
 use Rattle.std.proofs.Common.{◌≡◌, ℕ, ◌-◌, min, max, List, [], ◌∷◌, length, refl, ap, sym, subst, inl, inr, ◌∙◌}
 use Rattle.std.specs.Prelude.{IsSome}
 use Rattle.std.proofs.lemmas.Bool.{cases_Bool}

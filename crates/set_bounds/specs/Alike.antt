@@ -1,4 +1,4 @@
--- Equalities that have the same join trees.
+-- Lists of equalities that are alike. They have the same join trees.
 use Rattle.std.specs.Prelude.{◌≡◌, ◌↔◌, ℕ, ◌<◌, List}
 use Rattle.std.specs.List.{AllByRecursion, Contains}
 use Rattle.berge_tree.specs.declared.edges.Edge.{Edge}
@@ -9,7 +9,7 @@ use Rattle.degree_sequences.specs.Saturation.{saturated}
 use Rattle.tree_bounds.specs.SetBounds.{bound_of_turn, least_to}
 use Rattle.tree_bounds.specs.TreeBounds.{EntryBounds}
 
--- they name the same columns, and make the same classes of them
+-- two lists of equalities are alike if they name the same columns and make the same classes of these columns
 pub record AreAlike (es fs : List Edge) : Type 0 where
   pub columns : (p : Place) → Contains (places_of es) p ↔ Contains (places_of fs) p
   pub classes : (p q : Place) → (class_of es p ≡ class_of es q) ↔ (class_of fs p ≡ class_of fs q)
@@ -18,9 +18,9 @@ pub record AreAlike (es fs : List Edge) : Type 0 where
 abbrev pub AreInOneClass : List Edge → Edge → Type 0
 AreInOneClass es e = class_of es e.left ≡ class_of es e.right
 
--- ---- turns that are like an earlier one
+-- ---- turns that are like an earlier turn
 
--- the equalities are those that some turn before this one keeps
+-- the equalities are those that a turn before `turn` keeps
 pub record IsOfTurnBefore (es : List Edge) (subset turn : ℕ) (kept : List Edge) : Type 0 where
   pub earlier : ℕ
   pub before : earlier < turn
@@ -29,12 +29,12 @@ pub record IsOfTurnBefore (es : List Edge) (subset turn : ℕ) (kept : List Edge
 abbrev pub AreOfTurnsBefore : List Edge → ℕ → ℕ → List (List Edge) → Type 0
 AreOfTurnsBefore es subset turn folded = AllByRecursion (IsOfTurnBefore es subset turn) folded
 
--- a turn keeps equalities that are like those of a turn before it
+-- an earlier turn keeps equalities that are alike to those that `turn` keeps
 pub record IsLikeEarlier (es : List Edge) (subset turn : ℕ) : Type 0 where
   pub earlier : ℕ
   pub before : earlier < turn
   pub alike : AreAlike (kept_of subset earlier es) (kept_of subset turn es)
 
--- the least bound of the turns from 0 to this one, or 2^128 - 1 where it is larger
+-- the least bound of the turns from 0 to `turn`, or 2^128 - 1 if it is larger
 abbrev pub least_told : EntryBounds → List Edge → ℕ → ℕ → ℕ
 least_told b es subset turn = saturated (least_to (bound_of_turn b es subset) turn)

@@ -7,25 +7,25 @@ use Rattle.join_graph.specs.Kept.{equalities_within, joins_within}
 use Rattle.tree_bounds.specs.TreeBounds.{EntryBounds}
 use Rattle.set_bounds.specs.AllSets.{bound_told}
 
--- no equality of the set joins an entry of the part with one outside it
+-- no equality of the set joins an entry of the part with an entry outside the part
 abbrev pub AreUnjoined : List Edge → ℕ → ℕ → Type 0
 AreUnjoined es subset part = AllByRecursion (λ e. has_entry part e.left.entry ≡ has_entry part e.right.entry) (equalities_within subset es)
 
--- the set is a part and the rest, and no equality joins the two
+-- the set consists of a part and the rest, and no equality joins the two
 pub record FallsInto (es : List Edge) (subset part rest : ℕ) : Type 0 where
   pub within : IsWithin part subset
   pub others : (entry : ℕ) → has_entry rest entry ≡ (has_entry subset entry && not (has_entry part entry))
   pub unjoined : AreUnjoined es subset part
 
--- what is known of the entries of a part doesn't depend on the rest of the set: by what is known in the set, each part has the same bound as by what
--- is known in the part alone
+-- what is known of the entries of a part doesn't depend on the rest of the set. So a part has the same bound, whether this is computed from what is known
+-- in the set or from what is known in the part alone. The same is true of the rest
 abbrev pub LooksAtParts : (ℕ → EntryBounds) → List Edge → Type 0
 LooksAtParts b es = (subset part rest : ℕ) → FallsInto es subset part rest
     → (bound_told (b part) es part ≡ bound_told (b subset) es part) × (bound_told (b rest) es rest ≡ bound_told (b subset) es rest)
 
--- ---- the same, tested
+-- ---- the tests for this
 
--- the equality is one of the set, and joins an entry of the part with one outside it
+-- the equality is within the set, and joins an entry of the part with an entry outside the part
 abbrev pub crosses : ℕ → ℕ → Edge → Bool
 crosses subset part e =
     joins_within subset e && (if has_entry part e.left.entry then not (has_entry part e.right.entry) else has_entry part e.right.entry)

@@ -1,4 +1,4 @@
-//! Whether turns keep equalities that are alike, by the classes of their columns.
+//! Whether two turns keep equalities that are alike (`AreAlike`), by the classes of their columns.
 ghost use Rattle.std.specs.Prelude.{◌≡◌, ℕ, List, true};
 ghost use Rattle.std.specs.List.{AllByRecursion};
 ghost use Rattle.berge_tree.specs.declared.edges.Edge.{Edge};
@@ -8,7 +8,7 @@ ghost use Rattle.set_bounds.specs.Alike.{AreAlike, AreInOneClass, AreOfTurnsBefo
 
 use berge_tree::{Classed, Edge};
 
-// True only if the columns of each equality are in one class of the other equalities.
+// True only if the two columns of each equality of `edges` are in one class of the equalities `others`.
 fn are_in_classes(others: &Classed, edges: &[Edge]) -> bool
     ensures { result ≡ true → AllByRecursion (AreInOneClass others.now) edges.now }
 {
@@ -26,7 +26,7 @@ fn are_alike(a: &Classed, b: &Classed) -> bool
     are_in_classes(a, b.edges()) && are_in_classes(b, a.edges())
 }
 
-/// If it is true, the turn is like an earlier one, which was folded. If it is false, nothing is promised.
+/// If the answer is true, the turn that keeps `kept` is like an earlier turn whose bound was computed. If the answer is false, nothing is promised.
 pub(crate) fn is_like_earlier(kept: &Classed, folded: &[Classed]) -> bool
     ensures { result ≡ true → (es : List Edge) → (subset turn : ℕ) → kept.now ≡ kept_of subset turn es
         → AreOfTurnsBefore es subset turn folded.now → IsLikeEarlier es subset turn }

@@ -1,4 +1,5 @@
-//! The bound of a set whose equalities close a cycle: the least over its turns. Turns that are alike are folded once.
+//! The bound of a set whose equalities close a cycle: the least bound over its turns. Turns that are alike have the same bound, so only the first of
+//! them is folded, that is, its trees are folded from the leaves up to a bound.
 ghost use Rattle.std.specs.Prelude.{◌≡◌, ◌+◌, ◌-◌, ◌<◌, IfOk};
 ghost use Rattle.join_graph.specs.Kept.{equalities_within, kept_of};
 ghost use Rattle.bound_fold.specs.Lists.{bounds_of};
@@ -27,7 +28,8 @@ fn classed_turn(
     Classed::new(alloc, edges)
 }
 
-// The least bound over the turns up to this one, from the least over the turns before it. A turn that is like an earlier one is not folded.
+// The least bound over the turns from 0 to `turn`. `least` is the least bound over the turns before `turn`. A turn that is like an earlier turn isn't
+// folded.
 fn least_with(
     alloc: Global,
     parts: &Parts,
@@ -53,7 +55,7 @@ fn least_with(
     Ok(least.min(bound))
 }
 
-// The least bound over the turns. Of turns that are alike only the first is folded.
+// The least bound over all turns. Of turns that are alike only the first is folded.
 fn least_of_turns(
     alloc: Global,
     parts: &Parts,
@@ -93,7 +95,7 @@ fn only_within(alloc: Global, parts: &Parts, subset: EntrySet) -> Result<Parts, 
     })
 }
 
-/// The bound of a set: the least over its turns. A turn goes through all equalities that it is given, so here it is given only those of the set.
+/// The bound of a set: the least bound over its turns. A turn goes through all equalities that it is given, so it gets only the equalities of the set.
 pub(crate) fn cyclic_bound(
     alloc: Global,
     parts: &Parts,

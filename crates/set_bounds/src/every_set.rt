@@ -1,5 +1,6 @@
-//! The bound of every set, one after another. If a set's equalities close no cycle, the set is folded only if it is connected. Otherwise its bound is
-//! a product of bounds that were found before. If its equalities close a cycle, turns that are alike are folded once.
+//! The bound of every set, one after another. To fold a set is to compute its bound from its trees. A set whose equalities close no cycle is folded
+//! only if its entries are connected; otherwise its bound is a product of bounds that were found before. If a set's equalities close a cycle, the
+//! bound is the least over its turns, and turns that are alike are folded once.
 ghost use Rattle.std.specs.Prelude.{◌≡◌, ◌⊎◌, ◌-◌, ◌^◌, ◌<◌, ◌≤◌, ℕ, List, length, slice_index, IfOk};
 ghost use Rattle.std.specs.List.{AllByRecursion};
 ghost use Rattle.limits.specs.Profile.{most_entries, top_bound};
@@ -20,9 +21,9 @@ use entry_sets::EntrySet;
 use join_graph::Parts;
 use std::alloc::Global;
 
-/// The bounds, in rows, of all sets of the first `count` entries, each at the number whose bits are the set. It has `u128::MAX` where a bound is
-/// larger, and 1 for the empty set. What is known of the entries may depend on the set in which they are joined, but not on entries that no equality
-/// connects with them there. So, if no cycle is closed, only connected sets are folded.
+/// The bounds, in rows, of all sets of the first `count` entries, each at the number whose bits are the set. The list has `u128::MAX` in place of a
+/// larger bound, and 1 for the empty set. What is known of an entry may depend on the set in which the entry is joined, but not on those entries of
+/// the set that no equalities connect with the entry. So, if no cycle is closed, only connected sets are folded.
 ///
 /// A set's bound is the least over its turns. In a turn it is the product of the bounds of its trees (SafeBound, SIGMOD 2023; Degree Sequence Bound,
 /// ICDT 2023).
@@ -48,8 +49,8 @@ pub fn bounds_in_sets<K: KnownInSets>(
     Ok(Seq::from_vec(bounds))
 }
 
-/// The same, if what is known is the same in every set. If the lists dominate tables, no join of a set's tables by all its equalities has more rows
-/// than the set's bound, unless this is `u128::MAX`.
+/// The bounds of all sets, if what is known of the entries is the same in every set. If the lists dominate tables, no join of a set's tables by all
+/// equalities of the set has more rows than the set's bound, unless this bound is `u128::MAX`.
 pub fn bounds_of_sets(
     alloc: Global,
     parts: &Parts,

@@ -15,7 +15,7 @@ use entry_sets::EntrySet;
 use join_graph::Parts;
 use std::alloc::Global;
 
-/// What is known of the entries of a query in each set of them: a row bound of each entry, and a list of each joined column.
+/// What is known of the entries of a query in each set of entries: a row bound of each entry, and a list of each joined column.
 pub trait KnownInSets {
     /// What is known in each set, as bounds of entries.
     ghost known: { Self → ℕ → EntryBounds };
@@ -23,7 +23,7 @@ pub trait KnownInSets {
     /// Each entry of the set has a row bound, and each column that an equality of the set names has a list.
     ghost is_listed: { Self → List Edge → ℕ → Type 0 };
 
-    /// The bound of a set by folds of its trees, or `u128::MAX` where it is larger. `forest` says that its equalities close no cycle.
+    /// The bound of a set by folds of its trees, or `u128::MAX` if the bound is larger. `forest` says that the equalities of the set close no cycle.
     fn folded(
         &self,
         alloc: Global,
@@ -36,8 +36,8 @@ pub trait KnownInSets {
         ensures { IfOk result (λ n. n ≡ bound_told (known self.now subset) parts.now.equalities subset) };
 }
 
-/// The bound of a set by folds of its trees, or `u128::MAX` where it is larger. If its equalities close no cycle (`forest`), all turns have the same
-/// bound, and one is folded. Otherwise the bound is the least over its turns.
+/// The bound of a set by folds of its trees, or `u128::MAX` if the bound is larger. If the equalities of the set close no cycle (`forest`), all turns
+/// have the same bound, and one turn is folded. Otherwise the bound is the least over the turns.
 pub fn folded_bound(
     alloc: Global,
     parts: &Parts,
@@ -57,7 +57,7 @@ pub fn folded_bound(
     Ok(bound)
 }
 
-// The same row bounds and lists in every set.
+// `EntryLists` has the same row bounds and lists in every set.
 impl KnownInSets for EntryLists {
     ghost known = { λ lists. in_every_set (bounds_of lists) };
 

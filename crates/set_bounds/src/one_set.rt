@@ -12,8 +12,8 @@ use entry_sets::EntrySet;
 use join_graph::Parts;
 use std::alloc::Global;
 
-// The bound of a set whose equalities close no cycle. If it falls into two parts, this is the product of their bounds, and otherwise the set is
-// folded.
+// The bound of a set whose equalities close no cycle. If the set falls into two parts that no equality joins, the bound is the product of the parts'
+// bounds. Otherwise the set is folded: its bound is computed from its trees.
 fn forest_bound<K: KnownInSets>(
     alloc: Global,
     parts: &Parts,
@@ -39,7 +39,7 @@ fn forest_bound<K: KnownInSets>(
     Ok(bound)
 }
 
-// Whether the equalities of a set close no cycle. That is so if those of a larger set close no cycle (`whole`).
+// Whether the equalities of a set close no cycle. They close no cycle if the equalities of a larger set close no cycle (`whole`).
 fn is_forest_within(
     alloc: Global,
     parts: &Parts,

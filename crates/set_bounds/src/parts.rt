@@ -15,7 +15,7 @@ use std::alloc::Global;
 // A round that changes the part adds at least one entry to it, and there are at most 16 entries.
 const ROUNDS: u8 = 16;
 
-/// Whether the equalities of a set close no cycle: that is so if all of them are kept.
+/// Whether the equalities of a set close no cycle. They close no cycle if turn 0 keeps all of them.
 pub(crate) fn is_forest(alloc: Global, parts: &Parts, subset: EntrySet) -> Result<bool, NoMemory>
     ensures { IfOk result (λ forest. forest ≡ true → ClosesNoCycle (equalities_within subset parts.now.equalities)) }
 {
@@ -23,7 +23,7 @@ pub(crate) fn is_forest(alloc: Global, parts: &Parts, subset: EntrySet) -> Resul
     Ok(edges.len() == count_within(parts.equalities.as_slice(), subset))
 }
 
-// The part with both entries of an equality, if one of them is in it already. Otherwise it is as before.
+// If an entry of the equality is in the part, both entries of the equality are added to the part. Otherwise the part is as before.
 fn with_edge(part: EntrySet, edge: Edge) -> EntrySet
     requires { IsNamed edge }
 {

@@ -6,8 +6,8 @@ ghost use Rattle.slice_devices.specs.Slices.{told_of};
 
 use base_io::{Failed, Sink};
 
-/// A room and how many bytes at its front were written. A piece is taken as far as there is room. A write fails, and is counted, only
-/// where the room is full and the piece has bytes.
+/// A room, and how many bytes at its front were written. A write takes as many of its bytes as there is room for. A write fails, and is counted, only
+/// if the room is full and the write has bytes.
 #[derive(Drop)]
 pub struct SliceSink<'a> {
     pub room: &'a mut [u8],
@@ -38,7 +38,7 @@ impl Sink for SliceSink<'_> {
 
     ghost faults = { λ s. s.faults };
 
-    /// Writes as every sink does, and changes no byte of the room behind what was taken.
+    /// Writes as every sink does, and changes no byte of the room after the bytes that were taken.
     fn write(&mut self, bytes: &[u8]) -> Result<usize, Failed>
         ensures bound { IfOk result (λ n. n ≤ length bytes.now) }
         ensures progress { 0 < length bytes.now → IfOk result (λ n. 0 < n) }
@@ -49,7 +49,7 @@ impl Sink for SliceSink<'_> {
         ensures later { self.old.faults ≤ self.new.faults }
         ensures failed { OnErr result (Rose self.old.faults self.new.faults) }
 
-        // Each byte behind what was taken is as it was.
+        // Each byte after the bytes that were taken is as it was.
         ensures kept { drop self.new.used self.new.room.now ≡ drop self.new.used self.old.room.now }
     {
         let left = self.room.len() - self.used;

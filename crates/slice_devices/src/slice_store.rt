@@ -13,7 +13,7 @@ pub struct SliceFile<'a> {
     pub bytes: &'a [u8],
 }
 
-/// The files of a list. Of two files with the same name the first counts. It tells its files, and no read fails.
+/// The files of a list. Of two files with the same name the first counts. The store tells its files, and no read fails.
 #[derive(Drop)]
 pub struct SliceStore<'a, 'b> {
     pub files: &'a [SliceFile<'b>],
@@ -42,7 +42,7 @@ fn find_file<'b>(files: &[SliceFile<'b>], name: &str) -> Option<&'b [u8]>
     None
 }
 
-// Copies the bytes from `place` on to the front of a buffer, and says how many: as many as there are, and at most as many as fit.
+// Copies the bytes from `place` on to the front of a buffer, and says how many bytes: all that there are, or as many as fit.
 fn copy_front(bytes: &[u8], place: u64, into: &mut [u8]) -> usize
     requires { 0 < length into.old }
     ensures count { result ≡ min (length bytes.now - place) (length into.new) }

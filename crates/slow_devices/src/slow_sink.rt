@@ -6,8 +6,8 @@ ghost use Rattle.slow_devices.specs.Cuts.{most_bytes};
 
 use base_io::{Failed, MemSink, Sink};
 
-/// A sink over memory, which takes at most `most` bytes in each call; 0 counts as 1. The bytes taken, room, counts
-/// and failures are those of the inner sink.
+/// A sink over memory, which takes at most `most` bytes in each call; if `most` is 0, it counts as 1. The bytes taken, room, counts and failures are
+/// those of the inner sink.
 #[derive(Drop)]
 pub struct SlowSink {
     pub inner: MemSink,
@@ -15,7 +15,7 @@ pub struct SlowSink {
 }
 
 impl SlowSink {
-    /// A sink that hands at most `most` bytes of each call to the inner one.
+    /// A sink that hands at most `most` bytes of each call to the inner sink.
     pub fn new(inner: MemSink, most: u32) -> SlowSink
         requires { 0 < most }
         ensures inner { result.inner ≡ inner }
@@ -39,13 +39,13 @@ impl Sink for SlowSink {
         ensures later { self.old.inner.faults ≤ self.new.inner.faults }
         ensures failed { OnErr result (Rose self.old.inner.faults self.new.inner.faults) }
 
-        // A call fails exactly if the inner sink lists it, or if it has bytes and finds no room.
+        // A call fails exactly if the inner sink lists this call as one that fails, or if the call has bytes and finds no room.
         ensures calls { self.new.inner.calls ≡ one_more self.old.inner.calls }
         ensures fail_at { self.new.inner.fail_at ≡ self.old.inner.fail_at }
         ensures fails { is_err result ≡ (is_listed self.new.inner.calls self.old.inner.fail_at
             || (nat_eq self.old.inner.room 0 && nat_lt 0 (length bytes.now))) }
 
-        // The bytes that are taken are as many as are handed on, and at most as many as find room.
+        // A call takes as many bytes as are handed on, and at most as many as there is room for.
         ensures most { IfOk result (λ n. n ≡ min self.old.inner.room (most_bytes self.old.most (length bytes.now))) }
         ensures room { IfOk result (λ n. self.new.inner.room + n ≡ self.old.inner.room) }
         ensures kept_room { OnErr result (self.new.inner.room ≡ self.old.inner.room) }

@@ -7,8 +7,7 @@ ghost use Rattle.slow_devices.specs.Cuts.{most_bytes};
 
 use base_io::{MemStore, Store, StoreError};
 
-/// Files in memory. Each call gives at most `most` bytes; 0 counts as 1. Files, counts and failures are
-/// those of the inner store.
+/// Files in memory. Each call gives at most `most` bytes; if `most` is 0, it counts as 1. Files, counts and failures are those of the inner store.
 #[derive(Drop)]
 pub struct SlowStore {
     pub inner: MemStore,
@@ -16,7 +15,7 @@ pub struct SlowStore {
 }
 
 impl SlowStore {
-    /// A store that gives at most `most` bytes of the inner one's in each call.
+    /// A store that gives at most `most` bytes of the inner store's bytes in each call.
     pub fn new(inner: MemStore, most: u32) -> SlowStore
         requires { 0 < most }
         ensures inner { result.inner ≡ inner }
@@ -53,7 +52,7 @@ impl Store for SlowStore {
             ≡ drop (most_bytes self.old.most (length into.old)) into.old }
         ensures same_most { self.new.most ≡ self.old.most }
 
-        // A call fails exactly if the inner store lists it.
+        // A call fails exactly if the inner store lists this call as one that fails.
         ensures calls { self.new.inner.calls ≡ one_more self.old.inner.calls }
         ensures fail_at { self.new.inner.fail_at ≡ self.old.inner.fail_at }
         ensures fails { has_failed result ≡ is_listed self.new.inner.calls self.old.inner.fail_at }

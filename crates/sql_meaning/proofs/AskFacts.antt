@@ -1,4 +1,4 @@
--- What a condition asks: the rows of the entries that it names.
+-- Whether a condition holds depends only on the rows of the entries that it names.
 use Rattle.std.proofs.Common.{◌≡◌, ℕ, Bool, true, not, eqb, List, [], ◌∷◌, ◌++◌, map, refl, ap, sym, ◌∙◌, subst, inl, inr}
 use Rattle.std.specs.List.{flat_map, list_any, AllByRecursion}
 use Rattle.std.proofs.lemmas.Bool.{cases_Bool, eq-eqb, or_right}
@@ -17,7 +17,6 @@ use Rattle.sql_meaning.specs.Tables.{Tables}
 abbrev is_in : List ℕ → ℕ → Bool
 is_in entries entry = list_any (λ e. eqb entry e) entries
 
--- the two choices have the same rows for these entries
 abbrev pub Agree : (ℕ → ℕ) → (ℕ → ℕ) → List ℕ → Type 0
 Agree f g entries = (entry : ℕ) → is_in entries entry ≡ true → f entry ≡ g entry
 

@@ -1,4 +1,4 @@
--- Cells by column and by row.
+-- The code reads cells by column and by row. The lemmas say that it reads the values of the database.
 use Rattle.std.proofs.Common.{◌≡◌, ℕ, zero, suc, ◌<◌, List, [], ◌∷◌, length, get_or, refl, ap, sym, ◌∙◌, subst, inl, inr, arith}
 use Rattle.std.proofs.lemmas.Bool.{cases_eq}
 use Rattle.std.proofs.lemmas.List.{get_or_append_left, get_or_push}
@@ -35,7 +35,6 @@ cell_at texts (k ∷ kinds) [] row i kind column d low as_many = absurd (omega a
 cell_at texts (k ∷ kinds) (c ∷ columns) row zero kind column d low as_many = refl
 cell_at texts (k ∷ kinds) (c ∷ columns) row (suc i) kind column d low as_many = cell_at texts kinds columns row i kind column d (omega arith) (omega arith)
 
--- a value in a row by its cell
 pub value_at : (texts : List (List ℕ)) (rows : ℕ) (kinds : List Kind) (columns : List (List ℕ)) → AreColumns texts rows kinds columns
     → (row i : ℕ) (kind : Kind) (column : List ℕ) (d : Value) → row < rows → i < length kinds
     → get_or (get_or (rows_of_columns texts kinds columns rows) row []) i d ≡ value_of_cell texts (get_or kinds i kind) (get_or (get_or columns i column) row 0)
@@ -43,7 +42,7 @@ value_at texts rows kinds columns h row i kind column d low within =
     ap (λ (r : Row). get_or r i d) (row_at texts kinds columns rows row low)
     ∙ cell_at texts kinds columns row i kind column d within (columns_long texts rows kinds columns h)
 
--- ---- as the code reads them
+-- ---- cells and values, as the code reads them
 
 pub height : (texts : List (List ℕ)) (cells : Cells) → AreColumns texts cells.rows cells.kinds cells.columns
     → (columns : List (List ℕ)) (i : ℕ) (column : List ℕ) → columns ≡ cells.columns → column ≡ get_or columns i column → i < length cells.kinds → length column ≡ cells.rows
@@ -61,7 +60,6 @@ read_value texts cells h kinds columns row i column read d same_kinds same_colum
     ∙ ap (λ (s : List Kind). value_of_cell texts (get_or s i kind.Int) (get_or (get_or cells.columns i column) row 0)) (sym same_kinds)
     ∙ ap (λ (s : List ℕ). value_of_cell texts (get_or kinds i kind.Int) (get_or s row 0)) (ap (λ (s : List (List ℕ)). get_or s i column) (sym same_columns) ∙ sym is_column ∙ sym is_read)
 
--- each cell is one of its column's kind
 pub read_is_cell : (texts : List (List ℕ)) (cells : Cells) → AreColumns texts cells.rows cells.kinds cells.columns
     → (kinds : List Kind) (columns : List (List ℕ)) (row i : ℕ) (column read : List ℕ)
     → kinds ≡ cells.kinds → columns ≡ cells.columns → column ≡ get_or columns i column → read ≡ column

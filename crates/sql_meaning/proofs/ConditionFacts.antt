@@ -1,4 +1,4 @@
--- Conditions by their parts.
+-- A condition is made of parts. The lemmas carry facts of a condition to its parts, and say when a condition holds by its parts.
 use Rattle.std.proofs.Common.{◌≡◌, ℕ, zero, suc, ◌+◌, ◌<◌, Bool, true, not, IsTrue, ◌↔◌, refl, inl, inr, List, [], ◌∷◌, length, map, get_or, ap, sym, ◌∙◌, subst, arith}
 use Rattle.std.specs.List.{flat_map, All, Any, AllByRecursion}
 use Rattle.std.proofs.lemmas.Bool.{false≢true, false_from_ne_true, or_cases, and_parts, and_from, or_right}
@@ -16,7 +16,7 @@ use Rattle.query_types.specs.Named.{entries_named}
 use Rattle.query_types.proofs.CondFacts.{entries_and, entries_not, entries_or, every_and, every_not, every_or}
 use Rattle.sql_meaning.specs.Tables.{Tables}
 
--- ---- what a condition asks, its members ask
+-- ---- what is true of a condition is true of its members
 
 all_in_part : (P : ℕ → Type 0) (parts : List (List ℕ)) → All P (flat_map (λ inner. inner) parts) → AllByRecursion (All P) parts
 all_in_part P [] h = tt
@@ -25,7 +25,6 @@ all_in_part P (part ∷ parts) h = (
   all_in_part P parts (λ k d low. subst P (get_or-append-add part (flat_map (λ inner. inner) parts) k d) (h (length part + k) d (omega (arith, length-append part (flat_map (λ inner. inner) parts))))),
 )
 
--- the members of a condition that says this of all entries that it names
 module _ (P : ℕ → Type 0) where
   all_in_members : (members : List Cond) → All P (flat_map (λ inner. inner) (map entries_named members)) → All (λ c. All P (entries_named c)) members
   all_in_members members h = All-from_recursion (λ c. All P (entries_named c)) members (unmapped members (all_in_part P (map entries_named members) h))
@@ -47,7 +46,7 @@ module _ (P : ℕ → Type 0) where
   pub entries_in_not : (cond inner c : Cond) → cond ≡ Not inner → c ≡ inner → All P (entries_named cond) → All P (entries_named c)
   entries_in_not cond inner c is same h = subst (All P) (ap entries_named is ∙ entries_not inner ∙ ap entries_named (sym same)) h
 
--- the members of a condition each of whose layers has this
+-- a layer is one AND, OR, NOT or comparison inside a condition
 module _ (Q : Cond-F Cond → Type 0) where
   at_member : (members items : List Cond) (i : ℕ) (c : Cond) → items ≡ members → c ≡ get_or items i c → i < length items → AllByRecursion (every-Cond Q) members → every-Cond Q c
   at_member members items i c same here low h =

@@ -1,4 +1,4 @@
--- What holds of conditions that can be asked.
+-- A condition that can be asked of a database (`IsAskable`) names only entries of the database, and a comparison of operands of one kind can be asked.
 use Rattle.std.proofs.Common.{◌<◌, length, refl, subst}
 use Rattle.std.specs.List.{All}
 use Rattle.csv_tables.specs.declared.types.Database.{Database}
@@ -12,11 +12,9 @@ use Rattle.query_types.specs.Typing.{Compares, IsTypedLayer}
 use Rattle.query_types.proofs.CondFacts.{entries_typed}
 use Rattle.sql_meaning.specs.Databases.{IsAskable, IsColumnOfKind}
 
--- such a condition names entries that have tables
 pub entries_exist : (db : Database) (cond : Cond) → IsAskable db cond → All (λ entry. entry < length db.slots) (entries_named cond)
 entries_exist db = entries_typed (IsColumnOfKind db) (λ entry. entry < length db.slots) (λ column text h. h.exists.entry)
 
--- a comparison of operands of one kind can be asked
 pub can_ask : (db : Database) (op : Op) (left right : Operand) → Compares (IsColumnOfKind db) left right → IsAskable db (Compare op left right)
 can_ask db op left right can =
     subst (every-Cond (IsTypedLayer (IsColumnOfKind db))) (rolls-Compare op left right)

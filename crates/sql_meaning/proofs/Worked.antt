@@ -1,4 +1,4 @@
--- Worked examples, by computation.
+-- The examples are worked out by computation.
 use Rattle.std.proofs.Common.{◌≡◌, ℕ, zero, suc, ◌<◌, ◌≤◌, ◌^◌, Bool, Some, option_map, lit≤, not, ◌&&◌, ◌||◌, true, false, List, [], ◌∷◌, length, map, slice_index, pos, refl, ap, ◌∙◌, arith}
 use Rattle.std.specs.List.{filter, range_with_len, slice_get, All}
 use Rattle.std.proofs.lemmas.List.Elements.{All-from_recursion, filter_agree}
@@ -17,7 +17,7 @@ use Rattle.sql_meaning.specs.Tables.{cells_of, Tables, row_counts, tables_of}
 use Rattle.sql_meaning.proofs.NamedFacts.{can_ask}
 use Rattle.sql_meaning.proofs.ConditionFacts.{holds_and, holds_or, holds_not, holds_compare}
 
--- what X compared with a number says, in a row
+-- the comparison is of column X with a number
 abbrev x_says : Op → ℕ → ℕ → Bool
 x_says op number row = comparison_says one_two_three (λ entry. row) op (column_at 0 0) (operand.Int (pos number))
 

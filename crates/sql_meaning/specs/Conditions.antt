@@ -14,12 +14,12 @@ use Rattle.query_types.specs.declared.types.Cond.TheOpen.{Cond-F}
 use Rattle.query_types.specs.declared.types.Cond.TheOpen as layer
 use Rattle.sql_meaning.specs.Tables.{Tables}
 
--- the value of a column in its entry's row. Columns of a query and rows of a choice exist; for any other it is 0
+-- the value of a column in its entry's row. Columns of a query and rows of a choice exist; for a column or row that doesn't exist, the value is 0
 abbrev pub column_value : Tables → (ℕ → ℕ) → ColumnRef → Value
 column_value tables row_of column =
     slice_index_or (slice_index_or (tables column.from) (row_of column.from) []) column.column (Int (pos 0))
 
--- the value of an operand: a column has its value in these rows, and a literal its own
+-- the value of an operand: of a column in its entry's row, or of a literal
 abbrev pub operand_value : Tables → (ℕ → ℕ) → Operand → Value
 operand_value tables row_of (operand.Column column) = column_value tables row_of column
 operand_value tables row_of (operand.Int number) = Int number

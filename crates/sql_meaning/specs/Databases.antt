@@ -17,7 +17,7 @@ use Rattle.sql_meaning.specs.Tables.{cells_of, row_counts, tables_of}
 abbrev pub AreCells : List (List ℕ) → Cells → Type 0
 AreCells texts cells = AreColumns texts cells.rows cells.kinds cells.columns
 
--- the column is one of an entry's table
+-- the column exists: it is a column of the table of an entry
 pub record IsColumnOf (db : Database) (column : ColumnRef) : Type 0 where
   pub entry : column.from < length db.slots
   pub exists : column.column < length (cells_of db column.from).kinds
@@ -42,8 +42,8 @@ pub record AreTables (db : Database) : Type 0 where
   pub cells : All (AreCells db.pool) db.cells
   pub slots : All (λ slot. slot < length db.cells) db.slots
 
--- the query is within its limits, and the database fits it: each FROM entry has a table, entries of the same table share one, and no table has too
--- many rows. All columns that the query names exist, with the kinds that its comparisons need
+-- the query is within its limits, and the database fits the query: each FROM entry has a slot, entries of the same table have the same slot, and no
+-- table has too many rows. All columns that the query names exist, with the kinds that its comparisons need
 pub record IsDatabaseOf (query : Query) (db : Database) : Type 0 where
   pub some : 0 < length query.from
   pub few : length query.from ≤ 12

@@ -1,4 +1,4 @@
--- The value that stands somewhere.
+-- The value that a `ValueRef` has.
 use Rattle.csv_tables.specs.Values.{Value, Int, Text}
 use Rattle.sql_meaning.specs.declared.values.ValueRef.{ValueRef}
 use Rattle.sql_meaning.specs.declared.values.ValueRef.TheVariants as «ref»

@@ -11,7 +11,7 @@ use crate::values::{compare_values, compares_as};
 use csv_tables::Database;
 use query_types::{Cond, Op, Operand};
 
-// Whether a comparison holds.
+// Whether a comparison of two operands holds, if the entries have these rows.
 fn comparison_holds(op: Op, left: &Operand, right: &Operand, db: &Database, rows: &[u32]) -> bool
     requires tables { AreTables db.now }
     requires askable { Compares (IsColumnOfKind db.now) left.now right.now }
@@ -25,8 +25,8 @@ fn comparison_holds(op: Op, left: &Operand, right: &Operand, db: &Database, rows
     compares_as(op, compare_values(left, right))
 }
 
-/// Whether a condition holds where each FROM entry has the row of this number. It takes no memory; the recursion is
-/// as deep as the condition.
+/// Whether a condition holds, if each FROM entry has the row whose number stands at the entry's place in `rows`. The test takes no memory; the
+/// recursion is as deep as the condition.
 pub fn holds(cond: &Cond, db: &Database, rows: &[u32]) -> bool
     requires tables { AreTables db.now }
     requires askable { IsAskable db.now cond.now }

@@ -1,6 +1,5 @@
-//! What a query means: when a condition holds, the choices of rows behind an answer, and the answer itself, over
-//! whole tables as lists of rows. Nothing here knows of plans, bounds or hashing. The code that runs a query is proved
-//! against these definitions.
+//! What a query means: when a condition holds, which choices of rows make an answer, and the answer itself, over whole tables as lists of rows.
+//! Nothing here knows of plans, bounds or hashing. The code that runs a query is proved against these definitions.
 //!
 //! In: a query (`query_types`) and a database (`csv_tables`) that has its tables (`IsDatabaseOf`). `holds` tests a condition
 //! on given rows and allocates nothing. `answer_slow` lists the choices of the answer by nested loops, for tests. Callers

@@ -1,4 +1,4 @@
-//! Values where they stand, and their order.
+//! Values that aren't copied, and their order.
 ghost use Rattle.std.specs.Prelude.{◌≡◌};
 ghost use Rattle.csv_tables.specs.Values.{value_cmp};
 ghost use Rattle.sql_meaning.specs.Conditions.{compares};
@@ -8,7 +8,7 @@ use csv_tables::compare_texts;
 use query_types::Op;
 use std::cmp::Ordering;
 
-/// A value where it stands.
+/// A number, or a text that is borrowed from the place where it lies.
 #[derive(Clone, Copy)]
 pub enum ValueRef<'a> {
     Int(i64),
@@ -27,7 +27,7 @@ pub(crate) fn compare_values(a: ValueRef, b: ValueRef) -> Ordering
     }
 }
 
-/// Whether a comparison holds of two values that stand in this order.
+/// Whether a comparison holds for two values whose order is `order`.
 pub(crate) fn compares_as(op: Op, order: Ordering) -> bool
     ensures { result ≡ compares op order }
 {

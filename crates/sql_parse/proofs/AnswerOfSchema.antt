@@ -1,4 +1,4 @@
--- A query that a text may be answered with is a query of the schema.
+-- If `IsAnswer` allows a query as the answer to a text, the query is one over the schema.
 use Rattle.std.proofs.Common.{◌≡◌, inl, inr, ℕ, ◌≤◌, List, [], ◌∷◌, ◌++◌, length, Result, Ok, Err, subst, sym, refl}
 use Rattle.std.specs.Prelude.{IfOk}
 use Rattle.limits.specs.Profile.{most_conjuncts, most_entries, most_outputs}
@@ -63,7 +63,6 @@ pub unless_number_ok : (places : List ℕ) (answer : Result Query QueryError) (q
 unless_number_ok [] answer query is = sym is
 unless_number_ok (place ∷ rest) answer query is = absurd cc
 
--- every query that the relation allows
 pub answer_of_schema : (schema : Schema) (text : List ℕ) (query : Query) → IsAnswer schema text (Ok query) → IsOf schema query
 answer_of_schema schema text query (inl memory) = absurd cc
 answer_of_schema schema text query (inr (inl unlexed)) = absurd (let is = unlexed.refused in cc)

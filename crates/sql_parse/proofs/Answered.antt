@@ -1,4 +1,4 @@
--- One stage of the answer after the other.
+-- A text is answered in stages: tokens, nesting, grammar, numbers, and the tree. The lemmas say what the answer is if the text fails in one of them.
 use Rattle.std.proofs.Common.{◌≡◌, inl, inr, ℕ, ◌-◌, ◌^◌, ◌<◌, ◌≤◌, min, All, List, [], ◌∷◌, length, Option, Some, None, Result, Err, ap, subst, sym, ◌∙◌, refl, arith}
 use Rattle.ll_grammars.specs.declared.lexeme.Lexeme.{Lexeme}
 use Rattle.ll_grammars.specs.Places.{IsSyntaxPlace}

@@ -1,4 +1,5 @@
--- What is behind FROM, one after the other: the SELECT list, the parts' conditions, and that of WHERE.
+-- When the entries of FROM are known, the binder reads the query's clauses one after another: the SELECT list, the conditions of the parts of FROM, and the
+-- condition of WHERE.
 use Rattle.std.proofs.Common.{◌≡◌, ℕ, List, [], ◌++◌, Option, ap, subst, sym, ◌∙◌, append_assoc}
 use Rattle.std.specs.List.{flat_map}
 use Rattle.query_grammar.specs.declared.tree.PartNode.{PartNode}

@@ -1,4 +1,4 @@
--- From the refusals as the binder finds them to those of the text, and the query.
+-- The refusals and the query that the binder finds are those of the text.
 use Rattle.std.proofs.Common.{◌≡◌, inl, inr, ℕ, ◌-◌, ◌^◌, ◌≤◌, min, Bool, true, false, nat_lt, cond, List, [], ◌∷◌, ◌++◌, length, Option, Some, None, Ok, Err, ap, sym, ◌∙◌, refl, append_assoc, arith}
 use Rattle.std.proofs.lemmas.Grind.{common_steps}
 use Rattle.std.proofs.lemmas.Bool.{ltb-false}
@@ -27,7 +27,7 @@ use Rattle.sql_parse.specs.Behind.{names_behind, kinds_behind, lists_behind, con
 use Rattle.sql_parse.specs.Outputs.{selected_by, capped}
 use Rattle.sql_parse.specs.Refusing.{too_long_list, limits_passed, limits_by, late_refusals, refusals_behind, IsFirstOf, Answers}
 
--- ---- the first of a list
+-- ---- the first element of a list
 
 first_append : (xs ys : List QueryError) (e : QueryError) → first xs ≡ Some e → first (xs ++ ys) ≡ Some e
 first_append [] ys e is = absurd cc
@@ -94,7 +94,7 @@ module _ (from counted conjuncts outputs : ℕ) where
       ap (λ n. first (over limit.Conjuncts most_conjuncts n ++ over limit.Outputs most_outputs (capped outputs))) (same (ltb-false most_entries from (sym is)) refl)
       ∙ ap (λ l. first (over limit.Conjuncts most_conjuncts conjuncts ++ l)) (over_capped outputs)
 
-  -- conjuncts count only where no limit before theirs is passed
+  -- `counted` needs to be the number of conjuncts only if no earlier limit is passed
   passed : (lists : List ℕ) → (from ≤ 12 → first lists ≡ None → counted ≡ conjuncts) → first (limits_passed from (first lists) counted (capped outputs)) ≡ first (due lists)
   passed lists same = passed_by (nat_lt most_entries from) lists refl same
 
@@ -116,7 +116,7 @@ module _ (binder : Binder) (query : QueryNode) where
   unfolding late_refusals
   no_kind none = sym (first_behind (first_place kind_error (kinds_behind binder query)) (limits_by binder query) (no_place kind_error (kinds_behind binder query) (sym none)))
 
-  -- ---- the refusals behind FROM
+  -- ---- the refusals of a query whose FROM entries are known
 
   no_name : names_behind binder query ≡ [] → refusals_behind binder query ≡ late_refusals binder query
   unfolding refusals_behind
@@ -136,7 +136,6 @@ module _ (binder : Binder) (query : QueryNode) where
   pub none_refused : names_behind binder query ≡ [] → None ≡ first (late_refusals binder query) → first (refusals_behind binder query) ≡ None
   none_refused none is = ap first (no_name none) ∙ sym is
 
-  -- the first wrong kind, and where there is none the first limit that is passed
   pub kind_refused : (at : ℕ) → names_behind binder query ≡ [] → Some at ≡ first (kinds_behind binder query) → IsFirstOf (refusals_behind binder query) (error.Kind at)
   kind_refused at none is = late_refused (error.Kind at) none (kind_first at is)
 
@@ -176,7 +175,7 @@ module _ (binder : Binder) (query : QueryNode) where
     pub few_outputs : length (selected_by binder query.outs) ≤ most_outputs
     few_outputs = not_over limit.Outputs most_outputs (length (selected_by binder query.outs)) (none_at_all outs (none_last ((many ++ lists) ++ conjs) outs no_limit))
 
--- ---- from the binder's words to the schema's, the text's and the tree's
+-- ---- what the binder computes, in terms of the schema, the text and the tree
 
 abbrev names_after : Schema → List ℕ → List Source → QueryNode → List ℕ
 names_after schema text from query = outs_offences schema text from (whole_scope from) query.outs ++ flat_map (name_offences_in schema text from) (conditions from query)
@@ -235,7 +234,6 @@ module _ (schema : Schema) (text : List ℕ) (query : QueryNode) where
       (first_append (first_place name_error (name_offences schema text from query)) (first_place kind_error (all_kind_offences schema text from query)) (error.Name place)
       (at_place name_error ((from_offences schema text query ++ outs) ++ conds) place names))
 
-  -- an offence in FROM
   pub from_refused : (e : QueryError) → IsNameError (from_offences schema text query) e → Answers (query_or_refusal schema text query) (Err e)
   from_refused (error.Name place) wrong = inr (sym (refused_first (error.Name place) (name_in_from place wrong)))
   from_refused error.NoMemory wrong = inl refl
@@ -258,7 +256,6 @@ module _ (schema : Schema) (text : List ℕ) (query : QueryNode) where
         ∙ ap (λ f. refusals_after schema text f query) k.from_is
         ∙ sym (refusals_are k.no_offence)
 
-    -- a refusal behind FROM
     pub behind_by : Knows → (e : QueryError) → IsFirstOf (refusals_behind binder query) e → Answers (query_or_refusal schema text query) (Err e)
     behind_by k e (inl memory) = inl (ap (λ y. Err y) memory)
     behind_by k e (inr is) = inr (sym (refused_first e (ap first (sym (same_refusals k)) ∙ is)))

@@ -1,4 +1,4 @@
--- A condition is over columns that exist where its parts are.
+-- If the parts of a condition name only columns that exist, the condition names only columns that exist.
 use Rattle.std.proofs.Common.{◌≡◌, All, List, [], ◌∷◌, map, refl, ap, subst}
 use Rattle.std.proofs.lemmas.List.Elements.{All-head, All-tail}
 use Rattle.schema_types.specs.declared.types.Schema.{Schema}
@@ -13,7 +13,6 @@ use Rattle.query_types.specs.Validity.{IsCondOf, IsColumnOf}
 use Rattle.query_types.specs.Typing.{Compares, IsTypedLayer}
 
 module _ (schema : Schema) (from : List Source) where
-  -- parts and the facts of them, in pairs
   abbrev Held : Type 0
   Held = (c : Cond) × IsCondOf schema from c
 

@@ -1,5 +1,4 @@
--- Where no name and no kind is wrong, what a condition means is over columns that exist, and each comparison has
--- two operands of one kind.
+-- If no name and no kind is wrong in a condition, its meaning names only columns that exist, and each comparison has two operands of the same kind.
 use Rattle.std.proofs.Common.{◌≡◌, ℕ, Bool, true, false, List, [], ◌∷◌, ◌++◌, All, map, Option, Some, None, ap, subst, sym, ◌∙◌, refl, append_assoc}
 use Rattle.std.specs.Prelude.{is_none}
 use Rattle.std.specs.List.{flat_map}
@@ -44,7 +43,6 @@ pub flat_map-append : {A B : Type 0} (f : A → List B) (xs ys : List A) → fla
 flat_map-append f [] ys = refl
 flat_map-append f (x ∷ xs) ys = ap (λ l. f x ++ l) (flat_map-append f xs ys) ∙ sym (append_assoc (f x) (flat_map f xs) (flat_map f ys))
 
--- what two lists of offences, each of them empty, tell of each item
 pub without_offences : {A B : Type 0} (f g : A → List ℕ) (h : A → List B) (P : B → Type 0) → ((a : A) → f a ≡ [] → g a ≡ [] → All P (h a))
     → (xs : List A) → flat_map f xs ≡ [] → flat_map g xs ≡ [] → All P (flat_map h xs)
 without_offences f g h P each [] no_f no_g = All-nil P
@@ -235,6 +233,5 @@ module _ (schema : Schema) (words : List ℕ) (from : List Source) (scope : Scop
       (test_of t (empty_left (test_offences schema words from scope t) [] (sym (ap (flat_map (test_offences schema words from scope)) (tests_test t)) ∙ names))
       (empty_left (kind_offences schema words from scope t) [] (sym (ap (flat_map (kind_offences schema words from scope)) (tests_test t)) ∙ kinds))))
 
-  -- a condition without offences
   pub condition_of : (c : CondNode) → names_in c ≡ [] → kinds_in c ≡ [] → IsMeaningOf schema from (means c)
   condition_of = ind-CondNode Good (λ x y is. subst (λ z. Good (roll-CondNode z)) is (good_layer y))

@@ -1,4 +1,4 @@
--- A query without offences against names and kinds is a query of the schema.
+-- If no name and no kind of a query offends, the query is one over the schema.
 use Rattle.std.proofs.Common.{◌≡◌, ℕ, suc, ◌+◌, ◌<◌, ◌≤◌, false, List, [], ◌∷◌, ◌++◌, All, length, map, Option, Some, None, ap, subst, sym, ◌∙◌, refl, arith}
 use Rattle.std.specs.Prelude.{is_none, slice_get, unwrap_or}
 use Rattle.std.specs.List.{flat_map}

@@ -1,4 +1,4 @@
--- A text has one answer at most, besides that memory is wanting.
+-- A text has at most one answer, apart from the answer that memory ran out.
 use Rattle.std.proofs.Common.{◌≡◌, ◌⊎◌, inl, inr, ℕ, ◌<◌, ◌≤◌, List, [], ◌∷◌, ◌++◌, length, Result, Err, ap, subst, sym, ◌∙◌, refl, arith, append_assoc}
 use Rattle.std.proofs.lemmas.List.{append-nil}
 use Rattle.ll_grammars.specs.declared.lexeme.Lexeme.{Lexeme}
@@ -23,7 +23,6 @@ use Rattle.sql_parse.specs.Reading.{lexemes_of, least, unless_number, IsUnlexed,
 
 -- ---- a list goes wrong at one place
 
--- the second front is longer than the first
 record Longer (front rest front' rest' : List Lexeme) : Type 0 where
   next : Lexeme
   more : List Lexeme
@@ -52,7 +51,6 @@ split (t ∷ f) r (u ∷ f') r' e = at (split f r f' r' (let tails : f ++ r ≡ 
   at (inr (inr longer)) = inr (inr (grown u t f' r' f r (sym heads) longer))
 
 module _ {A : Type 0} (L : Language A) where
-  -- a longer front is no viable prefix
   not_longer : (f r f' r' : List Lexeme) → Fails L f r → IsViablePrefix L f' → Longer f r f' r' → ⊥
   not_longer f r f' r' fails viable longer =
       let at_next : Fails L f (longer.next ∷ (longer.more ++ r')) = subst (Fails L f) longer.left fails in

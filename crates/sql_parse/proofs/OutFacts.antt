@@ -1,4 +1,4 @@
--- The outputs of entries, column by column and entry by entry, and what is gathered of a list of outputs.
+-- The outputs of entries are built column by column and entry by entry. The lemmas say what `Selected` has of a list of outputs.
 use Rattle.std.proofs.Common.{◌≡◌, ℕ, suc, ◌+◌, ◌<◌, ◌≤◌, List, [], ◌∷◌, ◌++◌, length, drop, get_or, Option, Some, None, ap, subst, sym, ◌∙◌, refl, append_assoc, arith, length-append}
 use Rattle.std.specs.Prelude.{slice_get}
 use Rattle.std.specs.List.{flat_map}
@@ -48,7 +48,6 @@ pub columns_counted : (entry number : ℕ) (xs : List Column) → length (outs_f
 columns_counted entry number [] = refl
 columns_counted entry number (x ∷ xs) = ap suc (columns_counted entry (number + 1) xs)
 
--- by what stands in the schema at an entry's table
 pub outs_at : (binder : Binder) (e : Entry) (table : Option Table) → table ≡ slice_get (schema_of binder).tables e.table → outs_of_table e.number table ≡ outs_of_entry_by binder e
 unfolding outs_of_entry_by outs_of_entry
 outs_at binder e table is = ap (outs_of_table e.number) is
@@ -67,7 +66,7 @@ few_columns schema i table valid found =
 
 -- ---- what is gathered
 
--- these outputs were counted, and built where neither limit is passed
+-- the outputs are always counted; they were built if neither the limit on outputs nor the limit on FROM entries is passed
 pub record IsGathered (binder : Binder) (found : Selected) (list : List Out) : Type 0 where
   pub count : found.count ≡ capped (length list)
   pub outs : length (from_of binder) ≤ 12 → found.count ≤ most_outputs → found.outs ≡ list
@@ -82,7 +81,6 @@ module _ (binder : Binder) where
 
   -- ---- the entries of FROM
 
-  -- the outputs of the entries before this number
   abbrev pub outs_before : ℕ → List Out
   outs_before number = flat_map (outs_of_entry_by binder) (in_scope (from_of binder) (record { first = 0; end = number }))
 

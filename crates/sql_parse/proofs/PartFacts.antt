@@ -1,4 +1,4 @@
--- The conditions and sources of the part at hand, and of those behind it.
+-- The lemmas are about the conditions and sources of part i of FROM, and about those of the parts after it.
 use Rattle.std.proofs.Common.{◌≡◌, ℕ, suc, ◌+◌, ◌<◌, List, ◌++◌, length, drop, get_or, ap, ◌∙◌, arith}
 use Rattle.std.proofs.lemmas.Grind.{flat_map-append}
 use Rattle.std.proofs.lemmas.List.{length-append, length-map}

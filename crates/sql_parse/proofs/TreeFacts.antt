@@ -1,4 +1,4 @@
--- What the FROM entries of a syntax tree are to the binder.
+-- The lemmas find the FROM entries of a syntax tree, and say what follows for a binder that has these entries.
 use Rattle.std.proofs.Common.{◌≡◌, ℕ, ◌≤◌, All, List, [], ◌∷◌, length, map, None, Result, Ok, Err, ap, subst, sym, ◌∙◌, arith}
 use Rattle.std.specs.Prelude.{IfErr}
 use Rattle.std.specs.List.{flat_map}

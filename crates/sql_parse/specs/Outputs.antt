@@ -1,4 +1,4 @@
--- The outputs of a query, as the code that builds them knows the schema, the text and FROM.
+-- The outputs of a query. The binder has the schema, the text and the FROM entries.
 use Rattle.std.specs.Prelude.{ℕ, ◌-◌, ◌^◌, min, List}
 use Rattle.std.specs.List.{flat_map}
 use Rattle.query_grammar.specs.declared.tree.OutNode.{OutNode}
@@ -23,6 +23,6 @@ outs_by binder out = outs_of (schema_of binder) binder.text.now (from_of binder)
 unfoldable pub selected_by : Binder → OutsNode → List Out
 selected_by binder outs = selected (schema_of binder) binder.text.now (from_of binder) outs
 
--- a number as 64 bits hold it
+-- the number, or 2^64 - 1 if the number is larger
 abbrev pub capped : ℕ → ℕ
 capped n = min n (2 ^ 64 - 1)

@@ -16,26 +16,26 @@ use Rattle.query_types.specs.declared.types.Query.{Query}
 use Rattle.query_names.specs.Numbers.{number_offences}
 use Rattle.sql_parse.specs.QueryOrRefusal.{query_or_refusal, refusal}
 
--- the tokens of a text, as grammars read them
+-- the tokens of a text, as `Lexeme`s, which grammars take
 abbrev pub lexemes_of : List ℕ → List Token → List Lexeme
 lexemes_of text tokens = map (lexeme_of text) tokens
 
--- at most so many parentheses may be open at one place
+-- the most parentheses that may be open at one place
 abbrev pub most_nesting : ℕ
 most_nesting = 64
 
--- a place, or the first of others where that is less
+-- a place, or the first of the other places if that is less
 abbrev pub least : ℕ → List ℕ → ℕ
 least place [] = place
 least place (other ∷ rest) = min place other
 
--- the first of these places is refused, else the answer stands
+-- if there are places of wrong numbers, the answer is a refusal at the first of these places; otherwise the answer stays
 abbrev pub unless_number : List ℕ → Result Query QueryError → Result Query QueryError
 unless_number [] answer = answer
 unless_number (place ∷ rest) answer = Err (error.Syntax place)
 
 module _ (schema : Schema) (text : List ℕ) (answer : Result Query QueryError) where
-  -- the text can't be cut into tokens, and goes wrong at this place
+  -- the text can't be cut into tokens, and goes wrong at `place`
   pub record IsUnlexed : Type 0 where
     pub place : ℕ
     pub bad : IsBad text place
@@ -48,7 +48,7 @@ module _ (schema : Schema) (text : List ℕ) (answer : Result Query QueryError) 
     pub deep : most_nesting < nesting (lexemes_of text tokens)
     pub refused : answer ≡ Err (refusal limit.Nesting (nesting (lexemes_of text tokens)))
 
-  -- the tokens spell no query: the place where they go wrong, or that of a number outside the range before it
+  -- the tokens spell no query. The refusal has the place where they go wrong, or the place of a number outside the range if that comes before
   pub record IsUnspelled : Type 0 where
     pub tokens : List Token
     pub lexed : IsLexed text tokens
@@ -57,7 +57,7 @@ module _ (schema : Schema) (text : List ℕ) (answer : Result Query QueryError) 
     pub wrong : IsSyntaxPlace QuerySpecification (lexemes_of text tokens) (length text) place
     pub refused : answer ≡ Err (error.Syntax (least place (number_offences text (lexemes_of text tokens))))
 
-  -- the tokens spell a query: its names, kinds and limits decide, where no number is outside the range
+  -- the tokens spell a query. A number outside the range is refused first; otherwise names, kinds and limits decide the answer
   pub record IsSpelled : Type 0 where
     pub tokens : List Token
     pub lexed : IsLexed text tokens
@@ -66,6 +66,6 @@ module _ (schema : Schema) (text : List ℕ) (answer : Result Query QueryError) 
     pub spelled : QuerySpecification (lexemes_of text tokens) tree
     pub answered : answer ≡ unless_number (number_offences text (lexemes_of text tokens)) (query_or_refusal schema text tree)
 
-  -- want of memory may be answered at any time
+  -- the answers that a text may have. The answer that memory ran out may come at any time
   abbrev pub IsAnswer : Type 0
   IsAnswer = (answer ≡ Err error.NoMemory) ⊎ IsUnlexed ⊎ IsTooDeep ⊎ IsUnspelled ⊎ IsSpelled

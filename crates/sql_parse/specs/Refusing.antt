@@ -1,4 +1,4 @@
--- The refusals behind FROM, as the binder knows the schema, the text and FROM.
+-- The refusals of a query whose FROM entries are known. The binder has the schema, the text and the entries.
 use Rattle.std.specs.Prelude.{◌≡◌, ◌⊎◌, ℕ, List, [], ◌∷◌, ◌++◌, length, Option, Some, None, Result, Err}
 use Rattle.limits.specs.Profile.{most_conjuncts, most_entries, most_outputs}
 use Rattle.query_grammar.specs.declared.tree.QueryNode.{QueryNode}
@@ -13,7 +13,7 @@ use Rattle.query_names.specs.Binding.{from_of}
 use Rattle.sql_parse.specs.Behind.{names_behind, kinds_behind, lists_behind, conjuncts_by}
 use Rattle.sql_parse.specs.Outputs.{selected_by}
 
--- the limits that so many entries, the first list that is too long, and so many conjuncts and outputs pass
+-- ---- the limits that are passed, given the numbers of entries, conjuncts and outputs, and the length of the first list of IN that is too long
 abbrev pub too_long_list : Option ℕ → List QueryError
 too_long_list None = []
 too_long_list (Some n) = refusal limit.InValues n ∷ []
@@ -32,18 +32,18 @@ limits_by binder query =
     ++ over limit.Conjuncts most_conjuncts (length (conjuncts_by binder query))
     ++ over limit.Outputs most_outputs (length (selected_by binder query.outs))
 
--- kinds, then limits
+-- the refusals for kinds, then for limits
 unfoldable pub late_refusals : Binder → QueryNode → List QueryError
 late_refusals binder query = first_place kind_error (kinds_behind binder query) ++ limits_by binder query
 
--- names, then those
+-- the refusals for names, then for kinds and limits
 unfoldable pub refusals_behind : Binder → QueryNode → List QueryError
 refusals_behind binder query = first_place name_error (names_behind binder query) ++ late_refusals binder query
 
--- the first of these refusals; want of memory may come at any time
+-- `e` is the first of the refusals. The answer that memory ran out may come at any time
 abbrev pub IsFirstOf : List QueryError → QueryError → Type 0
 IsFirstOf refusals e = (e ≡ error.NoMemory) ⊎ (first refusals ≡ Some e)
 
--- the answer that is due; want of memory may come at any time
+-- the answer is the one that is due. The answer that memory ran out may come at any time
 abbrev pub Answers : Result Query QueryError → Result Query QueryError → Type 0
 Answers due answer = (answer ≡ Err error.NoMemory) ⊎ (answer ≡ due)

@@ -7,7 +7,7 @@ use Rattle.sql_tokens.specs.Words.{lexeme_of}
 use Rattle.query_names.specs.declared.errors.QueryError.{QueryError}
 use Rattle.query_names.specs.declared.errors.QueryError.TheVariants as error
 
--- these are the text's tokens, as grammars read them
+-- the list has the text's tokens, as `Lexeme`s, which grammars take
 pub record AreLexemes (text : List ℕ) (lexemes : List Lexeme) : Type 0 where
   pub tokens : List Token
   pub lexed : IsLexed text tokens
@@ -21,7 +21,7 @@ IsLexRefusal text (error.Name at) = ⊥
 IsLexRefusal text (error.Kind at) = ⊥
 IsLexRefusal text (error.Limit which found) = ⊥
 
--- a place, or another where that is less
+-- a place, or the other place if there is one and it is less
 abbrev pub least_of : ℕ → Option ℕ → ℕ
 least_of place None = place
 least_of place (Some other) = min place other

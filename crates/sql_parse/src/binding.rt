@@ -1,4 +1,4 @@
-//! What a syntax tree gives: a query, or the first thing that is wrong with its names, its kinds or its numbers.
+//! What a syntax tree gives: a query, or the first refusal, for a name, a kind or a limit.
 ghost use Rattle.std.specs.Prelude.{◌≡◌, [], Ok, Err, IfOk, IfErr};
 ghost use Rattle.schema_types.specs.Validity.{IsValid};
 ghost use Rattle.sql_tokens.specs.Words.{IsLexemeOf};
@@ -16,7 +16,7 @@ use query_types::{Cond, Out, Query};
 use schema_types::Schema;
 use std::alloc::Global;
 
-/// The FROM entries of a query text, or the first offence against names among them.
+/// The FROM entries of a query text, or the first name in FROM that offends.
 #[tactic(auto, using(crate::proofs::TreeFacts::sources_lie_in), unfolding(query_names::specs::Names::entries, query_names::specs::Names::from_offences))]
 fn entries_of(
     alloc: Global,
@@ -33,7 +33,7 @@ fn entries_of(
     read_entries(alloc, catalog, text, sources.as_slice())
 }
 
-/// The conjuncts and the outputs of a query whose FROM entries are in order, or the first refusal.
+/// The conjuncts and the outputs of a query whose FROM entries don't offend, or the first refusal.
 #[tactic(auto, using(crate::proofs::TreeFacts::behind_refused, crate::proofs::TreeFacts::answered, crate::proofs::TreeFacts::ends_within))]
 fn bind_behind(
     alloc: Global,

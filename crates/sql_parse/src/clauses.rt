@@ -1,4 +1,4 @@
-//! Names, kinds and the lengths of lists behind FROM.
+//! Checks names, kinds and the lengths of lists in the clauses of a query whose FROM entries are known: the SELECT list and the conditions.
 ghost use Rattle.std.specs.Prelude.{◌≡◌, ◌≤◌, ◌++◌, [], None, IfOk, IfErr, length};
 ghost use Rattle.std.specs.List.{flat_map};
 ghost use Rattle.limits.specs.Profile.{most_outputs};
@@ -20,8 +20,8 @@ use query_grammar::QueryNode;
 use query_names::{Binder, HeldOffences, QueryError, Visible};
 use query_types::Cond;
 
-/// Looks at the SELECT list, whose outputs it gathers, and then at all conditions, and adds the conjuncts where the
-/// query has not too many entries and no list of IN is too long.
+/// Looks at the SELECT list and gathers its outputs. Then looks at all conditions. It adds the conjuncts if the query doesn't have too many entries
+/// and no list of IN is too long.
 #[tactic(auto, using(crate::proofs::BehindFacts::no_name, crate::proofs::BehindFacts::name_in_outs, crate::proofs::BehindFacts::name_in_parts, crate::proofs::BehindFacts::name_in_filter, crate::proofs::BehindFacts::kinds_behind_are, crate::proofs::BehindFacts::lists_behind_are, crate::proofs::BehindFacts::conjuncts_are_both), unfolding(query_grammar::specs::Lexemes::IsQueryOf))]
 pub fn check_clauses(
     binder: &Binder<'_>,

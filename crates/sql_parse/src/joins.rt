@@ -1,4 +1,4 @@
-//! The conditions of a query text, each with the entries in scope there.
+//! The conditions of a query text, each with the entries that are in scope at its place.
 ghost use Rattle.std.specs.Prelude.{◌≡◌, ◌≤◌, ◌+◌, ◌++◌, [], All, None, IfOk, IfErr, length};
 ghost use Rattle.std.specs.List.{flat_map};
 ghost use Rattle.sql_tokens.specs.Words.{IsLexemeOf};
@@ -12,8 +12,7 @@ use query_grammar::{CondNode, JoinedNode};
 use query_names::{Binder, HeldOffences, QueryError, Visible};
 use query_types::Cond;
 
-/// Looks at a condition, and adds its members where the query has not too many entries, and no list of IN up to
-/// here is too long.
+/// Looks at a condition. It adds the condition's members if the query doesn't have too many entries and no list of IN up to here is too long.
 #[tactic(auto, unfolding(query_names::specs::Binding::names_in, query_names::specs::Binding::kinds_in, query_names::specs::Binding::lists_in, query_names::specs::Binding::members_in))]
 pub fn look_at_condition(
     binder: &Binder<'_>,

@@ -1,13 +1,12 @@
 //! Query texts: from the bytes of a query file to a query over a schema, or the first refusal.
 //!
-//! This is the stage after the schema is read (`schema_types`). The crates below it make the tokens of the text
+//! This is the stage after the schema is read (`schema_types`). The crates below this crate make the tokens of the text
 //! (`sql_tokens`), the syntax tree (`query_grammar`), and the meaning of names and conditions (`query_names`). This crate
-//! reads outputs, tests limits, and puts all refusals in order. It answers a `Query` of `query_types`.
+//! reads outputs, tests limits, and puts all refusals in order. The answer is a `Query` of `query_types`.
 //!
-//! Callers cite three definitions. `IsAnswer` (in `specs/Reading.antt`) says what a text may be answered, and each
-//! refusal with its place; the law `one_answer` says that only one answer is possible, unless memory is wanting. `query_or_refusal`
-//! (in `specs/QueryOrRefusal.antt`) is the query of a syntax tree over a schema, or the first refusal. `IsOf` (in `query_types`)
-//! holds of every query that was read. So a caller writes
+//! Callers cite three definitions. `IsAnswer` (in `specs/Reading.antt`) says which answers a text may have, and gives each refusal with its place.
+//! The law `one_answer` says that only one answer is possible, unless memory runs out. `query_or_refusal` (in `specs/QueryOrRefusal.antt`) is the
+//! query of a syntax tree over a schema, or the first refusal. Every query that was read satisfies `IsOf` (of `query_types`). So a caller writes
 //!
 //! ```text
 //! let query = read_query(alloc, &schema, text)?;    // of a text of at most MOST_TEXT bytes

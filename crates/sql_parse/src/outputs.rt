@@ -1,4 +1,4 @@
-//! The outputs of a query (SQL-92 7.9), counted, and built while neither limit is passed.
+//! The outputs of a query (SQL-92 7.9). They are counted, and built as long as neither the limit on outputs nor the limit on FROM entries is passed.
 ghost use Rattle.std.specs.Prelude.{◌≡◌, ◌≤◌, ◌<◌, ◌+◌, ◌++◌, ◌∷◌, [], true, false, IfOk, length};
 ghost use Rattle.limits.specs.Profile.{most_outputs};
 ghost use Rattle.schema_types.specs.Validity.{IsValid};
@@ -17,8 +17,8 @@ use schema_types::Column;
 use sql_tokens::name;
 use std::alloc::Global;
 
-/// How many outputs were found, or `u64::MAX` where they are more, and themselves while neither the limit on them
-/// nor that on FROM entries is passed.
+/// How many outputs were found, or `u64::MAX` if there are more. `outs` has the outputs, as long as neither the limit on outputs nor the limit on FROM
+/// entries is passed.
 #[derive(Drop)]
 pub struct Selected {
     pub outs: Seq<Out>,
@@ -26,7 +26,7 @@ pub struct Selected {
 }
 
 impl Selected {
-    /// None yet. It takes no memory.
+    /// No outputs yet. The call takes no memory.
     pub fn new(alloc: Global) -> Selected
         ensures outs { result.outs ≡ [] }
         ensures count { result.count ≡ 0 }
@@ -37,7 +37,7 @@ impl Selected {
         }
     }
 
-    /// Counts so many more, and says whether they are to be built: what is refused later takes no memory.
+    /// Counts `more` outputs, and says whether these are to be built. If a limit is passed, the query is refused later, so no memory is taken for them.
     fn admits(&mut self, binder: &Binder<'_>, more: u64) -> bool
         ensures count { self.new.count ≡ capped (self.old.count + more) }
         ensures outs { self.new.outs ≡ self.old.outs }

@@ -1,4 +1,4 @@
-//! The conditions of all parts of FROM, and that of WHERE.
+//! The conditions of all parts of FROM, and the condition of WHERE. A part is one item of the list in FROM with its joins.
 ghost use Rattle.std.specs.Prelude.{◌≡◌, ◌≤◌, ◌+◌, ◌++◌, [], All, None, IfOk, IfErr, IfSome, length};
 ghost use Rattle.std.specs.List.{flat_map};
 ghost use Rattle.sql_tokens.specs.Words.{IsLexemeOf};
@@ -14,7 +14,7 @@ use query_grammar::{CondNode, PartNode};
 use query_names::{Binder, HeldOffences, QueryError};
 use query_types::Cond;
 
-/// Looks at the conditions of a part, whose first entry has this number. Hands back the next part's.
+/// Looks at the conditions of a part whose first entry has the number `first`. Returns the number of the next part's first entry.
 fn look_at_part(
     binder: &Binder<'_>,
     first: usize,

@@ -1,4 +1,4 @@
-//! The limits on queries, and the first refusal behind FROM.
+//! The limits on queries, and the first refusal of a query whose FROM entries are known.
 ghost use Rattle.std.specs.Prelude.{◌≡◌, ◌≤◌, Some, None, IfOk, IfErr, length};
 ghost use Rattle.std.specs.List.{flat_map};
 ghost use Rattle.schema_types.specs.Validity.{IsValid};
@@ -48,7 +48,7 @@ fn first_limit(
     }
 }
 
-/// The conjuncts and the outputs, or the first refusal behind FROM.
+/// The conjuncts and the outputs of a query whose FROM entries are known, or the first refusal: for a name, a kind or a limit.
 #[tactic(auto, using(crate::proofs::BindFacts::name_refused, crate::proofs::BindFacts::kind_refused))]
 pub fn behind_from(
     binder: &Binder<'_>,

@@ -1,4 +1,4 @@
--- The value of digits, where only values up to a greatest one are told apart.
+-- The value of digits is computed digit by digit with saturation at m: each value above m counts as m.
 use Rattle.std.proofs.Common.{◌≡◌, ℕ, ◌+◌, ◌-◌, ◌*◌, ◌<◌, ◌≤◌, min, List, [], ◌∷◌, length, get_or, drop, sym, ap, ◌∙◌, arith}
 use Rattle.std.proofs.lemmas.List.{drop_more, drop_all}
 use Rattle.sql_tokens.specs.Words.{digits_from}

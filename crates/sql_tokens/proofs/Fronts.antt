@@ -1,4 +1,4 @@
--- What a computed piece is, in the words of the relation.
+-- The piece that `piece` computes at the front of a text is a separator, a token or an offence, as `Lexing` defines them.
 use Rattle.std.proofs.Common.{◌≡◌, ◌≢◌, ℕ, ◌+◌, ◌≤◌, Bool, true, false, cond, ◌&&◌, eqb, ltb, List, [], ◌∷◌, ◌++◌, length, Option, Some, None, refl, sym, ap, ◌∙◌, subst, inl, inr, ⊎_elim, arith, append_assoc, length-append}
 use Rattle.std.proofs.lemmas.Bool.{and_parts, and_from, or_from, eqb-true, ltb-true, ltb-false, eqb-false, false≢true}
 use Rattle.std.specs.Prelude.{slice_index}
@@ -129,14 +129,12 @@ sees_name rest n c plain some = at c.body c.closes c.len plain where
     len = omega (arith, length-append (b ∷ body) (34 ∷ []));
   }
 
--- an identifier of no characters
 sees_empty : (rest : List ℕ) (n : ℕ) → ClosesAt 34 rest n → n ≡ 1 → Sees (34 ∷ rest) (piece_.Wrong 0)
 sees_empty rest n c one = at c.body c.closes (let l : n ≡ length c.body + 1 = c.len in omega arith) where
   at : (body : List ℕ) → Closes 34 rest body c.more → length body ≡ 0 → Sees (34 ∷ rest) (piece_.Wrong 0)
   at [] closes len = inr (inr (inl (record { more = c.more; whole = ap (λ (x : List ℕ). 34 ∷ x) closes.whole; ends = closes.ends; here = refl })))
   at (b ∷ body) closes len = absurd (omega arith)
 
--- where all up to the quote that closes is plain, the plain front is at least as long; else it ends at the first control character
 plain_len : (rest : List ℕ) (n : ℕ) (c : ClosesAt 34 rest n) → list_all is_plain c.body ≡ true → n ≤ prefix_len is_plain rest
 plain_len rest n c all =
     let e : prefix_len is_plain rest ≡ length c.body + prefix_len is_plain (34 ∷ c.more) = ap (prefix_len is_plain) c.closes.whole ∙ prefix_all is_plain c.body (34 ∷ c.more) all in

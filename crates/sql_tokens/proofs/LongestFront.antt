@@ -60,7 +60,7 @@ run_longest p token rest longer more same all ends all' =
 tails : (b c : ℕ) (xs ys : List ℕ) → b ∷ xs ≡ c ∷ ys → xs ≡ ys
 tails b c xs ys e = cc
 
--- of two bodies before one text, the one behind whose quote stands no further quote is the longer one
+-- no further quote stands after the quote that ends `body`, so this quote doesn't stand inside `other`
 body_longest : (q : ℕ) (body rest other more : List ℕ) → body ++ q ∷ rest ≡ other ++ q ∷ more → are_doubled q body ≡ true → begins_with (λ b. eqb b q) rest ≡ false → are_doubled q other ≡ true → length other ≤ length body
 body_longest q body rest other more same doubled ends doubled' =
     let e : further (length other) (closed q (q ∷ more)) ≡ Some (length body + 1) = sym (closed_front q other (q ∷ more) doubled') ∙ ap (closed q) (sym same) ∙ closes_len q body rest doubled ends in

@@ -1,4 +1,4 @@
--- The tokens of a text lie in it, one behind the other, and each is a text of its own.
+-- The tokens of a text lie in the text, one after the other, and the bytes of each token are valid UTF-8.
 use Rattle.std.proofs.Common.{◌≡◌, ℕ, suc, ◌+◌, ◌-◌, ◌<◌, ◌≤◌, Bool, true, false, List, [], ◌∷◌, ◌++◌, length, get_or, take, drop, refl, sym, ap, ◌∙◌, subst, inl, inr, arith, append_assoc, length-append}
 use Rattle.std.proofs.lemmas.Bool.{and_parts, false≢true}
 use Rattle.std.proofs.lemmas.List.{take_at, drop_at, get_or_at, length_push}

@@ -1,4 +1,4 @@
--- Where a quote is closed, as a relation and by computation.
+-- `Closes` says as a relation where a quote is closed, and `closed` computes it. The two agree.
 use Rattle.std.proofs.Common.{◌≡◌, ℕ, suc, ◌+◌, Bool, true, false, cond, ◌&&◌, eqb, List, [], ◌∷◌, ◌++◌, length, Option, Some, None, refl, sym, ap, ◌∙◌, inl, inr, ⊎_elim, arith}
 use Rattle.std.proofs.lemmas.Bool.{and_parts, eq-eqb, eqb-true, not-true}
 use Rattle.std.specs.Prelude.{◌⊎◌}
@@ -7,7 +7,6 @@ use Rattle.sql_tokens.specs.Lexing.{Closes}
 use Rattle.sql_tokens.specs.Pieces.{closed, further}
 use Rattle.sql_tokens.proofs.Closing.{further_further, no_quote, two_quotes, one_quote, last_quote, none_left}
 
--- two quotes in a row and others, or another character
 doubled_if : (same : Bool) (x y : Bool) → cond same x y ≡ true → ((same ≡ true) × (x ≡ true)) ⊎ ((same ≡ false) × (y ≡ true))
 doubled_if true x y e = inl (refl, e)
 doubled_if false x y e = inr (refl, e)
@@ -23,7 +22,6 @@ further_zero (Some n) = ap (λ (x : ℕ). Some x) (omega arith)
 further_same : (m n k : ℕ) (o : Option ℕ) → m + n ≡ k → further m (further n o) ≡ further k o
 further_same m n k o e = further_further m n o ∙ ap (λ (x : ℕ). further x o) e
 
--- behind a body the quote that closes is as much further on
 pub closed_front : (q : ℕ) (body tail : List ℕ) → are_doubled q body ≡ true → closed q (body ++ tail) ≡ further (length body) (closed q tail)
 closed_front q [] tail doubled = further_zero (closed q tail)
 closed_front q (b ∷ []) tail doubled = no_quote q b tail (not-true (eqb b q) doubled)

@@ -1,4 +1,4 @@
--- The walk over pieces and the relation agree.
+-- The walk over pieces (`tokens_at`) and the relation (`Leads` to an end or an offence) agree.
 use Rattle.std.proofs.Common.{◌≡◌, ℕ, zero, suc, ◌+◌, ◌<◌, ◌≤◌, false, List, [], ◌∷◌, ◌++◌, length, drop, Ok, Err, refl, sym, ap, ◌∙◌, subst, inl, inr, arith, length-append, length-drop}
 use Rattle.std.proofs.lemmas.Bool.{false≢true}
 use Rattle.std.proofs.lemmas.List.{drop_at, append-nil}
@@ -14,7 +14,7 @@ use Rattle.sql_tokens.proofs.Fronts.{Sees, sees_piece}
 use Rattle.sql_tokens.proofs.Computed.{gap_piece, token_piece, offence_piece}
 use Rattle.sql_tokens.proofs.Walk.{tokens_step, piece_long, IsLong, walk_start}
 
--- ---- what the walk gives is so
+-- ---- the answer of the walk satisfies the relation
 
 abbrev pub IsTold : ℕ → List ℕ → Walked → Type 0
 IsTold at text (Ok tokens) = Leads at text tokens (at + length text) []
@@ -56,7 +56,7 @@ told_token at text bytes rest k (Err place) whole form ends told = record {
   here = told.here;
 }
 
--- what is told of what follows n bytes, where these are the bytes of the piece
+-- `walked` is the walk's answer from the place after the first n bytes on, and these bytes are the piece
 told_on : (at n : ℕ) (text bytes rest : List ℕ) (walked : Walked) → text ≡ bytes ++ rest → n ≡ length bytes → IsTold (at + n) (drop n text) walked → IsTold (at + length bytes) rest walked
 told_on at n text bytes rest walked whole len told =
     let left : drop n text ≡ rest = ap (drop n) whole ∙ drop_at bytes rest n (sym len) in
@@ -87,7 +87,7 @@ told_up_to (suc n) at (b ∷ rest) le =
 pub told : (at : ℕ) (text : List ℕ) → IsTold at text (tokens_at at text)
 told at text = told_up_to (length text) at text (omega arith)
 
--- ---- the walk gives what is so
+-- ---- an answer that satisfies the relation is the answer of the walk
 
 separator_len : (bytes rest : List ℕ) → IsSeparator bytes rest → 0 < length bytes
 separator_len bytes rest (inl s) = let l = ap length s.whole in omega arith

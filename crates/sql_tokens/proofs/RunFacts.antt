@@ -1,4 +1,4 @@
--- Runs of characters that pass a test.
+-- A run is the longest front of a text whose characters all pass a test.
 use Rattle.std.proofs.Common.{◌≡◌, ℕ, ◌+◌, Bool, true, false, List, [], ◌∷◌, ◌++◌, length, refl, ap, ◌∙◌, inl, inr, arith}
 use Rattle.std.proofs.lemmas.Bool.{and_parts, and_from}
 use Rattle.std.specs.Prelude.{◌⊎◌}
@@ -15,7 +15,6 @@ pub prefix_none : (p : ℕ → Bool) (rest : List ℕ) → begins_with p rest �
 prefix_none p [] ends = refl
 prefix_none p (b ∷ rest) ends = rw ends refl
 
--- the longest front whose characters all pass
 pub record IsRun (p : ℕ → Bool) (rest : List ℕ) : Type 0 where
   pub front : List ℕ
   pub more : List ℕ
@@ -34,7 +33,6 @@ run p (b ∷ rest) = one_more p b rest (p b) refl (run p rest)
 pub run_len : (p : ℕ → Bool) (front more rest : List ℕ) → rest ≡ front ++ more → list_all p front ≡ true → begins_with p more ≡ false → prefix_len p rest ≡ length front
 run_len p front more rest whole all ends = ap (prefix_len p) whole ∙ prefix_all p front more all ∙ ap (λ (n : ℕ). length front + n) (prefix_none p more ends) ∙ omega arith
 
--- all pass, or there is a first one that does not
 pub record HasFirst (p : ℕ → Bool) (bytes : List ℕ) : Type 0 where
   pub front : List ℕ
   pub stop : ℕ

@@ -1,4 +1,4 @@
--- Comparing a word with a table of words.
+-- A word is compared with the words of a table.
 use Rattle.std.proofs.Common.{◌≡◌, ◌≢◌, ℕ, suc, ◌+◌, ◌<◌, Bool, true, false, ◌&&◌, eqb, List, [], ◌∷◌, length, get_or, drop, refl, sym, ap, ◌∙◌, arith}
 use Rattle.std.proofs.lemmas.Bool.{eq-eqb, ne_eqb}
 use Rattle.std.proofs.lemmas.List.{drop_more, drop_all}
@@ -10,7 +10,6 @@ and_false : (a b : Bool) → false ≡ b → false ≡ (a && b)
 and_false true b e = e
 and_false false b e = refl
 
--- words of two lengths differ
 pub other_length : (word bytes : List ℕ) → length word ≢ length bytes → false ≡ bytes_eq word (in_upper_case bytes)
 other_length [] [] ne = absurd (ne refl)
 other_length [] (b ∷ bytes) ne = refl

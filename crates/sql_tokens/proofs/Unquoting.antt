@@ -1,4 +1,4 @@
--- Taking doubled quotes for single ones, part by part.
+-- `unquote` takes two quotes in a row for one, part by part.
 use Rattle.std.proofs.Common.{◌≡◌, ◌≢◌, ℕ, suc, ◌+◌, ◌<◌, List, [], ◌∷◌, ◌++◌, length, get_or, drop, refl, sym, subst, ap, ◌∙◌, arith, append_assoc}
 use Rattle.std.proofs.lemmas.Bool.{eq-eqb, ne_eqb}
 use Rattle.std.proofs.lemmas.List.{append-nil, get_or_at, length-append, drop_at, length_push}
@@ -6,7 +6,6 @@ use Rattle.std.proofs.lemmas.Str.{IsCharBoundary-after_ascii, IsUtf8-drop}
 use Rattle.std.specs.Str.{IsUtf8, IsCharBoundary}
 use Rattle.sql_tokens.specs.Words.{unquoted, in_upper_case, name_of_bytes, literal_of_bytes}
 
--- no quote stands among these
 abbrev pub IsFree : ℕ → List ℕ → Type 0
 IsFree q bytes = (i : ℕ) → i < length bytes → get_or bytes i 0 ≢ q
 
@@ -55,7 +54,6 @@ pub literal_of_plain : (bytes : List ℕ) → ((rest : List ℕ) → bytes ≢ 3
 literal_of_plain [] other = refl
 literal_of_plain (b ∷ rest) other = rw (ne_eqb b 39 (λ e. other rest (ap (λ (x : ℕ). x ∷ rest) e))) refl
 
--- what follows a doubled quote is a text
 pub rest_utf8 : (q : ℕ) (before after more rest : List ℕ) → rest ≡ before ++ q ∷ after → after ≡ q ∷ more → q < 128 → IsUtf8 rest → IsUtf8 more
 rest_utf8 q before after more rest split pair ascii utf8 =
     let whole : rest ≡ (before ++ q ∷ []) ++ q ∷ more = split ∙ ap (λ (x : List ℕ). before ++ q ∷ x) pair ∙ sym (append_assoc before (q ∷ []) (q ∷ more)) in

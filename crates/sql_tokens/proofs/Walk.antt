@@ -1,4 +1,4 @@
--- A walk over the pieces of a text.
+-- A walk takes the pieces of a text one after another. A separator or a token has at least one byte, so the walk ends.
 use Rattle.std.proofs.Common.{◌≡◌, ℕ, zero, suc, ◌+◌, ◌≤◌, Bool, true, false, cond, ◌&&◌, eqb, ltb, List, [], ◌∷◌, ◌++◌, length, drop, Option, Some, None, Ok, Err, refl, sym, ap, ◌∙◌, arith, append_assoc}
 use Rattle.std.proofs.lemmas.List.{length-drop, append-nil}
 use Rattle.std.specs.List.{prefix_len}
@@ -11,7 +11,6 @@ use Rattle.sql_tokens.specs.declared.pieces.Piece.TheVariants as piece_
 use Rattle.sql_tokens.specs.Tokens.{is_blank, is_letter, is_digit, is_plain, is_sign, is_pair}
 use Rattle.sql_tokens.specs.Pieces.{closed, identifier_to, identifier, literal_to, literal, symbol, piece, Walked, before, step, pieces_up_to, tokens_at, with_front}
 
--- no piece is empty
 abbrev pub IsLong : Piece → Type 0
 IsLong (piece_.Gap n) = 1 ≤ n
 IsLong (piece_.Token k n) = 1 ≤ n

@@ -1,4 +1,4 @@
--- Whole texts: what the walk behind the byte order mark gave is what the relation says.
+-- For a whole text, the walk starts after the byte order mark. Its answer is the one that the relation allows.
 use Rattle.std.proofs.Common.{◌≡◌, ℕ, suc, ◌+◌, ◌-◌, ◌≤◌, Bool, true, false, cond, ◌&&◌, eqb, List, [], ◌∷◌, length, take, drop, Ok, Err, Result, IfOk, IfErr, refl, sym, ap, ◌∙◌, subst, inl, inr, arith, length-drop}
 use Rattle.std.proofs.lemmas.Bool.{and_parts, eqb-true, false≢true}
 use Rattle.std.proofs.lemmas.List.{take_rest, take-append-drop, length-take-le}
@@ -43,7 +43,7 @@ unmarked_utf8 (b ∷ []) utf8 = utf8
 unmarked_utf8 (b ∷ c ∷ []) utf8 = utf8
 unmarked_utf8 (b ∷ c ∷ d ∷ rest) utf8 = marked b c d rest (eqb b 239 && (eqb c 187 && eqb d 191)) refl utf8
 
--- ---- what was given
+-- ---- the walk's answer for a whole text
 
 unmarked_len : (text : List ℕ) → mark_len text + length (drop (mark_len text) text) ≡ length text
 unmarked_len text = omega (arith, length-drop (mark_len text) text, mark_within text)
@@ -60,7 +60,6 @@ lexed text tokens utf8 e = record {
 refused : (text : List ℕ) (at : ℕ) → IsUtf8 text → tokens_at (mark_len text) (drop (mark_len text) text) ≡ Err at → IsBadToken text at
 refused text at utf8 e = record { utf8 = utf8; offence = told_whole text (Err at) e }
 
--- the bytes from the mark on, as they are cut from the text
 cut_is : (text : List ℕ) (start : ℕ) → start ≡ mark_len text → tokens_at start (take (length text - start) (drop start text)) ≡ tokens_at (mark_len text) (drop (mark_len text) text)
 cut_is text start e = ap (tokens_at start) (take_rest text start) ∙ ap (λ (n : ℕ). tokens_at n (drop n text)) e
 

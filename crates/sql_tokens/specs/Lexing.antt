@@ -10,7 +10,7 @@ use Rattle.sql_tokens.specs.declared.token.LexError.TheVariants as error
 use Rattle.sql_tokens.specs.Words.{slice}
 use Rattle.sql_tokens.specs.Tokens.{is_plain, is_quote, begins_some, begins_with, are_doubled, IsToken, goes_on, IsSeparator}
 
--- at the place `at` the rest of the text is `text`; behind separators and these tokens, at the place `to`, the rest is `last`
+-- separators and the tokens lead from the place `at`, where the rest of the text is `text`, to the place `to`, where the rest of the text is `last`
 pub data Leads : ℕ → List ℕ → List Token → ℕ → List ℕ → Type 0 where
   stay : (at : ℕ) (text : List ℕ) → Leads at text [] at text
   over_gap : (at : ℕ) (text bytes rest : List ℕ) (tokens : List Token) (to : ℕ) (last : List ℕ)
@@ -23,7 +23,7 @@ pub data Leads : ℕ → List ℕ → List Token → ℕ → List ℕ → Type 0
 
 -- ---- offences
 
--- behind the quote that opens: a body, the quote that closes, and what follows
+-- after the opening quote stand a body, the closing quote, and then `more`
 pub record Closes (quote : ℕ) (rest body more : List ℕ) : Type 0 where
   pub whole : rest ≡ body ++ quote ∷ more
   pub doubled : are_doubled quote body ≡ true
@@ -37,7 +37,7 @@ pub record BeginsNone (text : List ℕ) (offset : ℕ) : Type 0 where
   pub none : begins_some first ≡ false
   pub here : offset ≡ 0
 
--- a quote that nothing closes
+-- a quote that is never closed
 pub record IsUnclosed (text : List ℕ) (offset : ℕ) : Type 0 where
   pub quote : ℕ
   pub rest : List ℕ
@@ -66,11 +66,11 @@ pub record HoldsControl (text : List ℕ) (offset : ℕ) : Type 0 where
   pub is : is_plain control ≡ false
   pub here : offset ≡ 1 + length front
 
--- the text goes wrong at its front, at this place
+-- the text goes wrong in its first piece, after `offset` bytes
 abbrev pub IsOffence : List ℕ → ℕ → Type 0
 IsOffence text offset = BeginsNone text offset ⊎ (IsUnclosed text offset ⊎ (IsEmptyName text offset ⊎ HoldsControl text offset))
 
--- over separators and tokens to an offence
+-- separators and tokens lead to an offence
 pub record IsOffenceAt (start : ℕ) (text : List ℕ) (at : ℕ) : Type 0 where
   pub tokens : List Token
   pub to : ℕ
@@ -87,12 +87,12 @@ abbrev pub mark_len : List ℕ → ℕ
 mark_len (b ∷ c ∷ d ∷ rest) = if (b == 239) && ((c == 187) && (d == 191)) then 3 else 0
 mark_len text = 0
 
--- these are the tokens of the text
+-- the list has the tokens of the text
 pub record IsLexed (text : List ℕ) (tokens : List Token) : Type 0 where
   pub utf8 : IsUtf8 text
   pub leads : Leads (mark_len text) (drop (mark_len text) text) tokens (length text) []
 
--- the text is no UTF-8, and its first bad sequence begins here
+-- the text isn't UTF-8, and its first bad sequence begins at `at`
 pub record IsBadUtf8 (text : List ℕ) (at : ℕ) : Type 0 where
   pub bad : IsUtf8 text → ⊥
   pub here : at ≡ utf8_valid_len text
@@ -105,16 +105,16 @@ pub record IsBadToken (text : List ℕ) (at : ℕ) : Type 0 where
 abbrev pub IsBad : List ℕ → ℕ → Type 0
 IsBad text at = IsBadUtf8 text at ⊎ IsBadToken text at
 
--- what may be answered in place of tokens
+-- an error that may be answered in place of tokens
 abbrev pub IsRefusal : List ℕ → LexError → Type 0
 IsRefusal text (error.Bad at) = IsBad text at
 IsRefusal text error.NoMemory = ⊤
 
--- the tokens stand one behind the other between two places, and none is empty
+-- the tokens stand one after the other between two places, and each token has at least one byte
 abbrev pub TokensAreInOrder : ℕ → ℕ → List Token → Type 0
 TokensAreInOrder at end [] = at ≤ end
 TokensAreInOrder at end (t ∷ ts) = (at ≤ t.start) × (t.start < t.end) × TokensAreInOrder t.end end ts
 
--- the part of the text that the token is has the form of its kind
+-- the bytes of the token in the text have the form of the token's kind
 abbrev pub HasItsForm : List ℕ → Token → Type 0
 HasItsForm text token = IsToken token.kind (slice text token.start token.end)

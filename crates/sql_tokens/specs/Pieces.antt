@@ -1,5 +1,5 @@
--- The same by computation: what stands at the front of a text, and a walk over it. The code keeps to this, and
--- `Lexing` says what it comes to.
+-- The tokens of a text by computation: what stands at the front of a text (a piece), and a walk from piece to piece. The code computes exactly this, and
+-- proofs show that the result is what `Lexing` says.
 use Rattle.std.specs.Prelude.{◌≡◌, ℕ, zero, suc, ◌+◌, ◌<◌, ◌≤◌, Bool, ◌&&◌, ◌==◌, nat_lt, if◌then◌else◌, List, [], ◌∷◌, ◌++◌, length, drop, slice_index, Option, Some, None, Result, Ok, Err, ⊤}
 use Rattle.std.specs.List.{prefix_len}
 use Rattle.sql_tokens.specs.declared.token.Token.{Token}
@@ -22,14 +22,14 @@ abbrev pub further : ℕ → Option ℕ → Option ℕ
 further k None = None
 further k (Some n) = Some (k + n)
 
--- the number of bytes up to the quote that closes, with it
+-- the number of bytes up to the closing quote, including this quote
 unfoldable pub closed : ℕ → List ℕ → Option ℕ
 closed quote [] = None
 closed quote (b ∷ []) = if b == quote then Some 1 else None
 closed quote (b ∷ c ∷ rest) = if b == quote then (if c == quote then further 2 (closed quote rest) else Some 1)
     else further 1 (closed quote (c ∷ rest))
 
--- behind the quote that opens a delimited identifier, which is closed so many bytes on
+-- the piece of a delimited identifier, from the number of bytes up to its closing quote and the bytes after its opening quote
 abbrev pub identifier_to : Option ℕ → List ℕ → Piece
 identifier_to None rest = piece_.Wrong 0
 identifier_to (Some n) rest =
@@ -62,7 +62,7 @@ piece (b ∷ rest) =
     else (if (b == 45) && (slice_index rest 0 == 45) then piece_.Gap (prefix_len is_in_line rest + 1)
     else symbol b rest)))))
 
--- it takes a byte or more, and no more than there are
+-- a separator or a token has at least one byte, and at most all bytes that there are; an offence stands at one of these bytes
 abbrev pub Fits : Piece → ℕ → Type 0
 Fits (piece_.Gap n) len = (1 ≤ n) × (n ≤ len)
 Fits (piece_.Token k n) len = (1 ≤ n) × (n ≤ len)

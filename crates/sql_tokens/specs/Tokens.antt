@@ -67,18 +67,18 @@ is_symbol (b ∷ []) = is_sign b
 is_symbol (b ∷ c ∷ []) = is_pair b c
 is_symbol (b ∷ c ∷ d ∷ rest) = false
 
--- the quotes among these stand in pairs, one directly behind the other
+-- the quotes among the bytes stand in pairs, one directly after the other
 abbrev pub are_doubled : ℕ → List ℕ → Bool
 are_doubled quote [] = true
 are_doubled quote (b ∷ []) = not (b == quote)
 are_doubled quote (b ∷ c ∷ rest) = if b == quote then (c == quote) && are_doubled quote rest else are_doubled quote (c ∷ rest)
 
--- quote, body, quote, where each quote within is doubled
+-- a quote, a body, and a quote, where each quote in the body is doubled
 pub record IsEnclosed (quote : ℕ) (bytes body : List ℕ) : Type 0 where
   pub whole : bytes ≡ quote ∷ (body ++ quote ∷ [])
   pub doubled : are_doubled quote body ≡ true
 
--- a delimited identifier: one or more characters in quotes, none below U+0020
+-- a delimited identifier: one or more characters in quotes, and no character below U+0020
 pub record IsIdentifier (bytes : List ℕ) : Type 0 where
   pub first : ℕ
   pub others : List ℕ
@@ -98,13 +98,13 @@ IsToken kind.Number bytes = is_number bytes ≡ true
 IsToken kind.Text bytes = IsLiteral bytes
 IsToken kind.Symbol bytes = is_symbol bytes ≡ true
 
--- a sign goes on to a symbol of two characters, or to a comment
+-- a sign and the byte after it make a symbol of two characters, or begin a comment
 abbrev pub sign_goes_on : List ℕ → List ℕ → Bool
 sign_goes_on (b ∷ []) (c ∷ rest) = is_pair b c || ((b == 45) && (c == 45))
 sign_goes_on bytes rest = false
 
--- the token could go on with what follows it: the longest token that fits is taken, and behind a quote that closes
--- stands no further quote
+-- the token could go on with the bytes after it, so it isn't the whole token: the longest token that fits is taken, and no further quote stands after a
+-- closing quote
 abbrev pub goes_on : TokenKind → List ℕ → List ℕ → Bool
 goes_on kind.Word bytes rest = begins_with is_word_byte rest
 goes_on kind.Quoted bytes rest = begins_with (λ b. b == 34) rest

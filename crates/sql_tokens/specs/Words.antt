@@ -11,7 +11,7 @@ use Rattle.sql_tokens.specs.declared.token.Token.{Token}
 use Rattle.sql_tokens.specs.declared.token.TokenKind.{TokenKind}
 use Rattle.sql_tokens.specs.declared.token.TokenKind.TheVariants as kind
 
--- the bytes of a text from the place `start` up to the place `end`, without the byte there
+-- the bytes of a text from the place `start` up to the place `end`, without the byte at `end`
 abbrev pub slice : List ℕ → ℕ → ℕ → List ℕ
 slice text start end = slice_range text start end
 
@@ -28,7 +28,7 @@ pub record IsLexemeOf (text : List ℕ) (lexeme : Lexeme) : Type 0 where
 
 -- ---- words
 
--- ASCII letters in upper case, all else as it is
+-- ASCII letters in upper case, and all other bytes as they are
 abbrev pub in_upper_case : List ℕ → List ℕ
 in_upper_case bytes = map to_ascii_uppercase bytes
 
@@ -50,7 +50,7 @@ grammar_words =
     ∷ (codes "KEY", terminal.Key) ∷ (codes "NO", terminal.No) ∷ (codes "ACTION", terminal.Action)
     ∷ (codes "CASCADE", terminal.Cascade) ∷ []
 
--- further reserved words of SQL-92: no rule asks for them, and they can't be names. Its others, like USER and CURRENT_DATE, are plain names here
+-- further reserved words of SQL-92: no rule asks for them, and they can't be names. Other reserved words, like USER and CURRENT_DATE, are plain names here
 abbrev pub reserved_words : List (List ℕ)
 reserved_words =
     codes "ALL" ∷ codes "ANY" ∷ codes "ASC" ∷ codes "BY" ∷ codes "CASE" ∷ codes "CAST" ∷ codes "CHECK" ∷ codes "CROSS"
@@ -125,7 +125,7 @@ lexeme_of text token = record {
 
 -- ---- names, text literals and numbers
 
--- the characters after an opening quote, up to the closing one; a doubled quote stands for one quote
+-- the characters after an opening quote, up to the closing quote; a doubled quote stands for one quote
 abbrev pub unquoted : ℕ → List ℕ → List ℕ
 unquoted quote [] = []
 unquoted quote (b ∷ []) = if b == quote then [] else b ∷ []
@@ -136,7 +136,7 @@ abbrev pub name_of_bytes : List ℕ → List ℕ
 name_of_bytes [] = []
 name_of_bytes (b ∷ rest) = if b == 34 then unquoted 34 rest else in_upper_case (b ∷ rest)
 
--- the name that a token stands for; names are equal if their lists are (SQL-92 5.2)
+-- the name that a token stands for, as its bytes. Names are equal if their bytes are equal (SQL-92 5.2)
 unfoldable pub name_of : List ℕ → Lexeme → List ℕ
 name_of text lexeme = name_of_bytes (slice text lexeme.start lexeme.end)
 
@@ -148,7 +148,7 @@ literal_of_bytes (b ∷ rest) = if b == 39 then unquoted 39 rest else b ∷ rest
 unfoldable pub literal_of : List ℕ → Lexeme → List ℕ
 literal_of text lexeme = literal_of_bytes (slice text lexeme.start lexeme.end)
 
--- the decimal value of these digits written after those of `value`
+-- the decimal value of the digits of `value` followed by these digits
 abbrev pub digits_from : ℕ → List ℕ → ℕ
 digits_from value [] = value
 digits_from value (b ∷ rest) = digits_from (value * 10 + (b - 48)) rest

@@ -1,11 +1,11 @@
-//! Words that are no names everywhere (SQL-92 5.2), and their terminals.
+//! Words that can't be names, or can't be names everywhere (SQL-92 5.2), and their terminals.
 ghost use Rattle.std.specs.Prelude.{◌≡◌, map};
 ghost use Rattle.std.specs.Str.{bytes_eq};
 ghost use Rattle.sql_tokens.specs.Words.{entry_of, in_upper_case, keywords, terminal_in};
 
 use ll_grammars::Terminal;
 
-// Each word in upper case, and what it is to a grammar.
+// Each word in upper case, with the terminal by which grammars know it.
 const KEYWORDS: &[(&str, Terminal)] = &[
     ("AND", Terminal::And),
     ("AS", Terminal::As),
@@ -71,7 +71,7 @@ const KEYWORDS: &[(&str, Terminal)] = &[
     ("VALUES", Terminal::Reserved),
 ];
 
-/// Whether the bytes are this word in upper or lower case.
+/// Whether the bytes are this word, which is in upper case, with each letter in either case.
 #[tactic(auto, using(crate::proofs::Spelling::other_length, crate::proofs::Spelling::one_letter_more, crate::proofs::Spelling::another_letter, crate::proofs::Spelling::no_letter_left))]
 fn is_spelled(word: &[u8], bytes: &[u8]) -> bool
     ensures { result ≡ bytes_eq word.now (in_upper_case bytes.now) }

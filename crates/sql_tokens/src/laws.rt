@@ -1,4 +1,4 @@
-//! What holds of every text and its tokens.
+//! Laws of every text and its tokens. These functions do nothing.
 ghost use Rattle.std.specs.Prelude.{◌≡◌, ℕ, ◌≤◌, List, ◌++◌, length, All, ◌⊎◌, false};
 ghost use Rattle.sql_tokens.specs.declared.token.Token.{Token};
 ghost use Rattle.sql_tokens.specs.declared.token.TokenKind.{TokenKind};
@@ -15,7 +15,7 @@ pub fn one_offence()
     ensures { (text : List ℕ) (at other : ℕ) → IsBad text at → IsBad text other → at ≡ other }
 {}
 
-/// A text with tokens goes nowhere wrong.
+/// A text that has tokens goes wrong nowhere.
 pub fn not_both()
     ensures { (text : List ℕ) (tokens : List Token) (at : ℕ) → IsLexed text tokens → IsBad text at → ⊥ }
 {}
@@ -25,17 +25,17 @@ pub fn each_text()
     ensures { (text : List ℕ) → ((tokens : List Token) × IsLexed text tokens) ⊎ ((at : ℕ) × IsBad text at) }
 {}
 
-/// The part of the text that a token is has the form of its kind.
+/// The bytes of a token in its text have the form of the token's kind.
 pub fn forms()
     ensures { (text : List ℕ) (tokens : List Token) → IsLexed text tokens → All (HasItsForm text) tokens }
 {}
 
-/// The spans of a text's tokens are in order, and none is empty.
+/// The spans of a text's tokens are in order, and no span is empty.
 pub fn spans()
     ensures { (text : List ℕ) (tokens : List Token) → IsLexed text tokens → TokensAreInOrder 0 (length text) tokens }
 {}
 
-/// The token that stands before what follows it is the longest front that has the form of a token.
+/// If a token can't go on with the bytes after it, it is the longest front of the text that has the form of a token.
 pub fn longest()
     ensures { (kind other : TokenKind) (token rest longer more : List ℕ) → IsToken kind token → goes_on kind token rest ≡ false
         → token ++ rest ≡ longer ++ more → IsToken other longer → length longer ≤ length token }

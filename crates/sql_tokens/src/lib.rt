@@ -1,12 +1,10 @@
-//! Tokens of schema and query texts (SQL-92 5.1 to 5.3, in this profile), and what they are to a
-//! grammar.
+//! Tokens of schema and query texts (SQL-92 5.1 to 5.3, in this profile), and their terminals, by which grammars know them.
 //!
-//! `tokens` lexes a text whole or says at which byte it goes wrong. `lexemes` gives each token its
-//! terminal, and `name`, `literal` and `number` read single ones.
+//! `tokens` finds the tokens of a whole text, or says at which byte the text goes wrong. `lexemes` gives each token its terminal. `name`, `literal` and
+//! `number` read a single token.
 //!
-//! Callers cite `IsLexed` and `IsBad` (which tokens a text has, and where it goes wrong), `lexeme_of`,
-//! `IsLexemeOf` (it lies in the text), `name_of`, `literal_of` and `number_of`. The laws are functions
-//! without a body.
+//! Callers cite `IsLexed` and `IsBad` (which tokens a text has, and where it goes wrong), `lexeme_of`, `IsLexemeOf` (a lexeme lies in the text),
+//! `name_of`, `literal_of` and `number_of`. The laws are functions without a body.
 #![tactic(auto)]
 
 mod keywords;

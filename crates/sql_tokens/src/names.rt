@@ -1,4 +1,4 @@
-//! The names, text literals and numbers that tokens are.
+//! The names, text literals and numbers that tokens stand for.
 ghost use Rattle.std.specs.Prelude.{◌≡◌, ◌<◌, ◌-◌, ◌^◌, IfOk, min, string_bytes};
 ghost use Rattle.sql_tokens.specs.Words.{IsLexemeOf, slice, name_of, literal_of, number_of, unquoted, name_of_bytes, literal_of_bytes};
 
@@ -17,7 +17,7 @@ fn part<'a>(text: &'a [u8], lexeme: &Lexeme) -> &'a str
     }
 }
 
-/// What stands before the quote that closes, each doubled quote single.
+/// The characters before the closing quote. Two quotes in a row stand for one quote.
 #[tactic(auto, using(crate::proofs::Unquoting::single_goes_on, crate::proofs::Unquoting::single_ends, crate::proofs::Unquoting::single_whole))]
 fn unquote(alloc: Global, quote: char, text: &str) -> Result<String, NoMemory>
     requires { quote < 128 }
@@ -57,8 +57,8 @@ fn literal_text(alloc: Global, bytes: &str) -> Result<String, NoMemory>
     }
 }
 
-/// The name that a token is: a word in upper case, or a delimited identifier as it is written, without
-/// its outer quotes and each doubled quote single (SQL-92 5.2).
+/// The name that a token stands for (SQL-92 5.2): a word in upper case, or the characters of a delimited identifier as they are written, without the
+/// outer quotes. Two quotes in a row stand for one.
 #[tactic(auto, unfolding(crate::specs::Words::name_of))]
 pub fn name(alloc: Global, text: &[u8], lexeme: &Lexeme) -> Result<Name, NoMemory>
     requires { IsLexemeOf text.now lexeme.now }
@@ -68,7 +68,7 @@ pub fn name(alloc: Global, text: &[u8], lexeme: &Lexeme) -> Result<Name, NoMemor
     Name::from_str(alloc, found.as_str())
 }
 
-/// The characters of a text literal, each doubled quote single (SQL-92 5.3).
+/// The characters of a text literal (SQL-92 5.3). Two quotes in a row stand for one.
 #[tactic(auto, unfolding(crate::specs::Words::literal_of))]
 pub fn literal(alloc: Global, text: &[u8], lexeme: &Lexeme) -> Result<Name, NoMemory>
     requires { IsLexemeOf text.now lexeme.now }
@@ -78,7 +78,7 @@ pub fn literal(alloc: Global, text: &[u8], lexeme: &Lexeme) -> Result<Name, NoMe
     Name::from_str(alloc, found.as_str())
 }
 
-/// The value of a number, or `u64::MAX` where it is larger.
+/// The value of a number, or `u64::MAX` if the value is larger.
 #[tactic(auto, using(crate::proofs::Digits::one_digit_more, crate::proofs::Digits::no_digit_more), unfolding(crate::specs::Words::number_of))]
 pub fn number(text: &[u8], lexeme: &Lexeme) -> u64
     requires { IsLexemeOf text.now lexeme.now }

@@ -7,7 +7,7 @@ ghost use Rattle.sql_tokens.specs.Pieces.{closed, identifier, literal, symbol, p
 use crate::TokenKind;
 use crate::runs::Run;
 
-/// What a text begins with, and its number of bytes; or the number of bytes after which it goes wrong.
+/// What a text begins with: a separator or a token, with its number of bytes, or an offence, with the number of bytes before it.
 #[derive(Clone, Copy, Debug)]
 pub enum Piece {
     Gap(usize),
@@ -15,7 +15,7 @@ pub enum Piece {
     Wrong(usize),
 }
 
-/// How many bytes there are up to the closing quote, with this quote.
+/// How many bytes there are up to the closing quote, including this quote.
 #[tactic(auto, using(crate::proofs::Closing::closed_keeps_one, crate::proofs::Closing::closed_keeps_two, crate::proofs::Closing::closed_last, crate::proofs::Closing::closed_here, crate::proofs::Closing::closed_never))]
 fn closed_len(quote: u8, bytes: &[u8]) -> Option<usize>
     ensures value { result ≡ closed quote bytes.now }
@@ -122,7 +122,7 @@ fn symbol_piece(first: u8, rest: &[u8]) -> Piece
     }
 }
 
-/// What the bytes begin with.
+/// What a text begins with, given its first byte and the other bytes.
 #[tactic(auto, unfolding(crate::specs::Pieces::piece))]
 pub fn piece_at(first: u8, rest: &[u8]) -> Piece
     requires { length rest.now < most_text }

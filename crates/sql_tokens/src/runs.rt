@@ -3,7 +3,7 @@ ghost use Rattle.std.specs.Prelude.{◌≡◌, ◌≤◌, length};
 ghost use Rattle.std.specs.List.{prefix_len};
 ghost use Rattle.sql_tokens.specs.Pieces.{is_in};
 
-/// A class of bytes: those of words, digits, all but LF, and all but control characters.
+/// A class of bytes: the bytes of words, digits, all bytes but LF, or all bytes but control characters.
 #[derive(Clone, Copy, Debug)]
 pub enum Run {
     Word,

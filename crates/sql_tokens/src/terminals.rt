@@ -98,7 +98,7 @@ fn lexeme(text: &[u8], token: &Token) -> Lexeme
     }
 }
 
-/// The tokens of a text as grammars read them.
+/// The tokens of a text, as `Lexeme`s, which grammars take.
 #[tactic(auto, using(crate::proofs::LexemeFacts::token_at, crate::proofs::LexemeFacts::lexemes_within))]
 pub fn lexemes(alloc: Global, text: &[u8], tokens: &[Token]) -> Result<Seq<Lexeme>, NoMemory>
     requires { All (IsTokenOf text.now) tokens.now }

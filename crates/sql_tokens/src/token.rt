@@ -28,7 +28,7 @@ pub struct Token {
 pub enum LexError {
     /// The text goes wrong at this byte.
     Bad { at: u32 },
-    /// Memory was wanting.
+    /// Memory ran out.
     NoMemory,
 }
 

@@ -1,4 +1,4 @@
--- A text has one answer, besides that memory is wanting.
+-- A text has at most one answer, apart from the answer that memory ran out.
 use Rattle.std.proofs.Common.{◌≡◌, ◌≢◌, ◌⊎◌, inl, inr, ℕ, ◌+◌, List, [], ◌∷◌, ◌++◌, length, refl, ap, sym, subst, ◌∙◌, append-nil, append_assoc}
 use Rattle.std.specs.Prelude.{codes, Result, Ok, Err}
 use Rattle.std.specs.List.{concat, AllByRecursion}
@@ -26,7 +26,7 @@ front_ended : (lines more : Lines) → AllEnded (lines ++ more) → AllEnded lin
 front_ended [] more are = tt
 front_ended (x ∷ lines) more (is, are) = (is, front_ended lines more are)
 
--- ---- the line behind those that were read
+-- ---- the line after the lines that were read
 
 with_line : (left line rest : List ℕ) (next : BeginsWithLine left line rest) → left ≡ next.text ++ (10 ∷ rest)
 with_line left line rest next = next.whole ∙ ap (λ (l : List ℕ). l ++ rest) next.ended ∙ append_assoc next.text (10 ∷ []) rest
@@ -39,7 +39,7 @@ one_line left a b rest other x y =
 no_line : (left line rest : List ℕ) → HasNoEnd left → BeginsWithLine left line rest → ⊥
 no_line left line rest none next = not_without 10 next.text rest (subst HasNoEnd (with_line left line rest next) none)
 
--- the bytes are read so far, and no file goes on with the next line
+-- no statistics file goes on with the next line
 record Stops (schema : Schema) (bytes : List ℕ) (lines : Lines) (left : List ℕ) : Type 0 where
   read : IsReadUpTo schema bytes lines left
   halts : (line rest : List ℕ) → BeginsWithLine left line rest → IsFrontOfFile schema (lines ++ (line ∷ [])) → ⊥
@@ -49,7 +49,7 @@ read_ended schema bytes lines left read =
     let begins = read.begins in
     front_ended lines begins.more (subst AllEnded (sym begins.whole) (lines_ended schema begins.file begins.keeps))
 
--- ---- of two lists of lines with which one text begins one is the front of the other
+-- ---- if a text begins with two lists of lines, one list is the front of the other
 
 record Behind (a b : Lines) (p q : List ℕ) : Type 0 where
   more : Lines
@@ -79,7 +79,6 @@ meet (x ∷ a) (y ∷ b) p q (is_x, are_a) (is_y, are_b) e = by (meet a b p q ar
     by (inl h) = inl (subst (λ (z : List ℕ). Behind (x ∷ a) (z ∷ b) p q) first (grown x a b p q h))
     by (inr h) = inr (subst (λ (z : List ℕ). Behind (z ∷ b) (x ∷ a) q p) first (grown x b a q p h))
 
--- where the one stops, the other does
 none_behind : (schema : Schema) (bytes : List ℕ) (a b : Lines) (p q : List ℕ) → Stops schema bytes a p → Stops schema bytes b q → Behind a b p q → (b ≡ a) × (p ≡ q)
 none_behind schema bytes a b p q stop other h = by h.more h.whole h.left h.are
   where
@@ -110,7 +109,6 @@ abbrev refused : StatsError → Result StatsFile StatsError
 refused why = Err why
 
 module _ (schema : Schema) (bytes : List ℕ) (good : IsValid schema) (columns : HasByteColumns schema) where
-  -- what a file goes on with, a text of the grammar does
   front_text : (lines : Lines) → IsFrontOfFile schema lines → IsFrontOfText lines
   front_text lines h = record { more = h.more; whole = subst IsText (sym h.whole) (file_is_text schema h.file (file_bytes schema h.file good columns h.keeps) h.keeps) }
 
@@ -133,7 +131,6 @@ module _ (schema : Schema) (bytes : List ℕ) (good : IsValid schema) (columns :
   same_line : (a b : Lines) (n m : ℕ) → a ≡ b → n ≡ length a + 1 → m ≡ length b + 1 → n ≡ m
   same_line a b n m e at_a at_b = at_a ∙ ap (λ (x : Lines). length x + 1) e ∙ sym at_b
 
-  -- a line is refused for one cause
   one_cause : (n m : ℕ) → IsSyntaxLine schema bytes n → IsRuleLine schema bytes m → ⊥
   one_cause n m h k = by h.wrong
     where

@@ -1,4 +1,4 @@
--- Two small texts over the schema of one table.
+-- The lemmas are about two small texts over the schema of one table.
 use Rattle.std.proofs.Common.{◌≡◌, ◌⊎◌, inl, inr, ℕ, List, [], ◌∷◌, ◌++◌, Result, Ok, Err, refl, sym, arith}
 use Rattle.std.specs.Prelude.{All, codes}
 use Rattle.std.specs.Fmt.{digits}
@@ -65,7 +65,6 @@ text_is = refl
 pub whole : stats_answer schema_of_e (codes "safebound-stats 1 1\ntable x45 0\npair x58 x58\nwhole -\nrest -\nend\n") ≡ Ok empty_file
 whole = rw (sym text_is) (written schema_of_e empty_file is_valid byte_columns empty_keeps)
 
--- the last line of a file is `end`
 last_same : {X : Type 0} (xs ys : List X) (x y : X) → xs ++ (x ∷ []) ≡ ys ++ (y ∷ []) → x ≡ y
 last_same [] [] x y e = cc
 last_same [] (z ∷ []) x y e = absurd (cc)

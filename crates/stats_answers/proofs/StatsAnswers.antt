@@ -1,4 +1,4 @@
--- The answer of a text is allowed, no want of memory, and the only one.
+-- The contract of `read_stats` allows `stats_answer`, it isn't the answer that memory ran out, and it is the only other answer.
 use Rattle.std.proofs.Common.{◌≡◌, ◌≢◌, ◌⊎◌, inl, inr, ℕ, List, Result, Ok, Err, refl, sym, subst}
 use Rattle.schema_types.specs.declared.types.Schema.{Schema}
 use Rattle.schema_types.specs.Validity.{IsValid}

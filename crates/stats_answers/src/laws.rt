@@ -1,4 +1,4 @@
-//! Laws of the answers of texts. None of them does anything when it runs.
+//! Laws of the answers of texts. These functions do nothing.
 ghost use Rattle.std.specs.Prelude.{◌≡◌, ◌≢◌, ◌⊎◌, ℕ, List, Result, Ok, Err};
 ghost use Rattle.schema_types.specs.declared.types.Schema.{Schema};
 ghost use Rattle.schema_types.specs.Texts.{IsSchemaOf};
@@ -12,9 +12,8 @@ ghost use Rattle.stats_file.specs.Rules.{KeepsRules};
 ghost use Rattle.stats_reading.specs.Names.{HasByteColumns};
 ghost use Rattle.stats_answers.specs.StatsTexts.{stats_answer};
 
-/// The text of a statistics file has one answer over a valid schema whose columns have names of bytes, `stats_answer`,
-/// besides that memory is wanting; a file that is answered keeps the rules and has this text; and a file that keeps the
-/// rules is what its own text answers.
+/// Over a valid schema whose columns have names of bytes, a text has one answer, `stats_answer`, apart from the answer that memory ran out. If the
+/// answer is a statistics file, this file keeps the rules and has this text. If a file keeps the rules, the answer of its text is this file.
 pub fn stats_texts()
     ensures allowed { (schema : Schema) (text : List ℕ) → IsValid schema → Answers schema text (stats_answer schema text) }
     ensures only { (schema : Schema) (text : List ℕ) (answer : Result StatsFile StatsError)

@@ -1,4 +1,4 @@
--- What the rules say of places.
+-- The rules say that the columns of a pair, which are given by their places, exist.
 use Rattle.std.proofs.Common.{◌≡◌, Some, Option, get_or, subst}
 use Rattle.std.specs.Prelude.{All, slice_get}
 use Rattle.std.proofs.lemmas.Option.{slice_get_within}
@@ -11,7 +11,6 @@ use Rattle.stats_file.specs.Rules.{IsSection}
 same_some : {X : Type 0} (a : Option X) (x y : X) → a ≡ Some x → a ≡ Some y → x ≡ y
 same_some a x y e f = cc
 
--- the pairs of a section name columns of its table
 pub have_columns : (schema : Schema) (section : TableStats) (table : Table) → IsSection schema section → slice_get schema.tables section.table ≡ Some table
     → All (HasColumns table) section.pairs
 have_columns schema section table keeps is k d lt =

@@ -1,4 +1,4 @@
--- The runs of the list for which pieces stand are these pieces.
+-- If pieces stand for a list, `runs_of` gives these pieces for the list.
 use Rattle.std.proofs.Common.{◌≡◌, ℕ, zero, suc, ◌+◌, ◌==◌, ◌<◌, ◌≤◌, true, false, List, [], ◌∷◌, ◌++◌, replicate, length, get_or, take, drop, ◌-◌, refl, ap, ◌∙◌, arith, add-one, if◌then◌else◌}
 use Rattle.std.proofs.lemmas.Bool.{eq-eqb}
 use Rattle.piece_math.specs.declared.pieces.Piece.{Piece}
@@ -9,20 +9,17 @@ use Rattle.std.proofs.lemmas.List.{take_all}
 use Rattle.stats_file.specs.Lines.{run_text, runs_text}
 use Rattle.stats_file.specs.Runs.{in_front, run_of, runs_of}
 
--- a value in front of runs that begin below it
 new_run : (v : ℕ) (ps : List Piece) → first_value ps < v → in_front v ps ≡ run_of v 1 ∷ ps
 new_run v [] lt = refl
 new_run v (p ∷ ps) lt =
     let other : (v == p.value) ≡ false = grind arith in
     ap (λ b. if b then run_of v (p.count + 1) ∷ ps else run_of v 1 ∷ (p ∷ ps)) other
 
--- a value in front of a run of its own
 same_run : (v k : ℕ) (ps : List Piece) → in_front v (run_of v k ∷ ps) ≡ run_of v (k + 1) ∷ ps
 same_run v k ps =
     let same : (v == v) ≡ true = eq-eqb v v refl in
     ap (λ b. if b then run_of v (k + 1) ∷ ps else run_of v 1 ∷ (run_of v k ∷ ps)) same
 
--- so many equal values in front of runs that begin below them
 one_run : (v k : ℕ) (list : List ℕ) (ps : List Piece) → runs_of list ≡ ps → first_value ps < v
     → runs_of (replicate (suc k) v ++ list) ≡ run_of v (suc k) ∷ ps
 unfolding runs_of
@@ -46,7 +43,6 @@ runs_found list ps are is = ap runs_of is ∙ runs_expanded ps are.falls
 abbrev next_text : Piece → List ℕ
 next_text next = codes " " ++ run_text next
 
--- the first run, and then the others
 pub first_and_others : (runs : List Piece) (d : Piece) → 0 < length runs
     → run_text (get_or runs 0 d) ++ flat_map next_text (take (length runs - 1) (drop 1 runs)) ≡ runs_text runs
 first_and_others [] d some = absurd (omega arith)

@@ -1,4 +1,4 @@
--- What the bytes of a file are answered, and the line of a refusal.
+-- Which answers the bytes of a file may have, and which line a refusal names.
 use Rattle.std.specs.Prelude.{ℕ, ◌≡◌, ◌≢◌, ◌+◌, ◌⊎◌, List, [], ◌∷◌, ◌++◌, length, All, Result, Ok, Err, ⊤}
 use Rattle.std.specs.List.{concat}
 use Rattle.schema_types.specs.declared.types.Schema.{Schema}
@@ -9,12 +9,12 @@ use Rattle.stats_file.specs.FileText.{file_lines, file_text}
 use Rattle.stats_file.specs.Grammar.{IsText}
 use Rattle.stats_file.specs.Rules.{KeepsRules}
 
--- some text of the grammar goes on from these lines
+-- some text of the grammar begins with these lines
 pub record IsFrontOfText (lines : List (List ℕ)) : Type 0 where
   pub more : List (List ℕ)
   pub whole : IsText (lines ++ more)
 
--- the text of some file that keeps the rules goes on from these lines
+-- the text of some file that keeps the rules begins with these lines
 pub record IsFrontOfFile (schema : Schema) (lines : List (List ℕ)) : Type 0 where
   pub file : StatsFile
   pub keeps : KeepsRules schema file
@@ -24,31 +24,31 @@ pub record IsFrontOfFile (schema : Schema) (lines : List (List ℕ)) : Type 0 wh
 abbrev pub HasNoEnd : List ℕ → Type 0
 HasNoEnd bytes = All (λ byte. byte ≢ 10) bytes
 
--- what is left begins with this line, its end included, and then comes the rest
+-- the bytes `left` begin with this line, including the line's end, and after it come the bytes `rest`
 pub record BeginsWithLine (left line rest : List ℕ) : Type 0 where
   pub text : List ℕ
   pub no_end : HasNoEnd text
   pub ended : line ≡ text ++ (10 ∷ [])
   pub whole : left ≡ line ++ rest
 
--- the bytes are lines with which the text of some file begins, and then what is left
+-- the bytes are lines with which the text of some file begins, and after them the bytes `left`
 pub record IsReadUpTo (schema : Schema) (bytes : List ℕ) (lines : List (List ℕ)) (left : List ℕ) : Type 0 where
   pub whole : bytes ≡ concat lines ++ left
   pub begins : IsFrontOfFile schema lines
 
--- the next line is one with which no text of the grammar goes on
+-- no text of the grammar has the next line after these lines
 pub record LeavesGrammar (lines : List (List ℕ)) (left : List ℕ) : Type 0 where
   pub line : List ℕ
   pub rest : List ℕ
   pub next : BeginsWithLine left line rest
   pub fails : IsFrontOfText (lines ++ (line ∷ [])) → ⊥
 
--- no further line ends, and the lines are no whole text with nothing behind it
+-- no further line ends in the bytes `left`, and it isn't so that the lines are a file's whole text and no bytes are left
 pub record EndsTooEarly (schema : Schema) (lines : List (List ℕ)) (left : List ℕ) : Type 0 where
   pub no_line : HasNoEnd left
   pub fails : (file : StatsFile) → KeepsRules schema file → lines ≡ file_lines schema file → left ≡ [] → ⊥
 
--- the first line with which no text goes on, or the line after the last one of a text that ends too early
+-- the number of the first line after which no text of the grammar goes on. If the text ends too early, it is the number of the line after its last line
 pub record IsSyntaxLine (schema : Schema) (bytes : List ℕ) (line : ℕ) : Type 0 where
   pub lines : List (List ℕ)
   pub left : List ℕ
@@ -56,7 +56,7 @@ pub record IsSyntaxLine (schema : Schema) (bytes : List ℕ) (line : ℕ) : Type
   pub here : line ≡ length lines + 1
   pub wrong : LeavesGrammar lines left ⊎ EndsTooEarly schema lines left
 
--- the first line with which no file's text goes on, though some text of the grammar does
+-- the number of the first line after which no file's text goes on, although a text of the grammar does
 pub record IsRuleLine (schema : Schema) (bytes : List ℕ) (line : ℕ) : Type 0 where
   pub lines : List (List ℕ)
   pub left : List ℕ
@@ -68,7 +68,7 @@ pub record IsRuleLine (schema : Schema) (bytes : List ℕ) (line : ℕ) : Type 0
   pub in_grammar : IsFrontOfText (lines ++ (broken ∷ []))
   pub fails : IsFrontOfFile schema (lines ++ (broken ∷ [])) → ⊥
 
--- an answer to the bytes: the file whose text they are, or the first refusal; memory may be wanting
+-- an answer to the bytes: the file that has these bytes as its text, or the first refusal, or that memory ran out
 abbrev pub Answers : Schema → List ℕ → Result StatsFile StatsError → Type 0
 Answers schema bytes (Ok file) = KeepsRules schema file × (bytes ≡ file_text schema file)
 Answers schema bytes (Err (error.Syntax line)) = IsSyntaxLine schema bytes line

@@ -1,4 +1,4 @@
--- Names and texts consist of bytes, as those of every schema and file that a program holds.
+-- Names and texts consist of bytes. This is so for every schema and file that a program holds.
 use Rattle.std.specs.Prelude.{ℕ, ◌<◌, ⊤, List, All}
 use Rattle.std.specs.List.{AllByRecursion}
 use Rattle.schema_types.specs.declared.types.Column.{Column}
@@ -17,12 +17,12 @@ abbrev pub HasBytes : Datum → Type 0
 HasBytes (datum.Int number) = ⊤
 HasBytes (datum.Text bytes) = AreBytes bytes
 
--- a table's name and the names of its columns
+-- a table's name and the names of its columns consist of bytes
 pub record HasByteNames (table : Table) : Type 0 where
   pub name : AreBytes table.name
   pub columns : All (λ (column : Column). AreBytes column.name) table.columns
 
--- a pair's values
+-- a pair's values consist of bytes
 pub record HasByteValues (pair : Pair) : Type 0 where
   pub frequent : All (λ (f : Datum × List ℕ). HasBytes f.0) pair.frequent
   pub cuts : All HasBytes pair.cuts

@@ -21,7 +21,7 @@ empty_pair = record { filter = 0; joined = 0; whole = []; frequent = []; rest = 
 abbrev pub empty_file : StatsFile
 empty_file = record { accuracy = 1; tables = record { table = 0; rows = 0; pairs = empty_pair ∷ [] } ∷ [] }
 
--- the lists of the values 1, 1, 1, 2, 2, 3, without those of ranges
+-- the lists of the values 1, 1, 1, 2, 2, 3, without lists of ranges
 abbrev pub six_rows : Pair
 six_rows = record {
   filter = 0;

@@ -31,7 +31,7 @@ pair_lines table pair = pair_line (name_at table pair.filter) (name_at table pai
     ∷ (list_line (codes "whole") (runs_of pair.whole) ∷ (map value_line pair.frequent
     ++ (list_line (codes "rest") (runs_of pair.rest) ∷ (map cut_line pair.cuts ++ map histogram_node_line pair.nodes))))
 
--- the lines of a section: one for the table, and then those of its pairs. A section has no line if the schema lacks its table
+-- the lines of a section: one line for the table, and then the lines of its pairs. A section has no line if the schema lacks its table
 unfoldable pub table_lines : Option Table → TableStats → List (List ℕ)
 table_lines None section = []
 table_lines (Some table) section = table_line table.name section.rows ∷ flat_map (pair_lines table) section.pairs
@@ -39,7 +39,7 @@ table_lines (Some table) section = table_line table.name section.rows ∷ flat_m
 abbrev pub section_lines : Schema → TableStats → List (List ℕ)
 section_lines schema section = table_lines (slice_get schema.tables section.table) section
 
--- the lines of a file: the first line, those of each section, and the end line. Its text is all lines joined
+-- the lines of a file: the first line, the lines of each section, and the end line. The file's text is all lines joined
 unfoldable pub file_lines : Schema → StatsFile → List (List ℕ)
 file_lines schema file = first_line file.accuracy ∷ (flat_map (section_lines schema) file.tables ++ (end_line ∷ []))
 

@@ -1,11 +1,11 @@
--- The grammar of the texts, over lines. It knows numbers and names of any length; which of them a file may have is said by the rules.
+-- The grammar of statistics files, as lists of lines. It allows numbers and names of any length; the rules say which of these a file may have.
 use Rattle.std.specs.Prelude.{ℕ, ◌≡◌, ◌≢◌, ◌&&◌, ◌||◌, ◌==◌, ◌⊎◌, nat_le, nat_lt, Bool, true, false, List, [], ◌∷◌, ◌++◌, length, codes}
 use Rattle.std.specs.Char.{is_ascii_digit}
 use Rattle.std.specs.List.{AllByRecursion, flat_map, list_all}
 
 -- ---- words
 
--- decimal digits, at least one, and no zero in front of others
+-- decimal digits, at least one, and no zero in front of other digits
 abbrev pub is_numeral : List ℕ → Bool
 is_numeral [] = false
 is_numeral (digit ∷ digits) = is_ascii_digit digit && list_all is_ascii_digit digits && (nat_lt 48 digit || length digits == 0)
@@ -13,7 +13,7 @@ is_numeral (digit ∷ digits) = is_ascii_digit digit && list_all is_ascii_digit 
 abbrev pub IsNumeral : List ℕ → Type 0
 IsNumeral word = is_numeral word ≡ true
 
--- a numeral, or a dash and one that isn't zero
+-- a numeral, or a dash and a numeral that isn't zero
 abbrev pub IsSignedNumeral : List ℕ → Type 0
 IsSignedNumeral word = IsNumeral word ⊎ ((digits : List ℕ) × (word ≡ 45 ∷ digits) × IsNumeral digits × (digits ≢ codes "0"))
 
@@ -33,7 +33,7 @@ IsHexWord word = (pairs : List ℕ) × (word ≡ 120 ∷ pairs) × (are_hex_pair
 abbrev pub IsValueWord : List ℕ → Type 0
 IsValueWord word = IsSignedNumeral word ⊎ IsHexWord word
 
--- N*N
+-- N*N: a value, a star, and how often the value stands
 pub record IsRunWord (word : List ℕ) : Type 0 where
   pub value : List ℕ
   pub count : List ℕ
@@ -41,7 +41,7 @@ pub record IsRunWord (word : List ℕ) : Type 0 where
   pub count_is : IsNumeral count
   pub whole : word ≡ value ++ (codes "*" ++ count)
 
--- a dash, or runs with single blanks between them
+-- one or more runs with single blanks between them. A list is written as these runs, or as a dash if it is empty
 pub record AreRunWords (word : List ℕ) : Type 0 where
   pub first : List ℕ
   pub others : List (List ℕ)

@@ -10,7 +10,7 @@ use Rattle.stats_file.specs.declared.types.Datum.TheVariants as datum
 abbrev pub hex_digit : ℕ → ℕ
 hex_digit n = if nat_lt n 10 then 48 + n else 87 + n
 
--- a byte as two digits, the higher one first
+-- a byte as two digits, the higher digit first
 abbrev pub hex_byte : ℕ → List ℕ
 hex_byte byte = hex_digit (byte / 16) ∷ (hex_digit (byte % 16) ∷ [])
 
@@ -23,11 +23,11 @@ abbrev pub datum_text : Datum → List ℕ
 datum_text (datum.Int number) = signed_decimal number
 datum_text (datum.Text bytes) = hex_text bytes
 
--- a run: its value, and how often it stands
+-- a run: its value, and how often this value stands
 abbrev pub run_text : Piece → List ℕ
 run_text run = decimal run.value ++ (codes "*" ++ decimal run.count)
 
--- the runs with blanks between them, or a dash if there is none
+-- the runs with blanks between them, or a dash if there is no run
 abbrev pub runs_text : List Piece → List ℕ
 runs_text [] = codes "-"
 runs_text (run ∷ runs) = run_text run ++ flat_map (λ next. codes " " ++ run_text next) runs

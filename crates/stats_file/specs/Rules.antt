@@ -39,14 +39,14 @@ pub record IsList (rows : ℕ) (list : List ℕ) : Type 0 where
   pub positive : All (λ x. 0 < x) list
   pub within : sum list ≤ rows
 
--- the frequent values of a column of this kind: at most 32 different ones, each with a list
+-- the frequent values of a column of this kind: at most 32 different values, each with a list
 pub record AreFrequent (kind : Kind) (rows : ℕ) (frequent : List (Datum × List ℕ)) : Type 0 where
   pub few : length frequent ≤ 32
   pub differ : AllPairs (λ (a b : Datum × List ℕ). a.0 ≢ b.0) frequent
   pub values : All (λ (f : Datum × List ℕ). IsOfKind kind f.0) frequent
   pub lists : All (λ (f : Datum × List ℕ). IsList rows f.1) frequent
 
--- a histogram with 32 leaves: a value of the column's kind for each leaf, none above the next one, and a list for each of the 63 nodes
+-- a histogram with 32 leaves: a value of the column's kind for each leaf, where no value is above the next, and a list for each of the 63 nodes
 pub record IsHistogram (kind : Kind) (rows : ℕ) (cuts : List Datum) (nodes : List (List ℕ)) : Type 0 where
   pub leaves : length cuts ≡ 32
   pub values : All (IsOfKind kind) cuts
@@ -54,12 +54,12 @@ pub record IsHistogram (kind : Kind) (rows : ℕ) (cuts : List Datum) (nodes : L
   pub all : length nodes ≡ 63
   pub lists : All (IsList rows) nodes
 
--- the histogram of a table with so many rows. Without rows it has no values and no lists
+-- the histogram of a table with this number of rows. Without rows it has no values and no lists
 abbrev pub IsHistogramOf : Kind → ℕ → List Datum → List (List ℕ) → Type 0
 IsHistogramOf kind zero cuts nodes = (cuts ≡ []) × (nodes ≡ [])
 IsHistogramOf kind (suc n) cuts nodes = IsHistogram kind (suc n) cuts nodes
 
--- a pair of a table with so many rows: statistics of a joined column by the values of a filter column
+-- a pair of a table with this number of rows: statistics of a joined column by the values of a filter column
 pub record IsPair (table : Table) (rows : ℕ) (pair : Pair) : Type 0 where
   pub filter : Column
   pub filter_is : slice_get table.columns pair.filter ≡ Some filter
@@ -70,7 +70,8 @@ pub record IsPair (table : Table) (rows : ℕ) (pair : Pair) : Type 0 where
   pub rest : IsList rows pair.rest
   pub tree : IsHistogramOf filter.kind rows pair.cuts pair.nodes
 
--- pair `a` goes before `b`: its filter column is earlier in the table, or it is the same one and the joined column is earlier
+-- pair `a` goes before pair `b`: the filter column of `a` is earlier in the table, or both filter columns are the same and the joined column of `a` is
+-- earlier
 abbrev pub StandsBefore : Pair → Pair → Type 0
 StandsBefore a b = (a.filter < b.filter) ⊎ ((a.filter ≡ b.filter) × (a.joined < b.joined))
 
@@ -82,7 +83,7 @@ pub record HaveSameFilterCounts (a b : Pair) : Type 0 where
   pub cuts : a.cuts ≡ b.cuts
   pub nodes : map sum a.nodes ≡ map sum b.nodes
 
--- two pairs agree: with the same joined column they have one list of all rows, and with the same filter column they count the same rows
+-- two pairs agree: with the same joined column they have the same list of all rows, and with the same filter column they count the same rows
 pub record Agree (a b : Pair) : Type 0 where
   pub joined : a.joined ≡ b.joined → a.whole ≡ b.whole
   pub filter : a.filter ≡ b.filter → HaveSameFilterCounts a b

@@ -5,12 +5,12 @@ use Rattle.piece_math.specs.declared.pieces.Piece.{Piece}
 abbrev pub run_of : ℕ → ℕ → Piece
 run_of value count = record { value = value; count = count }
 
--- one more number in front: the first run grows, or a new one begins
+-- one more number in front: the first run grows, or a new run begins
 abbrev pub in_front : ℕ → List Piece → List Piece
 in_front x [] = run_of x 1 ∷ []
 in_front x (run ∷ runs) = if x == run.value then run_of x (run.count + 1) ∷ runs else run_of x 1 ∷ (run ∷ runs)
 
--- the runs of equal neighbours, each as its value and how often it stands there
+-- the runs of equal neighbours, each as its value and how often this value stands there
 unfoldable pub runs_of : List ℕ → List Piece
 runs_of [] = []
 runs_of (x ∷ list) = in_front x (runs_of list)

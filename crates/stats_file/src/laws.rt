@@ -1,4 +1,4 @@
-//! What holds of every file's text.
+//! Laws of the text of every statistics file. These functions do nothing.
 ghost use Rattle.std.specs.Prelude.{ℕ, ℤ, ◌^◌, ◌<◌, ◌≤◌, List, decimal, FitsSigned};
 ghost use Rattle.schema_types.specs.declared.types.Schema.{Schema};
 ghost use Rattle.std.specs.Int.{w64};

@@ -1,10 +1,10 @@
 //! Files of statistics: conditional statistics of tables as a value, and the text of such a file.
 //!
-//! A `StatsFile` has a section for each table: its number of rows, and for pairs of a filter column and a joined column all lists. It is for
-//! `stats`, which writes such files, and for `plan --stats` and `append`, which read them.
+//! A `StatsFile` has a section for each table: its number of rows, and for pairs of a filter column and a joined column all lists. The command
+//! `stats` writes such files; `plan --stats` and `append` read them.
 //!
 //! Callers cite `KeepsRules` (in `specs/Rules.antt`) for the rules on the values of a file, `file_text` (in `specs/FileText.antt`) for the one
-//! text that a file has, and `Answers` (in `specs/Answers.antt`) for what reading some bytes answers.
+//! text that a file has, and `Answers` (in `specs/Answers.antt`) for the answers that the bytes of a file may have.
 //!
 //! ```text
 //! write_stats(&file, &schema, sink)?;

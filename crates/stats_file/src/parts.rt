@@ -90,7 +90,7 @@ fn put_run<N: Sink>(run: Piece, buffer: &mut Buffer, sink: &mut N) -> Result<(),
     buffer.put_parts(sink, &[value, STAR, count])
 }
 
-// A run behind the first one of its list, with a blank before it.
+// Writes a run that isn't the first run of its list, with a blank before it.
 fn put_next_run<N: Sink>(run: Piece, buffer: &mut Buffer, sink: &mut N) -> Result<(), Failed>
     ensures { Put (growth N.taken N.faults sink.old sink.new) buffer.old buffer.new (codes " " ++ run_text run) result }
 {
@@ -132,7 +132,7 @@ fn put_part<N: Sink>(part: &Part, buffer: &mut Buffer, sink: &mut N) -> Result<(
     }
 }
 
-/// Writes the parts of a line, one after another, through the buffer into the sink. It fails where the sink does.
+/// Writes the parts of a line, one after another, through the buffer into the sink. The call fails if the sink fails.
 pub fn put_line<N: Sink>(parts: &[Part], buffer: &mut Buffer, sink: &mut N) -> Result<(), Failed>
     ensures { Put (growth N.taken N.faults sink.old sink.new) buffer.old buffer.new (flat_map part_text parts.now) result }
 {

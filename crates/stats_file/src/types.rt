@@ -1,4 +1,4 @@
-//! What a file of statistics says.
+//! The contents of a file of statistics, as a value.
 use base_io::{Name, Seq};
 use piece_math::Pieces;
 
@@ -9,9 +9,9 @@ pub enum Datum {
     Text(Name),
 }
 
-/// The conditional statistics of a joined column by the values of a filter column (SafeBound, sections 3.3 and 3.4):
-/// the degree list of all rows, that of each frequent value, one for the other values, and the lists of a binary tree
-/// over ranges of values, which begin at the cuts. Columns are given by their places in the table.
+/// The conditional statistics of a joined column by the values of a filter column (SafeBound, sections 3.3 and 3.4): the degree list of all rows, the
+/// list of each frequent value, one list for all other values, and the lists of a binary tree over ranges of values. The cuts are the values at which
+/// the tree's leaves begin. Columns are given by their places in the table.
 #[derive(Debug, Drop)]
 pub struct Pair {
     pub filter: u32,
@@ -41,9 +41,9 @@ pub struct StatsFile {
 /// Why no file was read. Lines are counted from 1.
 #[derive(Clone, Copy, Debug, PartialEq, Eq)]
 pub enum StatsError {
-    /// No text goes on so from the lines before, or the text ends too early.
+    /// No text of the grammar has this line after the lines before it, or the text ends too early.
     Syntax { line: u32 },
-    /// A rule on the values is broken here.
+    /// A rule on the values is broken in this line.
     Rule { line: u32 },
     NoMemory,
 }

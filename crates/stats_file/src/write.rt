@@ -161,7 +161,7 @@ fn put_nodes<N: Sink>(nodes: &[Pieces], buffer: &mut Buffer, sink: &mut N) -> Re
     Ok(())
 }
 
-// The line that names a pair's columns.
+// Writes the line that names a pair's columns.
 fn put_names<N: Sink>(
     pair: &Pair,
     table: &Table,
@@ -177,7 +177,7 @@ fn put_names<N: Sink>(
     put_pair_line(filter.name.as_str(), joined.name.as_str(), buffer, sink)
 }
 
-// The lines of the ranges of values.
+// Writes the lines of the ranges of values: cuts and nodes.
 fn put_tree<N: Sink>(pair: &Pair, buffer: &mut Buffer, sink: &mut N) -> Result<(), Failed>
     ensures { Put (growth N.taken N.faults sink.old sink.new) buffer.old buffer.new
         (flat_map cut_line pair.now.cuts ++ flat_map (λ node. list_line (codes "node") (runs_of node)) pair.now.nodes) result }
@@ -250,7 +250,7 @@ fn put_sections<N: Sink>(
     Ok(())
 }
 
-/// Appends the text of a file that keeps the rules for this schema. It takes no memory. On `Failed` a prefix of the
+/// Appends the text of a file that keeps the rules for this schema. The call takes no memory. On `Failed` a prefix of the
 /// text was taken, and the sink counted a fault.
 pub fn write_stats<N: Sink>(file: &StatsFile, schema: &Schema, sink: &mut N) -> Result<(), Failed>
     requires { KeepsRules schema.now file.now }

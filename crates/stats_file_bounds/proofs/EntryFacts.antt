@@ -1,4 +1,4 @@
--- What is made of an entry is what the file tells of it, and what is missing of it first is missing of the query.
+-- For each entry the code makes the statistics that the file gives. If the file lacks something, the code finds the first entry for which it does.
 use Rattle.std.proofs.Common.{◌≡◌, ℕ, ◌<◌, true, false, List, map, length, get_or, Option, None, Some, refl, ap, sym, ◌∙◌, subst, arith}
 use Rattle.std.specs.Prelude.{unwrap_or, IfSome}
 use Rattle.std.specs.Bool.{IsTrue}
@@ -40,7 +40,7 @@ asks_among needs steps is k d low = by (column_asked (get_or steps k d)) refl
         (each_of (λ x. is_in (different asked) x ≡ true) asked (is_in-different asked) column
         (in_filter_map column_asked steps (get_or steps k d) column (k, low, get_or_default steps k (get_or steps k d) d low) e))
 
--- ---- what is told of an entry
+-- ---- the statistics of an entry
 
 same_needs : (a b : Needs) → a.filters ≡ b.filters → a.joined ≡ b.joined → a ≡ b
 same_needs a b e f = ap (λ (x : List ℕ). record a { filters = x }) e ∙ ap (λ (x : List ℕ). record b { joined = x }) f
@@ -64,7 +64,7 @@ module _ (query : Query) (file : StatsFile) (entry : ℕ) where
         (subst (λ (s : List Step). All (AreStepsFromStatsFile section needs s) stats.columns) of_steps are));
   }
 
-  -- ---- what is missing first
+  -- ---- the first entry that lacks something
 
   pub need_cause : (e : NeedError) → entry < length query.from → ((k : ℕ) → k < entry → is_missing query file k ≡ false) → IsEntryCause query file entry e → IsNeedCause query file e
   need_cause (error.Missing from) low before cause =

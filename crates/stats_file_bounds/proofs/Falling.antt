@@ -1,4 +1,4 @@
--- The lists of a file fall.
+-- The lists of a file fall: no element is above the element before it.
 use Rattle.std.proofs.Common.{◌≡◌, ℕ, zero, suc, ◌<◌, ◌≤◌, Bool, eqb, List, [], ◌∷◌, length, get_or, refl, subst, inl, inr, arith}
 use Rattle.std.specs.Prelude.{find, unwrap_or}
 use Rattle.std.proofs.Common.{Option, option_map}
@@ -25,7 +25,6 @@ use Rattle.stats_file.specs.declared.types.Pair.{Pair}
 use Rattle.stats_file.specs.declared.types.TableStats.{TableStats}
 use Rattle.stats_file.specs.Rules.{IsList, IsPair, IsHistogramOf}
 
--- every list of the pair falls
 pub record PairFalls (pair : Pair) : Type 0 where
   pub whole : IsFalling pair.whole
   pub value : (value : Value) → IsFalling (list_of_value pair value)

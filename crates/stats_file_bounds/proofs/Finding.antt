@@ -1,4 +1,4 @@
--- What is found, and what is found nowhere.
+-- `find` looks for an element of a list. A property of all elements is one of the element that it finds.
 use Rattle.std.proofs.Common.{◌≡◌, ℕ, zero, suc, ◌+◌, ◌<◌, ◌≤◌, Bool, false, List, [], ◌∷◌, None, Some, ap, sym, ◌∙◌, subst, inl, inr, arith}
 use Rattle.std.specs.Prelude.{find, unwrap_or}
 use Rattle.std.specs.List.{All, AllByRecursion, range_with_len}
@@ -8,7 +8,6 @@ use Rattle.stats_file.specs.declared.types.Pair.{Pair}
 use Rattle.stats_file.specs.declared.types.TableStats.{TableStats}
 use Rattle.stats_file_bounds.specs.Found.{no_pair, pair_for, are_columns}
 
--- what holds of each holds of the one that is found, or else of the one that stands for none
 pub found_or : {X : Type 0} (P : X → Type 0) (p : X → Bool) (xs : List X) (d : X) → AllByRecursion P xs → P d → P (unwrap_or (find p xs) d)
 found_or P p [] d all none = none
 found_or P p (x ∷ xs) d all none = elim (cases_Bool (p x)) [
@@ -23,13 +22,11 @@ found_one P p (y ∷ xs) x all e = elim (cases_Bool (p y)) [
   | inr n ↦ (let rest : find p xs ≡ Some x = rw n at e in found_one P p xs x all.1 rest)
 ]
 
--- the pair of two columns is one of the section's, or the empty one
 pub each_pair : (P : Pair → Type 0) (section : TableStats) → All P section.pairs → P no_pair → (filter joined : ℕ) → P (pair_for section filter joined)
 each_pair P section all none filter joined = found_or P (are_columns filter joined) section.pairs no_pair (recursion_from_All P section.pairs all) none
 
 -- ---- along a range
 
--- where none is found, none passes
 pub none_passes : (p : ℕ → Bool) (a n : ℕ) → find p (range_with_len a n) ≡ None → (k : ℕ) → a ≤ k → k < a + n → p k ≡ false
 none_passes p a zero none k from to = absurd (omega arith)
 none_passes p a (suc n) none k from to = elim (cases_Bool (p a)) [

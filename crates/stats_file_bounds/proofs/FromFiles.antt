@@ -1,7 +1,7 @@
--- No bound of a plan from a file is too low for tables for which the file stands.
-use Rattle.std.proofs.Common.{◌≡◌, ℕ, ◌<◌, ◌≤◌, List, length, get_or, None, Ok, ap, arith}
+-- No bound from a file is too low for tables for which the file stands. There is a bound for each set and a bound for each scan.
+use Rattle.std.proofs.Common.{◌≡◌, ℕ, ◌^◌, ◌<◌, ◌≤◌, length, get_or, None, ap, ◌∙◌, arith}
+use Rattle.std.proofs.lemmas.List.FromFn.{length-map-range_with_len}
 use Rattle.std.specs.List.{Contains}
-use Rattle.limits.specs.Profile.{most_budget, most_entries}
 use Rattle.berge_tree.specs.declared.edges.Place.{Place}
 use Rattle.berge_tree.specs.Equalities.{places_of}
 use Rattle.stats_file_bounds.specs.Entries.{IsFile, IsFromStatsFile}
@@ -12,27 +12,25 @@ use Rattle.stats_file_bounds.proofs.Small.{whole_within}
 use Rattle.stats_file_bounds.proofs.Sums.{contained, sums_are}
 use Rattle.stats_file_bounds.proofs.Telling.{IsThere, is_there, its_filed, its_pairs, place_low, section_is}
 use Rattle.stats_file_bounds.proofs.Under.{joined_has, known_stands}
-use Rattle.stats_file_bounds.specs.Plans.{planned_by_file}
+use Rattle.stats_file_bounds.specs.Bounds.{scan_bounds_of_file, set_bounds_of_file}
 use Rattle.stats_file_bounds.proofs.Falling.{filed_fall}
 use Rattle.stats_file_of_query.specs.Standing.{StandsFor}
 use Rattle.filtered_lists.specs.Standing.{ListsFall, SumTo}
 use Rattle.join_graph.specs.Conjuncts.{equalities_of}
 use Rattle.join_steps.specs.Lists.{scans_of}
-use Rattle.join_steps.specs.Plans.{IsPlanOf}
 use Rattle.join_steps.proofs.WholeScans.{whole_of_scans}
 use Rattle.level_bounds.specs.Keys.{Keys}
 use Rattle.level_bounds.proofs.Lists.{all_from}
 use Rattle.stats_file_of_query.specs.Needs.{needs_of}
 use Rattle.planning.specs.Standing.{BoundLevels, BoundLists, EntriesStand, JoinedHaveLists}
-use Rattle.planning.proofs.FromLists.{levels_bound, plan_over_lists, stand_in_every_set}
+use Rattle.planning.proofs.FromLists.{levels_bound, stand_in_every_set}
 use Rattle.planning.proofs.NeverUnder.{scans_bound}
 use Rattle.planning.proofs.ScanBounds.{have_lists, stand_for_scans}
-use Rattle.plans.specs.declared.left_deep.Plan.{Plan}
-use Rattle.query_bounds.specs.Bounds.{entry_bounds, scan_bounds, set_bounds}
+use Rattle.query_bounds.specs.Bounds.{entry_bounds, scan_rows}
 use Rattle.query_bounds.specs.Statistics.{StandFor, Statistics}
 use Rattle.query_types.specs.Named.{NamesItsEntries}
 use Rattle.query_types.specs.declared.types.Query.{Query}
-use Rattle.set_bounds.specs.AllSets.{in_every_set}
+use Rattle.set_bounds.specs.AllSets.{bound_told, in_every_set}
 use Rattle.sql_meaning.specs.Tables.{Tables, row_counts}
 use Rattle.stats_file.specs.declared.types.StatsFile.{StatsFile}
 use Rattle.stats_file.specs.declared.types.TableStats.{TableStats}
@@ -48,7 +46,6 @@ module _ (query : Query) (file : StatsFile) (own : NamesItsEntries query) (is : 
   from_stats_file : (entry : ℕ) → entry < length query.from → IsFromStatsFile (section_for query file entry)
   from_stats_file entry low = its_filed query file is entry (there entry low)
 
-  -- the lists of a joined column fall, and sum to the numbers of rows
   fall_and_sum : (p : Place) → Contains (places_of (equalities_of query)) p
       → ListsFall (stats_file_lists (section_for query file p.entry) (needs_of query p.entry) p.column)
       × SumTo (stats_file_lists (section_for query file p.entry) (needs_of query p.entry) p.column) (stats_file_counts (section_for query file p.entry) (needs_of query p.entry))
@@ -73,29 +70,36 @@ module _ (query : Query) (file : StatsFile) (own : NamesItsEntries query) (is : 
     its_stands : StandFor query (stats_file_statistics query file) tables (have_keys tables).0
     its_stands = known_stands query file is tables (have_keys tables).0 stands none own (have_keys tables).1
 
-    -- no more rows are told of an entry than its table has
-    few_rows : (entry : ℕ) → entry < length query.from → (stats_file_counts (section_for query file entry) (needs_of query entry)).whole ≤ row_counts tables entry
-    few_rows entry low =
-        let t : IsThere query file entry = there entry low in
+    rows_are : (entry : ℕ) → entry < length query.from → (section_for query file entry).rows ≡ row_counts tables entry
+    rows_are entry low =
+        let t : IsThere query file entry = there entry low in ap (λ (section : TableStats). section.rows) (section_is query file entry t) ∙ (stands entry t.section low t.is).rows
+
+    pub few_rows : (entry : ℕ) → entry < length query.from → row_counts tables entry ≤ 4000000
+    few_rows entry low = omega (arith, rows_are entry low, (from_stats_file entry low).is.rows)
+
+    told_few : (entry : ℕ) → entry < length query.from → (stats_file_counts (section_for query file entry) (needs_of query entry)).whole ≤ row_counts tables entry
+    told_few entry low =
         omega (
           arith,
           whole_within (section_for query file entry) (from_stats_file entry low) (needs_of query entry) (get_or (needs_of query entry).joined 0 0),
-          ap (λ (section : TableStats). section.rows) (section_is query file entry t),
-          (stands entry t.section low t.is).rows,
+          rows_are entry low,
         )
 
-    abbrev lists : List (List ℕ)
-    lists = scans_of query tables
-
-    levels_fit : BoundLevels query tables (scans_of query tables) (set_bounds query (stats_file_statistics query file))
+    pub levels_fit : BoundLevels query tables (scans_of query tables) (set_bounds_of_file query file)
     levels_fit =
-        let entries : EntriesStand query tables lists key (entry_bounds query known) =
+        let entries : EntriesStand query tables (scans_of query tables) key (entry_bounds query known) =
         stand_for_scans query known tables key its_stands joined_lists ((have_keys tables).2 (equalities_of query)) in
-        levels_bound query tables lists key (in_every_set (entry_bounds query known))
-        (stand_in_every_set query tables lists key (entry_bounds query known) (whole_of_scans query tables) entries)
+        levels_bound query tables (scans_of query tables) key (in_every_set (entry_bounds query known))
+        (stand_in_every_set query tables (scans_of query tables) key (entry_bounds query known) (whole_of_scans query tables) entries)
 
-    pub plan_over_scans : (budget : ℕ) (plan : Plan) → length query.from ≤ most_entries → budget ≤ most_budget → planned_by_file query file budget ≡ Ok plan
-        → IsPlanOf query tables (scans_of query tables) plan
-    unfolding planned_by_file
-    plan_over_scans budget plan few small made =
-        plan_over_lists query tables lists (set_bounds query known) (scan_bounds query known) levels_fit (scans_bound query known tables key its_stands few_rows) budget plan few small made
+    pub scans_fit : BoundLists query tables (scans_of query tables) (scan_bounds_of_file query file)
+    scans_fit = scans_bound query known tables key its_stands told_few
+
+-- ---- how many bounds there are
+
+pub one_scan : (query : Query) (file : StatsFile) → length (scan_bounds_of_file query file) ≡ length query.from
+one_scan query file = length-map-range_with_len (scan_rows query (stats_file_statistics query file)) 0 (length query.from)
+
+pub all_sets : (query : Query) (file : StatsFile) → length (set_bounds_of_file query file) ≡ 2 ^ length query.from
+all_sets query file =
+    length-map-range_with_len (λ subset. bound_told (entry_bounds query (stats_file_statistics query file)) (equalities_of query) subset) 0 (2 ^ length query.from)

@@ -1,5 +1,5 @@
--- What a file tells of the entries is one more `Statistics`, so plans from files, their refusals and that no bound is too low are the laws of
--- planning over any bounds; only that the lists of a file fall is shown here (`Falling`).
+-- The statistics that a file gives for the entries are a `Statistics`. So laws of planning, which are proved for any bounds, say that no bound is too low.
+-- What remains to be shown here is that the lists of a file fall (`Falling`).
 
 pub mod Finding
 pub mod Small
@@ -9,5 +9,4 @@ pub mod Under
 pub mod EntryFacts
 pub mod Falling
 pub mod FromFiles
-pub mod Answering
 mod SmallPlans

@@ -28,7 +28,6 @@ use Rattle.stats_file_bounds.specs.FileStatistics.{stats_file_lists, of_one_key,
 use Rattle.stats_file_bounds.specs.Found.{no_pair, pair_for}
 use Rattle.stats_file_bounds.proofs.Finding.{each_pair}
 
--- no more than so many rows are in any list of the pair, and it has 32 cuts at most
 pub record IsWithin (rows : ℕ) (pair : Pair) : Type 0 where
   pub whole : sum pair.whole ≤ rows
   pub value : (value : Value) → sum (list_of_value pair value) ≤ rows
@@ -110,6 +109,5 @@ step_small section from_stats_file needs joined step.And = refl
 step_small section from_stats_file needs joined step.Nothing = refl
 step_small section from_stats_file needs joined step.Or = refl
 
--- a section of a file that keeps the rules keeps them
 pub section_filed : (file : StatsFile) → IsFile file → All IsFromStatsFile file.tables
 section_filed file is i d low = record { schema = is.schema; is = is.keeps.tables i d low }

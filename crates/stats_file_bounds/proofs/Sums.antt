@@ -1,4 +1,4 @@
--- The lists of an entry's joined columns sum to the same numbers of rows.
+-- An entry has lists for each joined column. These lists have equal sums for different joined columns, since each list counts rows of the entry.
 use Rattle.std.proofs.Common.{◌≡◌, ◌⊎◌, ℕ, zero, suc, ◌<◌, Bool, true, false, cond, eqb, List, [], ◌∷◌, ◌++◌, map, length, get_or, sum, Option, None, Some, option_map, refl, ap, sym, ◌∙◌, subst, inl, inr, arith}
 use Rattle.std.specs.Prelude.{find, is_some, unwrap_or}
 use Rattle.std.specs.List.{Contains, flat_map, list_all, list_any}
@@ -24,7 +24,7 @@ use Rattle.stats_file_bounds.specs.Entries.{IsFromStatsFile}
 use Rattle.stats_file_bounds.specs.FileStatistics.{stats_file_counts, stats_file_lists, of_one_key, joined_column_for, whole_by, whole_list}
 use Rattle.stats_file_bounds.specs.Found.{are_columns, has_pair, no_pair, pair_for, pair_in}
 
--- ---- where what is found stands
+-- ---- the place of the element that `find` finds
 
 pub found_at : {X : Type 0} (p : X → Bool) (xs : List X) (x : X) → find p xs ≡ Some x → (i : ℕ) × (i < length xs) × ((d : X) → get_or xs i d ≡ x) × (p x ≡ true)
 found_at p [] x e = absurd (cc)
@@ -34,9 +34,8 @@ found_at p (y ∷ xs) x e = elim (cases_Bool (p y)) [
       let at = found_at p xs x rest in (suc at.0, omega (arith, at.1), at.2, at.3))
 ]
 
--- ---- pairs that count the same
+-- ---- pairs that count as many rows as each other
 
--- each value, each node and each range has as many rows in both
 pub record HaveSums (a b : Pair) : Type 0 where
   pub value : (value : Value) → sum (list_of_value a value) ≡ sum (list_of_value b value)
   pub between : (low high : Option Value) → sum (list_between a low high) ≡ sum (list_between b low high)
@@ -93,7 +92,6 @@ turned a b same = record { value = λ value. sym (same.value value); between = �
 itself : (a b : Pair) → a ≡ b → HaveSums a b
 itself a b same = subst (λ (p : Pair). HaveSums a p) same (record { value = λ value. refl; between = λ low high. refl })
 
--- pairs of one filter column of a section count the same
 module _ (section : TableStats) (from_stats_file : IsFromStatsFile section) where
   pub found_sums : (filter one other : ℕ) (a b : Pair) → pair_in section filter one ≡ Some a → pair_in section filter other ≡ Some b → HaveSums a b
   found_sums filter one other a b here there =
@@ -114,7 +112,6 @@ module _ (section : TableStats) (from_stats_file : IsFromStatsFile section) wher
       filter_is : (filter joined : ℕ) (p : Pair) → are_columns filter joined p ≡ true → p.filter ≡ filter
       filter_is filter joined p h = eqb-true p.filter filter (and_parts (eqb p.filter filter) (eqb p.joined joined) h).0
 
-  -- the whole list of a pair has all rows
   pub found_whole : (filter joined : ℕ) (p : Pair) → pair_in section filter joined ≡ Some p → sum p.whole ≡ section.rows
   found_whole filter joined p here =
       let at = found_at (are_columns filter joined) section.pairs p here in
@@ -122,7 +119,7 @@ module _ (section : TableStats) (from_stats_file : IsFromStatsFile section) wher
 
 -- ---- needed pairs
 
--- the column is joined, or the entry joins none
+-- a column in the list of joined columns is joined; `IsJoined` also allows any column if the entry joins no column
 unfoldable pub IsJoined : Needs → ℕ → Type 0
 IsJoined needs joined = (needs.joined ≡ []) ⊎ Contains needs.joined joined
 
@@ -200,7 +197,6 @@ module _ (section : TableStats) (from_stats_file : IsFromStatsFile section) (nee
           let found = partner_found column joined (subst (λ (f : List ℕ). Contains f column) (sym is) (in_front column columns column refl)) joins in
           ap (λ (p : Pair). sum p.whole) (its column (joined_column_for needs joined column) found.0 found.1) ∙ found_whole section from_stats_file column (joined_column_for needs joined column) found.0 found.1
 
-  -- pairs of a filter column with two joined columns
   partners_sum : (filter one other : ℕ) → Contains needs.filters filter → IsJoined needs one → IsJoined needs other
       → HaveSums (pair_for section filter (joined_column_for needs one filter)) (pair_for section filter (joined_column_for needs other filter))
   partners_sum filter one other has joins also =

@@ -1,4 +1,4 @@
--- What a file tells of each entry tells the statistics that the file knows.
+-- If each entry has the statistics that the file gives for it, the whole query has the statistics that the file gives for the query.
 use Rattle.std.proofs.Common.{◌≡◌, ◌⊎◌, ℕ, ◌+◌, ◌<◌, ◌==◌, Bool, true, false, not, List, [], ◌∷◌, ◌++◌, length, get_or, Option, None, Some, option_map, refl, ap, sym, ◌∙◌, subst, inl, inr, arith}
 use Rattle.std.specs.Prelude.{unwrap_or}
 use Rattle.std.specs.List.{All, AllByRecursion, Contains, list_all}
@@ -72,10 +72,9 @@ module _ (query : Query) (own : NamesItsEntries query) where
           let low = edge_low e (within e (in_front e es e refl)) in
           (low.0, (low.1, all_low es (λ f h. within f (in_rest e es f h))))
 
--- ---- what is there
+-- ---- sections and pairs that the file has
 
 module _ (query : Query) (file : StatsFile) where
-  -- a section that has all pairs is there
   pub record IsThere (entry : ℕ) : Type 0 where
     pub section : TableStats
     pub is : section_of file (table_of query entry) ≡ Some section
@@ -106,7 +105,6 @@ module _ (query : Query) (file : StatsFile) where
     pub its_pairs : (entry : ℕ) (t : IsThere entry) → list_all (has_pair (section_for query file entry)) (pairs_of (needs_of query entry)) ≡ true
     its_pairs entry t = ap (λ (s : TableStats). list_all (has_pair s) (needed query entry)) (section_is entry t) ∙ t.all
 
-    -- a column that is asked for is joined, or none is
     asked_joined : (entry column : ℕ) → Contains (asked_columns entry (equalities_of query)) column → IsJoined (needs_of query entry) column
     unfolding IsJoined
     asked_joined entry column has = by (joined_columns entry (equalities_of query)) refl has

@@ -1,4 +1,4 @@
--- What a file tells of a query stands for the tables for which the file stands.
+-- If a file stands for tables, the statistics that the file gives for a query stand for these tables.
 use Rattle.std.proofs.Common.{◌≡◌, ℕ, suc, ◌<◌, ◌≤◌, Bool, true, false, ◌&&◌, cond, eqb, List, [], ◌∷◌, map, length, get_or, sum, Option, None, Some, option_map, refl, ap, sym, ◌∙◌, subst, inl, inr, arith}
 use Rattle.std.specs.Prelude.{unwrap_or}
 use Rattle.std.specs.List.{Contains, filter, list_all, list_any, range_with_len}
@@ -88,7 +88,6 @@ module _ (pair : Pair) (tables : Tables) (entry : ℕ) (key : ℕ → ℕ) (stan
       last_place-mono (λ leaf. value_le (leaf_cut pair leaf) value) (λ leaf. value_le (leaf_cut pair leaf) high)
       (λ leaf under. value_le-trans (leaf_cut pair leaf) value high under h) (range_with_len 0 (length pair.cuts))
 
-  -- the list of a range dominates the keys of the rows in it
   pub between_dominates : (low high : Option Value)
       → DominatesKeys (list_between pair low high) (map key (rows_where tables entry (λ row. is_from low (value_at row) && is_up_to high (value_at row))))
   between_dominates low high =
@@ -106,7 +105,6 @@ module _ (pair : Pair) (tables : Tables) (entry : ℕ) (key : ℕ → ℕ) (stan
 
 -- ---- the list of all rows
 
--- it dominates the keys of fewer rows
 fewer_rows : (tables : Tables) (entry : ℕ) (key : ℕ → ℕ) (s : List ℕ) (test : ℕ → Bool) → DominatesKeys s (map key (range_with_len 0 (row_counts tables entry)))
     → DominatesKeys s (map key (rows_where tables entry test))
 fewer_rows tables entry key s test dominates =
@@ -114,7 +112,7 @@ fewer_rows tables entry key s test dominates =
     fewer_dominated key test (λ row. true) s rows (all_in_range (PassesBoth key test (λ row. true)) 0 (row_counts tables entry) (λ row low h. refl))
     (subst (λ (those : List ℕ). DominatesKeys s (map key those)) (sym (all_pass (λ row. true) rows)) dominates)
 
--- ---- a column that is joined is needed with each filter column
+-- ---- each filter column is paired with a joined column
 
 pub partner_joined : (needs : Needs) (joined filter_column : ℕ) → Contains needs.joined joined → joined_column_for needs joined filter_column ≡ joined
 partner_joined needs joined filter_column has = some needs.joined has
@@ -127,7 +125,6 @@ partner_joined needs joined filter_column has = some needs.joined has
 
 module _ (section : TableStats) (from_stats_file : IsFromStatsFile section) (needs : Needs) (all : list_all (has_pair section) (pairs_of needs) ≡ true)
     (tables : Tables) (entry : ℕ) (key : ℕ → ℕ → ℕ) (tells : (column : ℕ) → TellsValues tables entry column (key column)) (stands : SectionStandsFor section tables entry) where
-  -- a pair that is there stands for the rows
   found_stands : (filter_column joined : ℕ) (p : Pair) → pair_in section filter_column joined ≡ Some p
       → (p.filter ≡ filter_column) × (p.joined ≡ joined) × PairStandsFor p tables entry (key joined)
   found_stands filter_column joined p here =
@@ -154,7 +151,6 @@ module _ (section : TableStats) (from_stats_file : IsFromStatsFile section) (nee
   pair_few : (filter_column joined : ℕ) → length (its_pair filter_column joined).cuts ≤ 32
   pair_few filter_column joined = (its_within section from_stats_file filter_column (joined_column_for needs joined filter_column)).cuts
 
-  -- the list of a value and that of a range, over the keys of the column with which the filter column is needed
   value_dominates : (filter_column joined : ℕ) → Contains needs.filters filter_column → IsJoined needs joined → (value : Value)
       → DominatesKeys (list_of_value (its_pair filter_column joined) value) (map (key (joined_column_for needs joined filter_column)) (rows_where tables entry (has_value tables entry filter_column value)))
   value_dominates filter_column joined has joins value =
@@ -243,7 +239,6 @@ module _ (section : TableStats) (from_stats_file : IsFromStatsFile section) (nee
 
 -- ---- a query
 
--- a column that an equality joins is one of its entry's joined columns
 pub joined_has : (es : List Edge) (p : Place) → Contains (places_of es) p → Contains (joined_columns p.entry es) p.column
 joined_has es p k =
     let L : List ℕ = map (λ (q : Place). q.column) (filter (λ (q : Place). eqb q.entry p.entry) (places_of es)) in

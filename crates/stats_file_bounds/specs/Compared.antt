@@ -1,4 +1,4 @@
--- Values of a file beside literals of a query.
+-- Values of a file compared with literals of a query.
 use Rattle.std.specs.Prelude.{Bool}
 use Rattle.cond_stats.specs.Columns.{value_le}
 use Rattle.csv_tables.specs.Values.{Value}

@@ -1,4 +1,4 @@
--- What is told of each entry of a query, and why nothing may be.
+-- The statistics that a file gives for each entry of a query, and why a file may give no statistics.
 use Rattle.std.specs.Prelude.{ℕ, ◌≡◌, All, IfSome, List, map, Some, true, ⊤}
 use Rattle.gathered_stats.specs.Asked.{asked_columns, column_asked}
 use Rattle.join_graph.specs.Conjuncts.{equalities_of}
@@ -25,7 +25,7 @@ pub record IsFile (file : StatsFile) : Type 0 where
   pub schema : Schema
   pub keeps : KeepsRules schema file
 
--- the section keeps them
+-- the section keeps the rules of sections, for some schema
 pub record IsFromStatsFile (section : TableStats) : Type 0 where
   pub schema : Schema
   pub is : IsSection schema section
@@ -34,7 +34,7 @@ pub record IsFromStatsFile (section : TableStats) : Type 0 where
 abbrev pub AsksAmong : Needs → Step → Type 0
 AsksAmong needs step = IfSome (column_asked step) (λ column. IsTrue (is_filter needs column))
 
--- the steps of a joined column, each with its list of the file
+-- the steps of a joined column, each with its list from the file
 abbrev pub AreStepsFromStatsFile : TableStats → Needs → List Step → ColumnSteps → Type 0
 AreStepsFromStatsFile section needs steps gathered = gathered.steps ≡ map (listed (stats_file_lists section needs gathered.column)) steps
 
@@ -43,12 +43,12 @@ pub record EntryIsTold (query : Query) (file : StatsFile) (entry : ℕ) (stats :
   pub columns : map (λ gathered. gathered.column) stats.columns ≡ asked_columns entry (equalities_of query)
   pub steps : All (AreStepsFromStatsFile (section_for query file entry) (needs_of query entry) (steps_of entry query.conjuncts)) stats.columns
 
--- why a file tells nothing of a query: the first entry for which something is missing; or memory was wanting
+-- why a file gives no statistics for a query: the first entry for which something is missing, or memory ran out
 abbrev pub IsNeedCause : Query → StatsFile → NeedError → Type 0
 IsNeedCause query file (error.Missing from) = first_missing query file ≡ Some from
 IsNeedCause query file error.NoMemory = ⊤
 
--- the same of one entry
+-- why a file gives no statistics for one entry
 abbrev pub IsEntryCause : Query → StatsFile → ℕ → NeedError → Type 0
 IsEntryCause query file entry (error.Missing from) = (from ≡ entry) × (is_missing query file entry ≡ true)
 IsEntryCause query file entry error.NoMemory = ⊤

@@ -5,7 +5,7 @@ use Rattle.stats_file.specs.declared.types.Pair.{Pair}
 use Rattle.stats_file.specs.declared.types.StatsFile.{StatsFile}
 use Rattle.stats_file.specs.declared.types.TableStats.{TableStats}
 
--- the pair of the column 0 with itself, whose table has these degrees, and no ranges
+-- the pair of column 0 with itself. The list of all rows is `whole`, and there are no ranges
 abbrev pub itself : List ℕ → Pair
 itself whole = record { filter = 0; joined = 0; whole = whole; frequent = []; rest = []; cuts = []; nodes = [] }
 
@@ -24,7 +24,7 @@ grown = record {
 abbrev pub section : ℕ → ℕ → Pair → TableStats
 section table rows pair = record { table = table; rows = rows; pairs = pair ∷ [] }
 
--- a file of one table, and one of two
+-- a file of one table, and a file of two tables
 abbrev pub of_one : TableStats → StatsFile
 of_one section = record { accuracy = 1; tables = section ∷ [] }
 

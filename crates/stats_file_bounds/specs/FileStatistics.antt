@@ -1,4 +1,4 @@
--- What a file of statistics knows of the entries of a query.
+-- The statistics that a file gives for the entries of a query.
 use Rattle.std.specs.Prelude.{ℕ, ◌==◌, if◌then◌else◌, Bool, List, [], ◌∷◌, length, slice_index}
 use Rattle.std.specs.List.{list_any, sum}
 use Rattle.filtered_lists.specs.Lists.{ColumnLists, RowCounts}
@@ -13,16 +13,16 @@ use Rattle.stats_file_bounds.specs.Found.{pair_for, section_for}
 
 -- ---- lists
 
--- the column with which an entry needs a filter column: a joined one, or, where it joins none, the filter column itself
+-- the column that a filter column is paired with: the joined column, or the filter column itself if the entry joins no column
 abbrev pub joined_column_for : Needs → ℕ → ℕ → ℕ
 joined_column_for needs joined column = if length needs.joined == 0 then column else joined
 
--- rows that all have one key
+-- the list of rows that all have the same key
 abbrev pub of_one_key : ℕ → List ℕ
 of_one_key rows = if rows == 0 then [] else (rows ∷ [])
 
--- the list of all rows: that of the pair of the first filter column; without filter columns that of the joined column with itself; and where
--- an entry needs no pair all rows have one key
+-- the list of all rows. It is taken from the pair of the first filter column. Without filter columns it is taken from the pair of the joined column with
+-- itself. If an entry needs no pair, all rows have one key
 abbrev pub whole_by : TableStats → Needs → List ℕ → ℕ → List ℕ
 whole_by section needs [] joined = if length needs.joined == 0 then of_one_key section.rows else (pair_for section joined joined).whole
 whole_by section needs (column ∷ columns) joined = (pair_for section column (joined_column_for needs joined column)).whole
@@ -45,7 +45,7 @@ stats_file_lists section needs joined = record {
 
 -- ---- numbers of rows
 
--- the sums of lists
+-- numbers of rows, as the sums of lists
 abbrev pub counts_of : ColumnLists → RowCounts
 counts_of lists = record {
   whole = sum lists.whole;
@@ -53,11 +53,11 @@ counts_of lists = record {
   range = λ range. sum (lists.range range);
 }
 
--- those of the first joined column; all joined columns have the same
+-- the numbers of rows by the lists of the first joined column; the lists of all joined columns give the same numbers
 abbrev pub stats_file_counts : TableStats → Needs → RowCounts
 stats_file_counts section needs = counts_of (stats_file_lists section needs (slice_index needs.joined 0))
 
--- ---- of a query
+-- ---- the statistics of a query
 
 abbrev pub stats_file_statistics : Query → StatsFile → Statistics
 stats_file_statistics query file = record {

@@ -1,4 +1,4 @@
--- What of a query's needs a file of statistics has.
+-- Which of the sections and pairs that a query needs a file of statistics has.
 use Rattle.std.specs.Prelude.{ℕ, ◌==◌, ◌&&◌, not, Bool, false, List, [], Option, None, Some, find, is_some, length, unwrap_or}
 use Rattle.std.specs.List.{list_all, range_with_len}
 use Rattle.query_types.specs.declared.types.Query.{Query}
@@ -9,7 +9,7 @@ use Rattle.stats_file_of_query.specs.declared.column_pairs.ColumnPair.{ColumnPai
 use Rattle.stats_file_of_query.specs.Needs.{needed, table_of}
 use Rattle.stats_file_of_query.specs.Standing.{section_of}
 
--- the pair of two columns in a section, where it has one
+-- the pair of two columns in a section, if the section has one
 abbrev pub are_columns : ℕ → ℕ → Pair → Bool
 are_columns filter joined pair = pair.filter == filter && pair.joined == joined
 
@@ -19,7 +19,7 @@ pair_in section filter joined = find (are_columns filter joined) section.pairs
 abbrev pub has_pair : TableStats → ColumnPair → Bool
 has_pair section pair = is_some (pair_in section pair.filter pair.joined)
 
--- a section that has all of these pairs is there
+-- there is a section, and it has all of these pairs
 abbrev pub has_all : List ColumnPair → Option TableStats → Bool
 has_all pairs None = false
 has_all pairs (Some section) = list_all (has_pair section) pairs
@@ -28,11 +28,11 @@ has_all pairs (Some section) = list_all (has_pair section) pairs
 abbrev pub is_missing : Query → StatsFile → ℕ → Bool
 is_missing query file entry = not (has_all (needed query entry) (section_of file (table_of query entry)))
 
--- the first such entry, if any
+-- the first entry for which something is missing, if there is one
 abbrev pub first_missing : Query → StatsFile → Option ℕ
 first_missing query file = find (is_missing query file) (range_with_len 0 (length query.from))
 
--- ---- what stands where something is missing
+-- ---- what is taken in place of a pair or a section that is missing
 
 abbrev pub no_pair : Pair
 no_pair = record { filter = 0; joined = 0; whole = []; frequent = []; rest = []; cuts = []; nodes = [] }

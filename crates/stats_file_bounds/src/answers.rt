@@ -1,4 +1,5 @@
-//! What a pair answers: the list of a value, and that of a range.
+//! The lists that a pair of a statistics file gives: the list of a value, and the list of a range. A pair has the statistics of a joined column by the
+//! values of a filter column.
 ghost use Rattle.std.specs.Prelude.{◌≡◌, ◌<◌, ◌≤◌, IfOk, IfSome, length, option_map};
 ghost use Rattle.cond_stats.specs.Leaves.{node_size};
 ghost use Rattle.column_stats.specs.Nodes.{node_place};
@@ -13,7 +14,7 @@ use predicate_bounds::{Literal, Range};
 use stats_file::Pair;
 use std::alloc::Global;
 
-/// The list of a value: its own where it is frequent, else the rest list.
+/// The list of a value: the value's own list if it is frequent, otherwise the rest list.
 pub(crate) fn list_of_literal<'a>(pair: &'a Pair, literal: &Literal) -> &'a Pieces
     ensures { result.now ≡ list_of_value pair.now (value_of literal.now) }
 {
@@ -25,7 +26,7 @@ pub(crate) fn list_of_literal<'a>(pair: &'a Pair, literal: &Literal) -> &'a Piec
     &pair.rest
 }
 
-// The leaf of a literal.
+// The leaf to which a literal belongs: the last leaf whose cut is at most the literal, or leaf 0.
 fn leaf_of(pair: &Pair, literal: &Literal) -> u8
     requires { length pair.now.cuts ≤ 32 }
     ensures leaf { result ≡ leaf_of_value pair.now (value_of literal.now) }
@@ -40,7 +41,7 @@ fn leaf_of(pair: &Pair, literal: &Literal) -> u8
     leaf
 }
 
-// The leaf of an end of a range, if there is one.
+// The leaf of an end of a range, if the range has this end.
 fn end_leaf(pair: &Pair, end: &Option<Literal>) -> Option<u8>
     requires { length pair.now.cuts ≤ 32 }
     ensures leaf { result ≡ option_map (leaf_of_value pair.now) (option_map value_of end.now) }
@@ -52,7 +53,7 @@ fn end_leaf(pair: &Pair, end: &Option<Literal>) -> Option<u8>
     }
 }
 
-// The list of the least node that holds two leaves.
+// The list of the smallest node that contains two leaves.
 fn list_of_leaves(alloc: Global, pair: &Pair, low: u8, high: u8) -> Result<Pieces, NoMemory>
     requires { low < 32 }
     ensures { IfOk result (λ list. list ≡ list_of_node pair.now (node_size low high) low) }
@@ -64,7 +65,7 @@ fn list_of_leaves(alloc: Global, pair: &Pair, low: u8, high: u8) -> Result<Piece
     Ok(Pieces::empty(alloc))
 }
 
-/// The list of a range: that of the least node that holds the leaves of its ends.
+/// The list of a range: the list of the smallest node that contains the leaves of the range's ends.
 pub(crate) fn list_within(alloc: Global, pair: &Pair, range: &Range) -> Result<Pieces, NoMemory>
     requires { length pair.now.cuts ≤ 32 }
     ensures { IfOk result (λ list. list ≡ list_between pair.now (range_of range.now).low (range_of range.now).high) }

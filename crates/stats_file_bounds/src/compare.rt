@@ -1,4 +1,4 @@
-//! Values of a file beside literals of a query.
+//! Compares values of a file with literals of a query.
 ghost use Rattle.std.specs.Prelude.{◌≡◌};
 ghost use Rattle.csv_tables.specs.Values.{value_cmp};
 ghost use Rattle.predicate_bounds.specs.Steps.{value_of as literal_value};

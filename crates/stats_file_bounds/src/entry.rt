@@ -1,4 +1,4 @@
-//! What a section tells of an entry.
+//! The statistics that a section, the part of a file for one table, gives for an entry.
 ghost use Rattle.std.specs.Prelude.{◌≡◌, All, IfOk, map};
 ghost use Rattle.predicate_bounds.specs.ListRuns.{listed};
 ghost use Rattle.predicate_bounds.specs.Steps.{range_of, value_of};
@@ -16,7 +16,7 @@ use stats_file::TableStats;
 use stats_file_of_query::Needs;
 use std::alloc::Global;
 
-// The column with which an entry needs a filter column.
+// The column that a filter column is paired with: the joined column, or the filter column itself if the entry joins no column.
 fn partner(needs: &Needs, joined: u32, column: u32) -> u32
     ensures { result ≡ joined_column_for needs.now joined column }
 {
@@ -27,7 +27,7 @@ fn partner(needs: &Needs, joined: u32, column: u32) -> u32
     }
 }
 
-// The list of rows that all have one key.
+// The list of `rows` rows that all have the same key.
 fn of_one_key(alloc: Global, rows: u32) -> Result<Pieces, NoMemory>
     ensures { IfOk result (λ list. list ≡ of_one_key rows) }
 {
@@ -38,7 +38,7 @@ fn of_one_key(alloc: Global, rows: u32) -> Result<Pieces, NoMemory>
     Ok(list)
 }
 
-// The list of all rows in a pair, and the empty one where there is no such pair.
+// The list of all rows in a pair, or the empty list if the section has no such pair.
 fn whole_of(
     alloc: Global,
     section: &TableStats,
@@ -108,7 +108,7 @@ fn list_of_range(
     }
 }
 
-// A step with its list. The list of all rows is `whole`.
+// A step of an entry's own conjuncts, with its list. `whole` is the list of all rows.
 fn list_step(
     alloc: Global,
     section: &TableStats,
@@ -138,7 +138,7 @@ fn list_step(
     }
 }
 
-// Steps, each with its list for a joined column.
+// The steps of an entry's own conjuncts, each with its list for a joined column.
 fn list_steps(
     alloc: Global,
     section: &TableStats,
@@ -160,7 +160,7 @@ fn list_steps(
     Ok(gathered)
 }
 
-/// The steps of an entry for each of these joined columns.
+/// The steps of an entry's own conjuncts, with their lists for each of these joined columns.
 pub(crate) fn list_columns(
     alloc: Global,
     section: &TableStats,

@@ -1,35 +1,33 @@
 //! Small queries over small files, and plans from these, as theorems by computation.
 ghost use Rattle.std.specs.Prelude.{◌≡◌, ◌∷◌, [], None, Some, Err, Ok};
-ghost use Rattle.order_search.specs.declared.refusal.PlanError.TheVariants as plan_error;
+ghost use Rattle.order_search.specs.declared.refusal.PlanError.TheVariants as error;
+ghost use Rattle.plan_answers.specs.PlanAnswer.{plan_answer};
 ghost use Rattle.plans.specs.Examples.{plan_of};
-ghost use Rattle.query_bounds.specs.Bounds.{scan_bounds, set_bounds};
 ghost use Rattle.query_bounds.specs.Examples.{pair};
 ghost use Rattle.stats_file_of_query.specs.Examples.{one_value};
 ghost use Rattle.stats_file_bounds.specs.Examples.{grown, itself, of_one, of_two, section};
-ghost use Rattle.stats_file_bounds.specs.FileStatistics.{stats_file_statistics};
+ghost use Rattle.stats_file_bounds.specs.Bounds.{scan_bounds_of_file, set_bounds_of_file};
 ghost use Rattle.stats_file_bounds.specs.Found.{first_missing};
-ghost use Rattle.stats_file_bounds.specs.Plans.{stats_file_plan};
-ghost use Rattle.stats_file_bounds.specs.declared.errors.StatsFilePlanError.TheVariants as error;
 
-/// R(X) of 1, 1, 1, 2, 2, 3 and S(X) of 1, 1, 4, 5, 6 from their lists alone; the value 99 in a file in which it isn't frequent; and files in
-/// which a section or a pair is missing.
+/// Bounds of R(X) with the values 1, 1, 1, 2, 2, 3 and S(X) with the values 1, 1, 4, 5, 6, from their lists alone. A bound for the value 99 in a file
+/// in which 99 isn't frequent. And files in which a section or a pair is missing.
 pub fn small_files()
-    ensures scans { scan_bounds pair (stats_file_statistics pair (of_two (section 0 6 (itself (3 ∷ 3 ∷ []))) (section 1 5 (itself (2 ∷ 2 ∷ 1 ∷ [])))))
+    ensures scans { scan_bounds_of_file pair (of_two (section 0 6 (itself (3 ∷ 3 ∷ []))) (section 1 5 (itself (2 ∷ 2 ∷ 1 ∷ []))))
         ≡ 6 ∷ 5 ∷ [] }
-    ensures sets { set_bounds pair (stats_file_statistics pair (of_two (section 0 6 (itself (3 ∷ 3 ∷ []))) (section 1 5 (itself (2 ∷ 2 ∷ 1 ∷ [])))))
+    ensures sets { set_bounds_of_file pair (of_two (section 0 6 (itself (3 ∷ 3 ∷ []))) (section 1 5 (itself (2 ∷ 2 ∷ 1 ∷ []))))
         ≡ 1 ∷ 6 ∷ 5 ∷ 12 ∷ [] }
-    ensures absent { scan_bounds one_value (stats_file_statistics one_value (of_one (section 0 4 grown))) ≡ 1 ∷ [] }
+    ensures absent { scan_bounds_of_file one_value (of_one (section 0 4 grown)) ≡ 1 ∷ [] }
     ensures all { first_missing one_value (of_one (section 0 4 grown)) ≡ None }
     ensures second { first_missing pair (of_one (section 0 6 (itself (3 ∷ 3 ∷ [])))) ≡ Some 1 }
     ensures first { first_missing pair (of_one (section 2 0 (itself []))) ≡ Some 0 }
 {}
 
-/// R(X) of 1, 1, 1, 2, 2, 3 and S(X) of 1, 1, 4, 5, 6 from the file of both: the best order costs 12; and a file of R alone lacks what the
-/// second entry needs, whatever the budget.
+/// A plan for R(X) with the values 1, 1, 1, 2, 2, 3 and S(X) with the values 1, 1, 4, 5, 6, from the file of both: the best order costs 12.
 pub fn small_plans()
-    ensures plan { stats_file_plan pair (of_two (section 0 6 (itself (3 ∷ 3 ∷ []))) (section 1 5 (itself (2 ∷ 2 ∷ 1 ∷ [])))) 12
+    ensures plan { plan_answer (set_bounds_of_file pair (of_two (section 0 6 (itself (3 ∷ 3 ∷ []))) (section 1 5 (itself (2 ∷ 2 ∷ 1 ∷ [])))))
+        (scan_bounds_of_file pair (of_two (section 0 6 (itself (3 ∷ 3 ∷ []))) (section 1 5 (itself (2 ∷ 2 ∷ 1 ∷ []))))) 12
         ≡ Ok (plan_of (1 ∷ 0 ∷ []) (6 ∷ 5 ∷ []) (5 ∷ 12 ∷ [])) }
-    ensures over { stats_file_plan pair (of_two (section 0 6 (itself (3 ∷ 3 ∷ []))) (section 1 5 (itself (2 ∷ 2 ∷ 1 ∷ [])))) 11
-        ≡ Err (error.Plan (plan_error.Budget 12)) }
-    ensures missing { stats_file_plan pair (of_one (section 0 6 (itself (3 ∷ 3 ∷ [])))) 0 ≡ Err (error.Missing 1) }
+    ensures over { plan_answer (set_bounds_of_file pair (of_two (section 0 6 (itself (3 ∷ 3 ∷ []))) (section 1 5 (itself (2 ∷ 2 ∷ 1 ∷ [])))))
+        (scan_bounds_of_file pair (of_two (section 0 6 (itself (3 ∷ 3 ∷ []))) (section 1 5 (itself (2 ∷ 2 ∷ 1 ∷ []))))) 11
+        ≡ Err (error.Budget 12) }
 {}

@@ -1,4 +1,4 @@
-//! Sections and pairs where they stand in a file.
+//! Looks up sections and pairs in a file. A section has the statistics of one table, and a pair those of a joined column by a filter column.
 ghost use Rattle.std.specs.Prelude.{◌≡◌, option_map};
 ghost use Rattle.std.specs.List.{list_all};
 ghost use Rattle.stats_file_of_query.specs.Standing.{section_of};
@@ -7,7 +7,7 @@ ghost use Rattle.stats_file_bounds.specs.Found.{has_pair, pair_in};
 use stats_file::{Pair, StatsFile, TableStats};
 use stats_file_of_query::ColumnPair;
 
-/// The section of a table, where the file has one.
+/// The section of a table, if the file has one.
 pub(crate) fn section_of(file: &StatsFile, table: u32) -> Option<&TableStats>
     ensures { option_map (λ section. section.now) result ≡ section_of file.now table }
 {
@@ -19,7 +19,7 @@ pub(crate) fn section_of(file: &StatsFile, table: u32) -> Option<&TableStats>
     None
 }
 
-/// The pair of two columns, where the section has one.
+/// The pair of two columns, if the section has one.
 pub(crate) fn pair_in(section: &TableStats, filter: u32, joined: u32) -> Option<&Pair>
     ensures { option_map (λ pair. pair.now) result ≡ pair_in section.now filter joined }
 {

@@ -1,4 +1,4 @@
-//! What a file tells of a query.
+//! The statistics that a file gives for a query.
 ghost use Rattle.std.specs.Prelude.{◌≡◌, ◌<◌, ◌≤◌, IfErr, IfOk, None, false, length};
 ghost use Rattle.join_graph.specs.Conjuncts.{equalities_of, local_of};
 ghost use Rattle.query_bounds.specs.Statistics.{Tells};
@@ -28,7 +28,7 @@ fn table_of(query: &Query, entry: u8) -> u32
     query.from.get(usize::from(entry)).table
 }
 
-// What a file tells of an entry, where it has all that the entry needs.
+// The statistics that a file gives for an entry, if the file has all that the entry needs.
 fn entry_stats(
     alloc: Global,
     query: &Query,
@@ -59,11 +59,11 @@ fn entry_stats(
     Ok(stats)
 }
 
-/// The statistics that the bounds of a query ask for, from a file that keeps the rules (SafeBound, SIGMOD 2023). The parts are those of
-/// `split`. No table is read, and the time goes with the file's length and the query's.
+/// The statistics that the bounds of a query ask for, from a file that keeps the rules (SafeBound, SIGMOD 2023). `parts` has the parts that `split`
+/// makes of the query. No table is read, and the time grows with the length of the file and the length of the query.
 ///
-/// `Missing` comes exactly where an entry needs a section or a pair that the file doesn't have, and names the first such entry; `NoMemory`
-/// where memory is wanting.
+/// `Missing` comes exactly if an entry needs a section or a pair that the file doesn't have, and names the first such entry. `NoMemory` comes if
+/// memory runs out.
 pub fn query_stats(
     alloc: Global,
     query: &Query,

@@ -1,4 +1,4 @@
--- Lists that agree where an entry's own conjuncts ask for them leave one filtered list.
+-- If the lists of columns agree for all that an entry's own conjuncts ask of them, the filtered lists are equal.
 use Rattle.std.proofs.Common.{◌≡◌, ℕ, List, [], ◌∷◌, map, Option, Some, refl, ap, sym, ◌∙◌}
 use Rattle.std.specs.List.{Contains}
 use Rattle.csv_tables.specs.Values.{Value}
@@ -14,7 +14,6 @@ use Rattle.predicate_bounds.specs.Steps.{range_of, steps_of, value_of}
 use Rattle.predicate_bounds.proofs.Answering.{lists_answer}
 use Rattle.query_types.specs.declared.types.Cond.{Cond}
 
--- the lists of the values and of the ranges of a column
 pub record AgreeAt (a b : ColumnLists) (column : ℕ) : Type 0 where
   pub equal : (value : Value) → a.equal column value ≡ b.equal column value
   pub range : (low high : Option Value) → a.range (record { column = column; low = low; high = high }) ≡ b.range (record { column = column; low = low; high = high })

@@ -1,4 +1,4 @@
--- The bounds that a file gives are those of its tables.
+-- The bounds that the statistics file of a query gives are the bounds that the query's tables give.
 use Rattle.std.proofs.Common.{◌≡◌, ℕ, ◌<◌, ◌≤◌, true, false, eqb, List, [], ◌∷◌, length, get_or, sum, Option, None, Some, refl, ap, sym, ◌∙◌, subst, inl, inr, arith}
 use Rattle.std.specs.Prelude.{if◌then◌else◌, nat_lt, IfSome}
 use Rattle.std.specs.Bool.{IsTrue}
@@ -56,9 +56,9 @@ use Rattle.stats_file_exactness.proofs.Members.{any_passes}
 use Rattle.stats_file_exactness.proofs.Sections as sections
 use Rattle.stats_file_exactness.proofs.Sections.{IsSectionOf, all_there, found_is, section_there}
 
--- ---- what a file has to know
+-- ---- a file that knows the tables
 
--- it has all that the query needs; of each entry it has the number of rows, and of two columns no other pair than that of the entry's table
+-- a pair is the statistics of a filter column for a joined column. If the file has a pair of two columns, it is the pair that the table has
 pub record KnowsTables (query : Query) (file : StatsFile) (tables : Tables) (accuracy : ℕ) : Type 0 where
   pub is_file : IsFile file
   pub names : NamesItsEntries query
@@ -86,7 +86,6 @@ module _ (query : Query) (file : StatsFile) (tables : Tables) (accuracy : ℕ) (
     all : list_all (has_pair section) (pairs_of needs) ≡ true
     all = its_pairs query file knows.is_file entry there
 
-    -- a pair that is found is that of the table
     found_pair : (filter_column joined : ℕ) → (p : Pair) × (pair_in section filter_column joined ≡ Some p) → pair_for section filter_column joined ≡ pair_in_table tables accuracy entry filter_column joined
     found_pair filter_column joined found =
         its section from_stats_file needs all filter_column joined found.0 found.1 ∙ knows.pairs entry low filter_column joined found.0 found.1
@@ -97,7 +96,7 @@ module _ (query : Query) (file : StatsFile) (tables : Tables) (accuracy : ℕ) (
 
     -- ---- lists
 
-    -- the list of all rows in the file, and all other lists as the tables have them
+    -- only the list of all rows is from the file; the other lists are from the tables
     abbrev made : ℕ → ColumnLists
     made joined = record {
       whole = whole_list section needs joined;

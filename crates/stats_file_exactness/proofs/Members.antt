@@ -1,4 +1,4 @@
--- What is in lists that are made of others.
+-- The lemmas are about members of lists that are made from other lists.
 use Rattle.std.proofs.Common.{◌≡◌, ℕ, Bool, true, not, eqb, List, [], ◌∷◌, Some, refl, ap, sym, ◌∙◌, inl, inr}
 use Rattle.std.specs.Prelude.{find}
 use Rattle.std.specs.List.{Contains, filter, flat_map, list_any}
@@ -8,7 +8,6 @@ use Rattle.degree_sequences.specs.Degrees.{different}
 use Rattle.entry_sets.proofs.Listing.{in_front, in_none, in_rest, one_in}
 use Rattle.level_bounds.proofs.Lists.{from_filter}
 
--- where some element passes one is found
 pub find_some : {X : Type 0} (p : X → Bool) (xs : List X) (x : X) → Contains xs x → p x ≡ true → (y : X) × (find p xs ≡ Some y)
 find_some p [] x has passes = absurd (in_none x has)
 find_some p (y ∷ xs) x has passes = elim (cases_Bool (p y)) [

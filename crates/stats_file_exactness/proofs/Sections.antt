@@ -1,4 +1,5 @@
--- The section of an entry's table in the file of a query, and the pairs in it.
+-- In the statistics file of a query, an entry's table has a section with pairs. A pair has the statistics of a filter column for a joined column of the
+-- table. The lemmas say that the file has each pair that the entry needs, and that it is the pair of the entry's table.
 use Rattle.std.proofs.Common.{◌≡◌, ℕ, ◌<◌, Bool, true, ◌&&◌, eqb, if◌then◌else◌, List, [], ◌∷◌, length, map, Option, None, Some, option_map, refl, ap, sym, ◌∙◌, subst, arith}
 use Rattle.std.specs.Prelude.{find, is_some, slice_index_or, IfSome}
 use Rattle.std.specs.List.{All, Contains, filter, filter_map, list_all, list_any, range_with_len}
@@ -39,7 +40,6 @@ use Rattle.stats_file_exactness.proofs.Members.{any_true, find_some, from_differ
 
 -- ---- pairs between columns
 
--- both columns of a needed pair are filter columns or joined ones
 pub pair_columns : (P : ℕ → Type 0) (filters joined : List ℕ) → ((c : ℕ) → Contains filters c → P c) → ((c : ℕ) → Contains joined c → P c)
     → (x : ColumnPair) → Contains (pairs_between filters joined) x → P x.filter × P x.joined
 pair_columns P [] joined has_filter has_joined x has =
@@ -62,7 +62,6 @@ module _ (schema : Schema) (query : Query) (db : Database) (over : IsOverSchema 
 
   -- ---- columns
 
-  -- a column of an entry's table
   abbrev IsThere : ℕ → ℕ → Type 0
   IsThere entry column = column < length (cells_of db entry).kinds
 
@@ -87,7 +86,7 @@ module _ (schema : Schema) (query : Query) (db : Database) (over : IsOverSchema 
 
   -- ---- the section
 
-  -- it is made of the rows of the first entry of the table
+  -- entries that have a table together share its section, which is made from the first of them
   pub record IsSectionOf (entry : ℕ) (section : TableStats) : Type 0 where
     pub first : ℕ
     pub low : first < length query.from
@@ -104,7 +103,6 @@ module _ (schema : Schema) (query : Query) (db : Database) (over : IsOverSchema 
       let same : section_of_table schema query (tables_of db) accuracy table first ≡ section = cc in
       (first, is, sym same)
 
-  -- what stands in the file for the table of an entry is of this table
   pub section_is : (entry : ℕ) (section : TableStats) → section_of file (table_of query entry) ≡ Some section → IsSectionOf entry section
   section_is entry section found =
       let there = found_in (λ (one : TableStats). eqb one.table (table_of query entry)) (filter_map make (range_with_len 0 (length schema.tables))) section found in
@@ -135,7 +133,7 @@ module _ (schema : Schema) (query : Query) (db : Database) (over : IsOverSchema 
       (ap (option_map (section_of_table schema query (tables_of db) accuracy table)) first.1))
       (eq-eqb table table refl)
 
-  -- ---- its pairs
+  -- ---- the pairs of the section
 
   module _ (entry : ℕ) (low : entry < length query.from) (section : TableStats) (is : IsSectionOf entry section) where
     abbrev count : ℕ
@@ -153,7 +151,6 @@ module _ (schema : Schema) (query : Query) (db : Database) (over : IsOverSchema 
     same_cells : cells_of db is.first ≡ cells_of db entry
     same_cells = ap (λ slot. slice_index_or db.cells slot no_cells) (over.of.database.one_place is.first entry is.low low is.same)
 
-    -- pairs of two entries of one table are one
     same_pair : (filter_column joined : ℕ) → IsThere entry filter_column → IsThere entry joined → made filter_column joined ≡ its_pair entry filter_column joined
     same_pair filter_column joined has_filter has_joined =
         sym (pair_same schema query db over accuracy is.first is.low filter_column joined (subst (λ (cells : Cells). filter_column < length cells.kinds) (sym same_cells) has_filter)
@@ -169,7 +166,6 @@ module _ (schema : Schema) (query : Query) (db : Database) (over : IsOverSchema 
     there_is : (column : ℕ) → column < count → IsThere entry column
     there_is column h = omega (arith, h, kinds_are schema query db over accuracy entry low)
 
-    -- a pair that is found is that of the entry's table
     pub found_is : (filter_column joined : ℕ) (p : Pair) → pair_in section filter_column joined ≡ Some p → p ≡ its_pair entry filter_column joined
     found_is filter_column joined p found =
         let there = found_in (are_columns filter_column joined) pairs p (ap (find (are_columns filter_column joined)) (sym its_pairs) ∙ found) in
@@ -184,7 +180,6 @@ module _ (schema : Schema) (query : Query) (db : Database) (over : IsOverSchema 
         in_lists (λ e. if eqb (table_of query e) (table_of query entry) then needed query e else []) (range_with_len 0 (length query.from)) entry x
         (in_range 0 (length query.from) entry (omega arith) (omega (arith, low))) (rw (eq-eqb (table_of query entry) (table_of query entry) refl) has)
 
-    -- each needed pair is there
     pub all_there : list_all (has_pair section) (needed query entry) ≡ true
     all_there =
         true_for_all (has_pair section) (needed query entry) (λ x has.

@@ -1,4 +1,4 @@
-//! What holds of the file of a query and of its tables: no law computes anything, and the contract is the law.
+//! Laws of the statistics file of a query. The contract of a function is the law; the function does nothing.
 ghost use Rattle.std.specs.Prelude.{◌≡◌, ◌<◌, ◌≤◌, ℕ, None, Ok};
 ghost use Rattle.csv_tables.specs.declared.types.Database.{Database};
 ghost use Rattle.gathered_stats.specs.Statistics.{statistics_of};
@@ -14,8 +14,8 @@ ghost use Rattle.stats_file_of_query.specs.Files.{file_of_query};
 ghost use Rattle.stats_file_bounds.specs.FileStatistics.{stats_file_statistics};
 ghost use Rattle.stats_file_bounds.specs.Found.{first_missing};
 
-/// The file of a query at an accuracy lacks nothing that the query needs, and the bounds of scans, of entries and of sets that are made
-/// from it are those that are made from the statistics of its tables at this accuracy.
+/// The statistics file of a query at an accuracy lacks nothing that the query needs. The bounds of scans, of entries and of sets that are made from
+/// this file are the same as the bounds that are made from the statistics of the query's tables at this accuracy.
 pub fn bounds_from_files_are_exact()
     ensures all { (schema : Schema) (query : Query) (db : Database) (accuracy : ℕ) → IsOverSchema schema query db
         → 0 < accuracy → accuracy ≤ 64 → first_missing query (file_of_query schema query (tables_of db) accuracy) ≡ None }
@@ -33,7 +33,7 @@ pub fn bounds_from_files_are_exact()
         ≡ set_bounds query (statistics_of (tables_of db) accuracy) }
 {}
 
-/// The text of the file of a query is read back as that file.
+/// The text of the statistics file of a query is read back as the same file.
 pub fn files_are_read_back()
     ensures { (schema : Schema) (query : Query) (db : Database) (accuracy : ℕ) → IsOverSchema schema query db → HasByteColumns schema
         → 0 < accuracy → accuracy ≤ 64

@@ -1,7 +1,7 @@
-//! Why a plan from the file of a query is the plan from its tables.
+//! Why a plan from the statistics file of a query is the plan from the query's tables.
 //!
-//! The file of a query has all that the query needs, what it tells gives the bounds that the statistics of the tables give, and its text is
-//! read back as itself. Callers cite `laws`.
+//! The file has all that the query needs. It gives the same bounds as the statistics of the tables. And its text is read back as the same file. Callers
+//! cite `laws`.
 #![tactic(auto)]
 
 pub mod laws;

@@ -1,4 +1,4 @@
--- One column more, and one pair more.
+-- The code adds one column or one pair at a time to its lists.
 use Rattle.std.proofs.Common.{◌≡◌, ◌==◌, true, false, ℕ, ◌+◌, ◌<◌, ◌≤◌, List, [], ◌∷◌, ◌++◌, map, length, take, get_or, append_assoc, Option, None, Some, refl, ap, sym, ◌∙◌}
 use Rattle.std.specs.List.{filter_map, list_any}
 use Rattle.std.proofs.lemmas.List.{append-nil, map-append, take_all, take_more}
@@ -36,7 +36,7 @@ pub all_columns : {X : Type 0} (f : X → Option ℕ) (xs : List X) (i : ℕ) (c
     → columns ≡ different (filter_map f xs)
 all_columns f xs i columns past are = are ∙ ap (λ s. different (filter_map f s)) (take_all i xs past)
 
--- ---- what is put behind, item by item
+-- ---- items are appended one by one
 
 pub one_pair_more : {X Y : Type 0} (f : X → Y) (xs : List X) (i : ℕ) (x : X) (first old new : List Y) → i < length xs → old ≡ first ++ map f (take i xs)
     → new ≡ old ++ f (get_or xs i x) ∷ [] → new ≡ first ++ map f (take (i + 1) xs)

@@ -1,4 +1,4 @@
--- Pairs of one table agree.
+-- Any two pairs of a table agree (`Agree` of stats_file).
 use Rattle.std.proofs.Common.{◌≡◌, ℕ, ◌+◌, ◌*◌, ◌/◌, ◌<◌, ◌≤◌, Bool, eqb, List, [], ◌∷◌, ◌++◌, length, map, sum, refl, ap, sym, ◌∙◌, arith}
 use Rattle.std.specs.List.{count_by, flat_map, range_with_len, zip}
 use Rattle.std.proofs.Math.Path.{fun_ext}
@@ -23,7 +23,7 @@ map-flat F [] = refl
 map-flat F (x ∷ xs) = map-append sum (F x) (flat_map F xs) ∙ ap (λ s. map sum (F x) ++ s) (map-flat F xs)
 
 module _ (le : ℕ → ℕ → Bool) (datum : ℕ → Datum) (k : ℕ) where
-  -- ---- what depends on the filter values alone
+  -- ---- the sums of lists depend on the filter values alone
 
   abbrev node_counts : List ℕ → List ℕ
   node_counts column = flat_map (λ size. map (λ i. count_by (λ v. in_node size (size * i) (leaf_of le column v)) column) (range_with_len 0 (32 / size))) node_sizes

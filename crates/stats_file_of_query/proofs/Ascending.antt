@@ -1,4 +1,4 @@
--- Cells in order, and the values at which leaves begin.
+-- The cells of a column are put in order, and so are the values at which leaves begin.
 use Rattle.std.proofs.Common.{◌≡◌, ◌≢◌, ◌⊎◌, ℕ, zero, suc, ◌+◌, ◌*◌, ◌/◌, ◌<◌, ◌≤◌, Bool, true, false, eqb, List, [], ◌∷◌, length, map, get_or, refl, ap, sym, ◌∙◌, subst, inl, inr, arith}
 use Rattle.std.specs.List.{All, AllByRecursion, AllPairs, range_with_len}
 use Rattle.std.specs.Ordering.{is_eq, is_ge, is_le, ordering_reverse}
@@ -47,7 +47,6 @@ module _ (value : ℕ → Value) where
   abbrev at_most : ℕ → ℕ → Bool
   at_most a b = value_le (value a) (value b)
 
-  -- each is at most all that follow
   abbrev pub Ascends : List ℕ → Type 0
   Ascends [] = Unit {0}
   Ascends (x ∷ xs) = AllByRecursion (λ y. at_most x y ≡ true) xs × Ascends xs
@@ -98,14 +97,13 @@ module _ (value : ℕ → Value) where
       ∙ in_places ordered (ascends column) (cut_place n i) (cut_place n j) (cut_place-mono n i j (omega (arith, before)))
       (omega (arith, length-in_order at_most column, cut_place-within n j some low))
 
--- ---- as a file has them
+-- ---- the order of values in a file
 
 le_not_greater : (o : Ordering) → is_le o ≡ true → o ≢ Greater
 le_not_greater Less h e = cc
 le_not_greater Equal h e = cc
 le_not_greater Greater h e = absurd (false≢true h)
 
--- texts are UTF-8
 abbrev pub IsText : Value → Type 0
 IsText (values.Int number) = Unit {0}
 IsText (values.Text text) = IsUtf8 text

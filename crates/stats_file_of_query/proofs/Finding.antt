@@ -1,9 +1,9 @@
--- What is found, and what is found nowhere.
+-- `find` finds an element that is in the list and passes the test. In a range, it finds the first number that passes.
 use Rattle.std.proofs.Common.{◌≡◌, ℕ, zero, suc, ◌+◌, ◌<◌, ◌≤◌, Bool, true, false, cond, List, [], ◌∷◌, Option, None, Some, find, refl, ap, sym, ◌∙◌, inl, inr, arith}
 use Rattle.std.specs.List.{Contains, range_with_len}
 use Rattle.std.proofs.lemmas.Bool.{cases_Bool, cases_eq}
 
--- ---- what is found is there
+-- ---- the element that is found is in the list and passes the test
 
 contains_later : {X : Type 0} (x y : X) (xs : List X) → Contains xs y → Contains (x ∷ xs) y
 contains_later x y xs has = (suc has.0, omega (arith, has.1), has.2)
@@ -17,7 +17,6 @@ found_in p (y ∷ xs) x e = elim (cases_Bool (p y)) [
 
 -- ---- along a range
 
--- the first number that passes
 pub first_found : (p : ℕ → Bool) (a n i : ℕ) → a ≤ i → i < a + n → ((k : ℕ) → a ≤ k → k < i → p k ≡ false) → p i ≡ true → find p (range_with_len a n) ≡ Some i
 first_found p a zero i low high before here = absurd (omega arith)
 first_found p a (suc n) i low high before here = elim (cases_eq a i) [

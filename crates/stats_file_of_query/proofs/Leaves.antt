@@ -1,4 +1,4 @@
--- The last cut that is at most a value, cut by cut.
+-- A loop goes through the cuts and finds the last cut that is at most a value.
 use Rattle.std.proofs.Common.{◌≡◌, ℕ, zero, suc, ◌+◌, ◌<◌, ◌≤◌, Bool, List, [], cond, take, length, get_or, refl, ap, sym, ◌∙◌, arith}
 use Rattle.std.specs.List.{range_with_len}
 use Rattle.std.proofs.lemmas.List.{get_or_default}
@@ -24,7 +24,6 @@ all_leaves p n i leaf past is = at_all_cuts p (range_with_len 0 n) i leaf (omega
 pub leaf_below : (p : ℕ → Bool) (n leaf : ℕ) → n ≤ 32 → leaf ≡ last_place p (range_with_len 0 n) → leaf < 32
 leaf_below p n leaf few is = omega (arith, is, last_place-within p (range_with_len 0 n) 31 (omega (arith, few, range_length n 0)))
 
--- the cut at a place of the list that is gone through
 pub cut_here : (cuts items : List Datum) (i : ℕ) (cut : Datum) → items ≡ cuts → i < length items → cut ≡ get_or items i cut → cut ≡ get_or cuts i (datum.Text [])
 cut_here cuts items i cut same low is =
     is ∙ ap (λ (s : List Datum). get_or s i cut) same ∙ get_or_default cuts i cut (datum.Text []) (omega (arith, ap (λ (s : List Datum). length s) same))

@@ -52,7 +52,7 @@ positive_rest pairs =
     (greatest (map (degree (filter_values pairs)) (remaining (filter_values pairs))))
     (IsFalling-maxima (λ value. degree_list (keys_with value pairs)) (λ w. IsFalling-degree_list (keys_with w pairs)) (remaining (filter_values pairs)))
 
--- ---- the lists of rows of a filter value and a joined key
+-- ---- the lists that are made from rows, each with a filter value and a joined key
 
 module _ (k n : ℕ) (pairs : List (ℕ × ℕ)) (few : length pairs ≤ n) where
   as_many : length (filter_values pairs) ≡ length pairs

@@ -1,4 +1,4 @@
--- The statistics of a pair as they are made.
+-- The code makes the statistics of a pair in steps. The lemmas say what each step gives.
 use Rattle.std.proofs.Common.{◌≡◌, ℕ, ◌<◌, List, [], length, map, Some, slice_get, refl, ap, sym, ◌∙◌, subst, arith}
 use Rattle.std.specs.List.{All, AllByRecursion, zip}
 use Rattle.std.proofs.lemmas.List.Elements.{All-from_recursion, All-map, recursion_from_All}
@@ -26,7 +26,7 @@ use Rattle.stats_file.specs.declared.types.Pair.{Pair}
 use Rattle.stats_file_of_query.specs.Data.{datum_of}
 use Rattle.stats_file_of_query.specs.Pairs.{frequent_in, pair_in_cells}
 
--- ---- columns as they are read
+-- ---- columns as the code reads them
 
 module _ (texts : List (List ℕ)) (cells : Cells) (are : AreCells texts cells) (column : ℕ) (low : column < length cells.kinds) where
   pub its_kind : (k : Kind) → slice_get cells.kinds column ≡ Some k → kind_in cells column ≡ k
@@ -51,7 +51,7 @@ module _ (texts : List (List ℕ)) (cells : Cells) (are : AreCells texts cells) 
       → column_is ≡ record { texts = texts; kind = k; cells = read } → IsColumnIn texts cells column column_is
   column_in column_is k read kind_is is made = record { exists = low; is = rw (made, sym kind_is, is) refl }
 
--- ---- what statistics hold of a column's cells
+-- ---- the cells in the statistics of a column are cells of its kind
 
 module _ (texts : List (List ℕ)) (k : Kind) (filter joined : List ℕ) (are : All (IsCell texts k) filter) (high : length filter ≡ length joined) (accuracy : ℕ) where
   firsts : filter_values (zip filter joined) ≡ filter
@@ -71,7 +71,7 @@ module _ (texts : List (List ℕ)) (k : Kind) (filter joined : List ℕ) (are : 
       (All-from_recursion (IsCell texts k) (cuts (cell_le texts k) filter)
       (All-cuts (IsCell texts k) (cell_le texts k) (cell_le texts k) (λ cell. cell) (λ a b has_a has_b. refl) filter own))
 
--- ---- the sorted column, and the statistics of a joined one
+-- ---- the sorted filter column, and its statistics for a joined column
 
 module _ (texts : List (List ℕ)) (cells : Cells) (are : AreCells texts cells) (filter joined : ℕ) (sorted : CellColumn) (is : IsColumnIn texts cells filter sorted)
     (has_joined : joined < length cells.kinds) (k : Kind) (kind_is : kind_in cells filter ≡ k) (keys : List ℕ) (keys_are : keys ≡ cells_in cells joined) (accuracy : ℕ) where

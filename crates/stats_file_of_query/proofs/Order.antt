@@ -1,4 +1,4 @@
--- What is made of pairs and of tables stands in their order.
+-- Pairs that are made column by column, and sections that are made table by table, stand in order.
 use Rattle.std.proofs.Common.{◌≡◌, ℕ, zero, suc, ◌+◌, ◌<◌, ◌≤◌, Bool, ◌⊎◌, inl, inr, List, [], ◌∷◌, ◌++◌, length, map, get_or, Option, None, Some, refl, ap, sym, ◌∙◌, subst, arith}
 use Rattle.std.specs.List.{All, AllByRecursion, AllPairs, cons_option, filter, filter_map, flat_map, list_any, range_with_len}
 use Rattle.std.proofs.lemmas.Bool.{cond_both}
@@ -8,7 +8,6 @@ use Rattle.stats_file_of_query.specs.declared.column_pairs.ColumnPair.{ColumnPai
 use Rattle.stats_file_of_query.specs.ColumnPairs.{is_pair}
 use Rattle.stats_file_of_query.specs.Files.{for_each_pair, joined_with}
 
--- each stands so to all that follow
 abbrev pub Follow : {X : Type 0} → (X → X → Type 0) → List X → Type 0
 Follow R [] = Unit {0}
 Follow R (x ∷ xs) = AllByRecursion (R x) xs × Follow R xs
@@ -105,7 +104,7 @@ module _ {A : Type 0} (make : ℕ → ℕ → A) (needed : List ColumnPair) (cou
   pub pairs_in_order : AllPairs R (for_each_pair make needed count)
   pairs_in_order = in_pairs R (for_each_pair make needed count) (blocks (range_with_len 0 count) (range_ascends 0 count))
 
--- ---- what is made of some numbers that ascend
+-- ---- items that are made for some of the numbers of an ascending list
 
 each_cons : {A : Type 0} (P : A → Type 0) (found : Option A) (rest : List A) → ((y : A) → found ≡ Some y → P y) → AllByRecursion P rest → AllByRecursion P (cons_option found rest)
 each_cons P None rest h all = all

@@ -1,4 +1,4 @@
--- A pair of columns of cells keeps the rules of files.
+-- The pair that is made from two columns of cells keeps the rules of files.
 use Rattle.std.proofs.Common.{◌≡◌, ◌≢◌, ℕ, zero, suc, ◌+◌, ◌*◌, ◌/◌, ◌<◌, ◌≤◌, ◌^◌, Bool, true, eqb, List, [], ◌∷◌, length, length-take, map, get_or, sum, Some, slice_get, refl, ap, sym, ◌∙◌, subst, arith}
 use Rattle.std.specs.List.{All, AllByRecursion, AllPairs, flat_map, range_with_len, zip}
 use Rattle.std.specs.declared.cmp.Ordering.TheVariants.{Greater}
@@ -45,12 +45,10 @@ use Rattle.stats_file_of_query.specs.Pairs.{frequent_in, pair_of}
 use Rattle.stats_file_of_query.proofs.Ascending.{IsText, cuts_ascend, not_above}
 use Rattle.stats_file_of_query.proofs.Lists.{node_listed, rest_listed, value_listed, whole_listed}
 
--- a value is that of its datum
 back : (v : Value) → value_of (datum_of v) ≡ v
 back (values.Int number) = refl
 back (values.Text text) = refl
 
--- what holds of each pair of different places is carried by a map
 pub pairs_mapped : {X Y : Type 0} (R : X → X → Type 0) (S : Y → Y → Type 0) (f : X → Y) (xs : List X) (d : X) → AllPairs R xs
     → ((i j : ℕ) → i < j → j < length xs → R (get_or xs i d) (get_or xs j d) → S (f (get_or xs i d)) (f (get_or xs j d))) → AllPairs S (map f xs)
 pairs_mapped R S f xs d all each i j e before low =
@@ -98,7 +96,6 @@ module _ (texts : List (List ℕ)) (differ : HaveDifferentCharacters texts) (utf
   of_kind kind.Int cell is = sfits_to_z {w = w64} {n = cell} (Fits-of_lt {w = w64} {n = cell} is)
   of_kind (kind.Text most) cell is = utf8 cell [] is
 
-  -- different cells are different values
   apart : (a b : ℕ) → IsCell texts k a → IsCell texts k b → a ≢ b → datum a ≢ datum b
   apart a b is_a is_b differs same =
       let values_same : of_cell a ≡ of_cell b = sym (back (of_cell a)) ∙ ap value_of same ∙ back (of_cell b) in

@@ -1,4 +1,4 @@
--- What the pool of a database knows makes the database one that a file is made from.
+-- The texts in the pool of a database are UTF-8 and different. So from a database that was read for a query, a file can be made (`IsOverSchema`).
 use Rattle.std.specs.Prelude.{All}
 use Rattle.std.specs.Str.{IsUtf8}
 use Rattle.csv_tables.specs.Pools.{TextsAreDifferent}

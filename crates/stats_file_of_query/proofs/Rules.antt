@@ -161,7 +161,7 @@ module _ (schema : Schema) (query : Query) (db : Database) (over : IsOverSchema 
   pub file_keeps : 0 < accuracy → accuracy ≤ 64 → KeepsRules schema (file_of_query schema query (tables_of db) accuracy)
   file_keeps some few = subst (KeepsRules schema) file_is (sections_keep some few)
 
-  -- ---- as it is made
+  -- ---- the file, as the code makes it
 
   pub file_made : (number : ℕ) (sections : List TableStats) → number ≡ accuracy → sections ≡ sections_of_cells query db accuracy (length schema.tables)
       → (let file : StatsFile = record { accuracy = number; tables = sections } in file) ≡ file_of_query schema query (tables_of db) accuracy

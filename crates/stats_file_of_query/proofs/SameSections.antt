@@ -1,4 +1,4 @@
--- The sections that are made of cells are those of the tables.
+-- The sections that are made from cells are the sections that are defined by the tables' values.
 use Rattle.std.proofs.Common.{◌≡◌, ℕ, suc, ◌+◌, ◌==◌, ◌<◌, List, [], ◌∷◌, length, map, get_or, Option, None, Some, option_map, refl, ap, sym, ◌∙◌, subst, arith}
 use Rattle.std.specs.List.{AllByRecursion, Contains, filter, filter_map, flat_map, list_any, range_with_len}
 use Rattle.std.proofs.lemmas.Bool.{eqb-true}
@@ -26,7 +26,7 @@ use Rattle.stats_file_of_query.specs.Pairs.{pair_in_cells, pair_in_table, pair_o
 use Rattle.stats_file_of_query.proofs.Finding.{found_in}
 use Rattle.stats_file_of_query.proofs.SameValues.{pair_is}
 
--- ---- what is made alike of each is alike
+-- ---- if two functions agree on each element of a list, what they make from the list is equal
 
 pub same_filtered : {X Y : Type 0} (f g : X → Option Y) (xs : List X) → ((x : X) → Contains xs x → f x ≡ g x) → filter_map f xs ≡ filter_map g xs
 same_filtered f g [] alike = refl
@@ -44,7 +44,6 @@ same_lists f g (x ∷ xs) alike =
     later : {X : Type 0} (x : X) (xs : List X) (i : ℕ) (d : X) → get_or (x ∷ xs) (i + 1) d ≡ get_or xs i d
     later x xs i d = let e : i + 1 ≡ suc i = omega arith in rw e refl
 
--- the pairs that are made of each
 pub same_pairs : (make other : ℕ → ℕ → Pair) (needed : List ColumnPair) (count : ℕ) → ((filter joined : ℕ) → filter < count → joined < count → make filter joined ≡ other filter joined)
     → for_each_pair make needed count ≡ for_each_pair other needed count
 same_pairs make other needed count alike =

@@ -1,4 +1,4 @@
--- The statistics of two columns of cells are those of their values.
+-- The statistics of two columns of cells are the statistics of the cells' values.
 use Rattle.std.proofs.Common.{◌≡◌, ℕ, ◌*◌, ◌/◌, ◌<◌, Bool, true, eqb, List, [], ◌∷◌, length, map, get_or, pos, Some, refl, ap, sym, ◌∙◌, subst, arith}
 use Rattle.std.specs.List.{All, AllByRecursion, Contains, flat_map, list_any, range_with_len, zip}
 use Rattle.std.proofs.Math.Path.{fun_ext}
@@ -34,7 +34,7 @@ use Rattle.table_stats.proofs.FirstRows.{first_has, first_there}
 use Rattle.stats_file_of_query.specs.Data.{datum_of}
 use Rattle.stats_file_of_query.specs.Pairs.{datum_of_row, frequent_in, pair_of, pair_of_values}
 
--- ---- parts
+-- ---- pairs with equal parts are equal
 
 pub same_parts : (filter joined : ℕ) (all all' rest rest' : List ℕ) (frequent frequent' : List (Datum × List ℕ)) (cuts cuts' : List Datum) (nodes nodes' : List (List ℕ))
     → all ≡ all' → frequent ≡ frequent' → rest ≡ rest' → cuts ≡ cuts' → nodes ≡ nodes'
@@ -42,7 +42,6 @@ pub same_parts : (filter joined : ℕ) (all all' rest rest' : List ℕ) (frequen
     ≡ record { filter = filter; joined = joined; whole = all'; frequent = frequent'; rest = rest'; cuts = cuts'; nodes = nodes' }
 same_parts filter joined all all' rest rest' frequent frequent' cuts cuts' nodes nodes' a f r c n = rw (a, f, r, c, n) refl
 
--- nodes that are alike are alike in one list
 same_nodes : (le le' : ℕ → ℕ → Bool) (accuracy : ℕ) (rows rows' : List (ℕ × ℕ)) → length rows ≡ length rows'
     → ((size leaf : ℕ) → list_of_node le accuracy rows size leaf ≡ list_of_node le' accuracy rows' size leaf)
     → node_lists le accuracy rows ≡ node_lists le' accuracy rows'
@@ -61,7 +60,7 @@ module _ (texts : List (List ℕ)) (differ : HaveDifferentCharacters texts) (kin
   abbrev keys : List Value
   keys = cell_values texts differ other joined are_joined
 
-  -- the first rows that have the values of cells
+  -- the first row that has the value of a cell stands for this value
   abbrev row_of : ℕ → ℕ
   row_of = number_of texts differ kind filter are_filter
 
@@ -103,7 +102,7 @@ module _ (texts : List (List ℕ)) (differ : HaveDifferentCharacters texts) (kin
   second_of_cells : joined_keys cells ≡ joined
   second_of_cells = (columns_are filter joined high).1
 
-  -- ---- the value of a cell is that of its first row
+  -- ---- the value of a cell is the value of its first row
 
   abbrev of_cell : ℕ → Value
   of_cell cell = value_of_cell texts kind cell
@@ -126,7 +125,6 @@ module _ (texts : List (List ℕ)) (differ : HaveDifferentCharacters texts) (kin
 
   -- ---- frequent values, cuts and nodes
 
-  -- a frequent value is found among them
   found : (column : List ℕ) (n : ℕ) → Contains (frequent column) n → (pairs : List (ℕ × ℕ)) → filter_values pairs ≡ column → is_frequent pairs n ≡ true
   found column n has pairs are =
       ap (λ (s : List ℕ). is_frequent_in (frequent s) n) are ∙ any-is_in (frequent column) n ∙ in_true (frequent column) n has

@@ -1,4 +1,4 @@
--- What small queries need, by computation.
+-- The pairs that small queries need are computed.
 use Rattle.std.proofs.Common.{◌≡◌, [], ◌∷◌, pos, true, refl, ap, sym, ◌∙◌, arith}
 use Rattle.query_grammar.specs.declared.tree.Op.{Op}
 use Rattle.query_grammar.specs.declared.tree.Op.TheVariants as op

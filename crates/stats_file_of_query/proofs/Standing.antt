@@ -1,4 +1,4 @@
--- The file of a query stands for its tables.
+-- The file of a query stands for the query's tables.
 use Rattle.std.proofs.Common.{◌≡◌, ℕ, ◌<◌, ◌==◌, Bool, true, false, cond, suc, List, [], ◌∷◌, length, map, get_or, Option, None, Some, option_map, find, refl, ap, sym, ◌∙◌, subst, arith}
 use Rattle.std.specs.Prelude.{slice_index_or}
 use Rattle.std.specs.List.{All, AllByRecursion, Contains, filter, filter_map, flat_map, list_any, range_with_len}
@@ -30,7 +30,7 @@ use Rattle.stats_file_of_query.proofs.SameSections.{first_is}
 use Rattle.stats_file_of_query.proofs.Stands.{pair_stands}
 use Rattle.stats_file_of_query.proofs.Walks.{kept_below}
 
--- ---- what is made of each pair
+-- ---- a property of each pair that is made, for the list of needed pairs
 
 pub all_made : (P : Pair → Type 0) (make : ℕ → ℕ → Pair) (needed : List ColumnPair) (count : ℕ) → ((filter_column joined : ℕ) → filter_column < count → joined < count → P (make filter_column joined))
     → All P (for_each_pair make needed count)
@@ -47,7 +47,6 @@ all_made P make needed count each = of (range_with_len 0 count) (all_in_range (�
 -- ---- a section
 
 module _ (schema : Schema) (query : Query) (tables : Tables) (share : ShareRows query tables) (accuracy : ℕ) where
-  -- two entries of one table have the same columns, and so the same pairs
   same_column : (entry other column : ℕ) → tables entry ≡ tables other → column_values tables entry column ≡ column_values tables other column
   same_column entry other column same = ap (λ (rows : List Row). column_values (λ e. rows) 0 column) same
 
@@ -90,9 +89,8 @@ module _ (schema : Schema) (query : Query) (tables : Tables) (share : ShareRows 
       subst (λ (one : TableStats). SectionStandsFor one tables entry) (sym made.2)
       (section_stands its.0 made.0 entry first.0 low first.1 (sym table_is))
 
--- ---- of a database
+-- ---- the tables of a database
 
--- two entries of one table have the same cells
 pub share_rows : (schema : Schema) (query : Query) (db : Database) → IsOverSchema schema query db → ShareRows query (tables_of db)
 share_rows schema query db over entry other low also same =
     ap (λ slot. rows_of_cells db.pool (slice_index_or db.cells slot no_cells)) (over.of.database.one_place entry other low also same)

@@ -1,4 +1,4 @@
--- The statistics of a pair of columns stand for the rows of which they are made.
+-- The statistics of a pair of columns stand for the rows from which they are made.
 use Rattle.std.proofs.Common.{◌≡◌, ◌≢◌, ◌↔◌, ℕ, zero, suc, ◌+◌, ◌<◌, ◌≤◌, Bool, true, false, ◌==◌, if◌then◌else◌, eqb, pos, List, [], ◌∷◌, length, map, get_or, Option, None, Some, find, inl, inr, refl, ap, sym, ◌∙◌, subst, arith}
 use Rattle.std.specs.Prelude.{slice_index_or, ◌||◌}
 use Rattle.std.specs.List.{AllByRecursion, Contains, filter, list_any, range_with_len, sum, zip}
@@ -44,12 +44,11 @@ use Rattle.stats_file_of_query.specs.Data.{datum_of, value_of}
 use Rattle.stats_file_of_query.specs.Pairs.{datum_of_row, frequent_in, pair_in_table}
 use Rattle.stats_file_of_query.specs.Standing.{PairStandsFor, leaf_cut, is_in_node, is_value, leaf_of_value, list_of_node, list_of_value}
 
--- a value is that of its datum
 pub back : (v : Value) → value_of (datum_of v) ≡ v
 back (values.Int number) = refl
 back (values.Text text) = refl
 
--- ---- the last place that passes, by places and by elements
+-- ---- the last place that passes a test, where one test is on places and the other on the elements there
 
 later : (q p : ℕ → Bool) (x : ℕ) (xs : List ℕ) (first : ℕ) → ((i : ℕ) → i < length (x ∷ xs) → q (first + i) ≡ p (get_or (x ∷ xs) i 0))
     → (i : ℕ) → i < length xs → q ((first + 1) + i) ≡ p (get_or xs i 0)
@@ -74,7 +73,7 @@ by_place q p (x ∷ xs) first h =
 
 -- ---- a list that is looked up by its value
 
--- one value more, which either is the one or isn't
+-- `mine` says whether one more frequent value is the value that is looked up
 pick : (test mine any : Bool) (d : Datum) (list other others found : List ℕ) (rest : Option (Datum × List ℕ)) → test ≡ mine → (mine ≡ true → list ≡ other)
     → option_map_or (λ (one : Datum × List ℕ). one.1) rest others ≡ (if any then other else others)
     → option_map_or (λ (one : Datum × List ℕ). one.1) (if test then Some (d, list) else rest) others ≡ (if (mine || any) then other else others)
@@ -83,7 +82,6 @@ pick false false any d list other others found rest same is later = later
 pick true false any d list other others found rest same is later = absurd (false≢true (sym same))
 pick false true any d list other others found rest same is later = absurd (false≢true same)
 
--- the rows of two columns, by the numbers of their values
 pub numbered_pairs : (tables : Tables) (entry filter joined : ℕ) → paired (column_values tables entry filter) (column_values tables entry joined)
     ≡ zip (map (number_at tables entry filter) (range_with_len 0 (row_counts tables entry))) (map (number_at tables entry joined) (range_with_len 0 (row_counts tables entry)))
 numbered_pairs tables entry filter joined =
@@ -130,7 +128,6 @@ module _ (tables : Tables) (accuracy entry filter_column joined : ℕ) where
     abbrev number : ℕ
     number = first_row filters value
 
-    -- whether a frequent value is the one, and whether its number is
     abbrev IsAlike : ℕ → Type 0
     IsAlike n = is_value value (datum_of_row filters n) ≡ eqb n number
 
@@ -210,7 +207,7 @@ module _ (tables : Tables) (accuracy entry filter_column joined : ℕ) where
       ∙ ap (λ (numbers : List ℕ). map (number_at tables entry joined) (filter (λ row. passes numbers (number_at tables entry filter_column row)) rows)) firsts)
       (compressed_dominates accuracy (keys_where (passes (filter_values pairs)) pairs))
 
-  -- ---- over any keys that tell the values of the joined column
+  -- ---- any keys that tell the values of the joined column
 
   module _ (key : ℕ → ℕ) (tells : TellsValues tables entry joined key) where
     same_key : (row other : ℕ) → row < row_counts tables entry → other < row_counts tables entry

@@ -1,4 +1,4 @@
--- Walks over a range of numbers, a number at a time.
+-- Loops go over a range of numbers, one number at a time.
 use Rattle.std.proofs.Common.{◌≡◌, ℕ, ◌+◌, ◌<◌, ◌≤◌, Bool, true, false, cond, List, [], ◌∷◌, ◌++◌, map, length, Option, None, Some, append_assoc, refl, ap, sym, ◌∙◌, arith}
 use Rattle.std.specs.Prelude.{if◌then◌else◌}
 use Rattle.std.specs.List.{All, Contains, filter, filter_map, flat_map, range_with_len}
@@ -9,11 +9,10 @@ use Rattle.std.proofs.lemmas.List.Elements.{All-from_recursion, filter-append, f
 use Rattle.std.proofs.lemmas.List.FromFn.{map-range_with_len_more}
 use Rattle.level_bounds.proofs.Lists.{all_from, from_filter, range_within}
 
--- one number more
 pub range_more : (n : ℕ) → range_with_len 0 (n + 1) ≡ range_with_len 0 n ++ n ∷ []
 range_more n = sym (map-id (range_with_len 0 (n + 1))) ∙ map-range_with_len_more (λ i. i) 0 n n (omega arith) ∙ ap (λ s. s ++ n ∷ []) (map-id (range_with_len 0 n))
 
--- ---- what passes
+-- ---- the numbers that pass a test
 
 pub one_kept : (p : ℕ → Bool) (n : ℕ) (old new : List ℕ) → old ≡ filter p (range_with_len 0 n) → p n ≡ true → new ≡ old ++ n ∷ [] → new ≡ filter p (range_with_len 0 (n + 1))
 one_kept p n old new before passes pushed =
@@ -27,13 +26,12 @@ one_passed_over p n old new before fails same =
     same ∙ before ∙ sym (append-nil (filter p (range_with_len 0 n))) ∙ ap (λ s. filter p (range_with_len 0 n) ++ s) (sym none)
     ∙ sym (filter-append p (range_with_len 0 n) (n ∷ [])) ∙ ap (filter p) (sym (range_more n))
 
--- what passes of a range lies in it
 pub kept_below : (p : ℕ → Bool) (n : ℕ) → All (λ x. x < n) (filter p (range_with_len 0 n))
 kept_below p n =
     All-from_recursion (λ x. x < n) (filter p (range_with_len 0 n))
     (all_from (λ x. x < n) (filter p (range_with_len 0 n)) (λ x has. omega (arith, (range_within 0 n x (from_filter p (range_with_len 0 n) x has).0).1)))
 
--- ---- lists, one after the other
+-- ---- lists that are appended one after another
 
 pub one_list : {X : Type 0} (f : ℕ → List X) (n : ℕ) (old new : List X) → old ≡ flat_map f (range_with_len 0 n) → new ≡ old ++ f n → new ≡ flat_map f (range_with_len 0 (n + 1))
 one_list f n old new before added =
@@ -43,7 +41,6 @@ one_list f n old new before added =
 pub no_list : {X : Type 0} (f : ℕ → List X) (n : ℕ) (old new : List X) → old ≡ flat_map f (range_with_len 0 n) → f n ≡ [] → new ≡ old → new ≡ flat_map f (range_with_len 0 (n + 1))
 no_list f n old new before none same = one_list f n old new before (same ∙ sym (append-nil old) ∙ ap (λ s. old ++ s) (sym none))
 
--- where a test passes, and nothing where it doesn't
 pub one_if : {X : Type 0} (b : ℕ → Bool) (f : ℕ → List X) (n : ℕ) (old new : List X) → old ≡ flat_map (λ e. if b e then f e else []) (range_with_len 0 n) → b n ≡ true → new ≡ old ++ f n
     → new ≡ flat_map (λ e. if b e then f e else []) (range_with_len 0 (n + 1))
 one_if b f n old new before is added =
@@ -53,7 +50,7 @@ pub none_if : {X : Type 0} (b : ℕ → Bool) (f : ℕ → List X) (n : ℕ) (ol
     → new ≡ flat_map (λ e. if b e then f e else []) (range_with_len 0 (n + 1))
 none_if b f n old new before is same = no_list (λ e. if b e then f e else []) n old new before (ap (λ (t : Bool). if t then f n else []) is) same
 
--- ---- what is made of some
+-- ---- an item is made for some of the numbers
 
 pub one_made : {X : Type 0} (f : ℕ → Option X) (n : ℕ) (old new : List X) (x : X) → old ≡ filter_map f (range_with_len 0 n) → f n ≡ Some x → new ≡ old ++ x ∷ []
     → new ≡ filter_map f (range_with_len 0 (n + 1))

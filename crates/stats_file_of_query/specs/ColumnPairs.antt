@@ -6,7 +6,7 @@ use Rattle.stats_file_of_query.specs.declared.column_pairs.ColumnPair.{ColumnPai
 abbrev pub column_pair : ℕ → ℕ → ColumnPair
 column_pair filter joined = record { filter = filter; joined = joined }
 
--- it is the pair of these columns
+-- the pair has these columns
 abbrev pub is_pair : ℕ → ℕ → ColumnPair → Bool
 is_pair filter joined pair = pair.filter == filter && pair.joined == joined
 
@@ -17,7 +17,7 @@ of_itself column = column_pair column column
 abbrev pub with_each : List ℕ → ℕ → List ColumnPair
 with_each joined filter = map (column_pair filter) joined
 
--- each filter column with each joined one; where there are columns of one kind alone, each with itself
+-- each filter column with each joined column. If there are no filter columns or no joined columns, each column with itself
 abbrev pub pairs_between : List ℕ → List ℕ → List ColumnPair
 pairs_between [] joined = map of_itself joined
 pairs_between (filter ∷ filters) [] = map of_itself (filter ∷ filters)

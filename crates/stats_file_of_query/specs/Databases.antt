@@ -1,4 +1,4 @@
--- A query's database as its file of statistics is made from it.
+-- The database from which the statistics file of a query is made.
 use Rattle.std.specs.Prelude.{ℕ, ◌<◌, All, List, length}
 use Rattle.std.specs.Str.{IsUtf8}
 use Rattle.csv_tables.specs.Cells.{AreCellsOf}
@@ -15,20 +15,20 @@ use Rattle.stats_file_of_query.specs.Needs.{needed_of_table, table_of}
 use Rattle.stats_file_of_query.specs.Files.{for_each_pair, for_each_table, table_at}
 use Rattle.stats_file_of_query.specs.Pairs.{pair_in_cells}
 
--- the query is of the schema, and the database of the query; each entry has the cells of its table
+-- the query is a query of the schema, and the database fits the query; each entry has the cells of its table
 pub record IsReadOver (schema : Schema) (query : Query) (db : Database) : Type 0 where
   pub schema_is : IsValid schema
   pub query_is : IsOf schema query
   pub database : IsDatabaseOf query db
   pub cells : (entry : ℕ) → entry < length query.from → AreCellsOf (table_at schema (table_of query entry)) db.pool (cells_of db entry)
 
--- and the texts are UTF-8, no two of the same characters, as those of every pool are
+-- also the texts are UTF-8, and no two texts have the same characters. This is so for every pool
 pub record IsOverSchema (schema : Schema) (query : Query) (db : Database) : Type 0 where
   pub of : IsReadOver schema query db
   pub texts : All IsUtf8 db.pool
   pub differ : HaveDifferentCharacters db.pool
 
--- the section of a table from the cells of one of its entries
+-- the section of a table, from the cells of a FROM entry of this table
 abbrev pub section_of_cells : Query → Database → ℕ → ℕ → ℕ → TableStats
 section_of_cells query db accuracy table entry = record {
   table = table;

@@ -12,13 +12,13 @@ use Rattle.stats_file_of_query.specs.Needs.{needed_of_table, table_of}
 use Rattle.stats_file_of_query.specs.ColumnPairs.{is_pair}
 use Rattle.stats_file_of_query.specs.Pairs.{pair_in_table}
 
--- ---- of a table
+-- ---- the section of a table
 
--- the columns below so many with which a filter column is needed, ascending
+-- the columns, among the first `count` columns, with which a filter column makes a needed pair, in ascending order
 abbrev pub joined_with : List ColumnPair → ℕ → ℕ → List ℕ
 joined_with needed count column = filter (λ joined. list_any (is_pair column joined) needed) (range_with_len 0 count)
 
--- what is made of each needed pair, ascending by the filter column and then by the joined column
+-- what `make` gives for each needed pair, in ascending order by the filter column and then by the joined column
 abbrev pub for_each_pair : {A : Type 0} → (ℕ → ℕ → A) → List ColumnPair → ℕ → List A
 for_each_pair make needed count = flat_map (λ column. map (make column) (joined_with needed count column)) (range_with_len 0 count)
 
@@ -32,11 +32,11 @@ table_at schema table = slice_index_or schema.tables table no_table
 abbrev pub column_count : Schema → ℕ → ℕ
 column_count schema table = length (table_at schema table).columns
 
--- the first FROM entry of a table, where the query names it
+-- the first FROM entry of a table, if the query names the table
 abbrev pub first_entry : Query → ℕ → Option ℕ
 first_entry query table = find (λ entry. table_of query entry == table) (range_with_len 0 (length query.from))
 
--- the section of a table at an accuracy, from the rows of one of its entries: their number, and the pairs that some entry of it needs
+-- the section of a table at an accuracy, from the rows of an entry of this table: the number of rows, and the pairs that an entry of the table needs
 abbrev pub section_of_table : Schema → Query → Tables → ℕ → ℕ → ℕ → TableStats
 section_of_table schema query tables accuracy table entry = record {
   table = table;
@@ -44,13 +44,13 @@ section_of_table schema query tables accuracy table entry = record {
   pairs = for_each_pair (pair_in_table tables accuracy entry) (needed_of_table query table) (column_count schema table);
 }
 
--- ---- of a query
+-- ---- the file of a query
 
--- what is made of each of the first so many tables that the query names, and of its first entry
+-- what `make` gives for each table that the query names, among the first `count` tables, with the first entry of this table
 abbrev pub for_each_table : {A : Type 0} → (ℕ → ℕ → A) → Query → ℕ → List A
 for_each_table make query count = filter_map (λ table. option_map (make table) (first_entry query table)) (range_with_len 0 count)
 
--- the file of a query over its tables: the sections of those that it names, in the schema's order
+-- the file of a query over its tables: the sections of the tables that the query names, in the schema's order
 abbrev pub file_of_query : Schema → Query → Tables → ℕ → StatsFile
 file_of_query schema query tables accuracy = record {
   accuracy = accuracy;

@@ -1,4 +1,4 @@
--- Which pairs of columns the bounds of a query need statistics of.
+-- The pairs of columns of which the bounds of a query need statistics.
 use Rattle.std.specs.Prelude.{ℕ, ◌==◌, if◌then◌else◌, Bool, List, [], length, map, slice_index}
 use Rattle.std.specs.List.{filter_map, flat_map, range_with_len}
 use Rattle.degree_sequences.specs.Degrees.{different}
@@ -10,7 +10,7 @@ use Rattle.stats_file_of_query.specs.declared.needs.Needs.{Needs}
 use Rattle.stats_file_of_query.specs.declared.column_pairs.ColumnPair.{ColumnPair}
 use Rattle.stats_file_of_query.specs.ColumnPairs.{pairs_between}
 
--- the filter columns of an entry: those that its own conjuncts compare with literals, each once
+-- the filter columns of an entry: the columns that the entry's own conjuncts compare with literals, each once
 abbrev pub filter_columns : Query → ℕ → List ℕ
 filter_columns query entry = different (filter_map column_asked (steps_of entry query.conjuncts))
 

@@ -21,8 +21,8 @@ use Rattle.stats_file_of_query.specs.Data.{datum_of}
 abbrev pub frequent_in : (ℕ → Datum) → FrequentList → Datum × List ℕ
 frequent_in value_of frequent = (value_of frequent.cell, frequent.list)
 
--- of rows of a filter value and a joined key at an accuracy, the filter values being numbers that compare so and stand for these values;
--- and the places of the two columns in their table
+-- the statistics of rows, each with a filter value and a joined key, at an accuracy. Filter values are given by numbers; `at_most` is the order of these
+-- numbers, and `value_of` gives the value of a number. `filter` and `joined` are the places of the two columns in their table
 abbrev pub pair_of : (ℕ → ℕ → Bool) → (ℕ → Datum) → ℕ → List (ℕ × ℕ) → ℕ → ℕ → Pair
 pair_of at_most value_of accuracy rows filter joined = record {
   filter = filter;
@@ -38,11 +38,11 @@ pair_of at_most value_of accuracy rows filter joined = record {
 abbrev pub datum_of_row : List Value → ℕ → Datum
 datum_of_row values row = datum_of (value_of_row values row)
 
--- of two columns of values, a value being the first row that has it
+-- the statistics of two columns of values. The number of a value is the first row that has this value
 abbrev pub pair_of_values : ℕ → List Value → List Value → ℕ → ℕ → Pair
 pair_of_values accuracy filters keys filter joined = pair_of (row_le filters) (datum_of_row filters) accuracy (paired filters keys) filter joined
 
--- of two columns of an entry's table
+-- the statistics of two columns of an entry's table
 abbrev pub pair_in_table : Tables → ℕ → ℕ → ℕ → ℕ → Pair
 pair_in_table tables accuracy entry filter joined =
     pair_of_values accuracy (column_values tables entry filter) (column_values tables entry joined) filter joined
@@ -51,7 +51,7 @@ pair_in_table tables accuracy entry filter joined =
 abbrev pub datum_of_cell : List (List ℕ) → Cells → ℕ → ℕ → Datum
 datum_of_cell texts cells column cell = datum_of (value_of_cell texts (kind_of_column cells column) cell)
 
--- the same of two columns of a table's cells, a value being its cell
+-- the statistics of two columns of a table's cells. The number of a value is its cell
 abbrev pub pair_in_cells : List (List ℕ) → Cells → ℕ → ℕ → ℕ → Pair
 pair_in_cells texts cells accuracy filter joined =
     pair_of (cell_le texts (kind_of_column cells filter)) (datum_of_cell texts cells filter) accuracy (rows_of_pair cells filter joined) filter joined

@@ -20,45 +20,45 @@ use Rattle.table_stats.specs.Keys.{TellsValues}
 use Rattle.stats_file_of_query.specs.Needs.{table_of}
 use Rattle.stats_file_of_query.specs.Data.{value_of}
 
--- ---- what a pair answers
+-- ---- the lists that a pair gives
 
--- whether a value of a file is this one
+-- whether a value of a file is equal to `value`
 abbrev pub is_value : Value → Datum → Bool
 is_value value found = is_eq (value_cmp (value_of found) value)
 
--- the list of a value: its own where it is frequent, else the rest list
+-- the list of a value: the value's own list if it is frequent, otherwise the rest list
 abbrev pub list_of_value : Pair → Value → List ℕ
 list_of_value pair value =
     option_map_or (λ (found : Datum × List ℕ). found.1) (find (λ (found : Datum × List ℕ). is_value value found.0) pair.frequent) pair.rest
 
--- the leaf of a value: the last whose cut is at most the value, and 0 where none is
+-- the leaf of a value: the last leaf whose cut is at most the value, or leaf 0 if no cut is
 abbrev pub leaf_cut : Pair → ℕ → Value
 leaf_cut pair leaf = value_of (slice_index_or pair.cuts leaf (datum.Text []))
 
 abbrev pub leaf_of_value : Pair → Value → ℕ
 leaf_of_value pair value = last_place (λ leaf. value_le (leaf_cut pair leaf) value) (range_with_len 0 (length pair.cuts))
 
--- the list of the node of a size that holds a leaf, and the empty list where there are no nodes
+-- the list of the node that has the size `size` and contains the leaf, or the empty list if there are no nodes
 abbrev pub list_of_node : Pair → ℕ → ℕ → List ℕ
 list_of_node pair size leaf = slice_index_or pair.nodes (node_place size leaf) []
 
--- the list of the values from one to another, where there are such: that of the least node that holds the leaves of both. A range without
--- a low end begins in leaf 0, one without a high end ends in leaf 31
+-- the list of the values from `low` to `high`: the list of the smallest node that contains the leaves of both. A range without a low end begins in leaf
+-- 0, and a range without a high end ends in leaf 31
 abbrev pub list_between : Pair → Option Value → Option Value → List ℕ
 list_between pair low high =
     let first = unwrap_or (option_map (leaf_of_value pair) low) 0 in
     let last = unwrap_or (option_map (leaf_of_value pair) high) 31 in
     list_of_node pair (node_size first last) first
 
--- ---- what it stands for
+-- ---- the rows for which a pair, a section or a file stands
 
--- whether the leaf of an entry's row lies in the node of a size that holds a leaf
+-- whether the leaf of a row of an entry lies in the node that has the size `size` and contains `leaf`
 abbrev pub is_in_node : Pair → Tables → ℕ → ℕ → ℕ → ℕ → Bool
 is_in_node pair tables entry size leaf row = in_node size leaf (leaf_of_value pair (value_in_row tables entry pair.filter row))
 
--- over the rows of an entry's table, which have these keys in the joined column: the list of all rows has their number as its sum and
--- dominates their keys; that of each value dominates the keys of the rows that have it in the filter column, whether it is frequent or not;
--- and that of each node dominates the keys of the rows whose leaf lies in it
+-- the pair stands for the rows of an entry's table, which have these keys in the joined column. The list of all rows sums to their number and dominates
+-- their keys. The list of each value, frequent or not, dominates the keys of the rows that have the value in the filter column. The list of each node
+-- dominates the keys of the rows whose leaf lies in the node
 pub record PairStandsFor (pair : Pair) (tables : Tables) (entry : ℕ) (key : ℕ → ℕ) : Type 0 where
   pub rows : sum pair.whole ≡ row_counts tables entry
   pub whole : DominatesKeys pair.whole (map key (range_with_len 0 (row_counts tables entry)))
@@ -67,13 +67,13 @@ pub record PairStandsFor (pair : Pair) (tables : Tables) (entry : ℕ) (key : �
   pub node : (size leaf : ℕ) → IsNodeSize size → leaf < 32
       → DominatesKeys (list_of_node pair size leaf) (map key (rows_where tables entry (is_in_node pair tables entry size leaf)))
 
--- the section has the number of rows of an entry's table, and each of its pairs stands for them, over any keys that tell the values of its
--- joined column
+-- the section has the number of rows of an entry's table, and each pair of the section stands for these rows, with any keys that tell the values of the
+-- pair's joined column
 pub record SectionStandsFor (section : TableStats) (tables : Tables) (entry : ℕ) : Type 0 where
   pub rows : section.rows ≡ row_counts tables entry
   pub pairs : All (λ (pair : Pair). (key : ℕ → ℕ) → TellsValues tables entry pair.joined key → PairStandsFor pair tables entry key) section.pairs
 
--- the section of a table, where the file has one
+-- the section of a table, if the file has one
 abbrev pub section_of : StatsFile → ℕ → Option TableStats
 section_of file table = find (λ (section : TableStats). section.table == table) file.tables
 
@@ -82,7 +82,7 @@ abbrev pub StandsFor : Query → StatsFile → Tables → Type 0
 StandsFor query file tables = (entry : ℕ) (section : TableStats) → entry < length query.from
     → section_of file (table_of query entry) ≡ Some section → SectionStandsFor section tables entry
 
--- FROM entries of one table have the same rows, as those of a query over a database do
+-- FROM entries of the same table have the same rows. This is so for a query over a database
 abbrev pub ShareRows : Query → Tables → Type 0
 ShareRows query tables = (entry other : ℕ) → entry < length query.from → other < length query.from
     → table_of query entry ≡ table_of query other → tables entry ≡ tables other

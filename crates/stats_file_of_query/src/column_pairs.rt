@@ -2,7 +2,7 @@
 ghost use Rattle.std.specs.Prelude.{◌≡◌};
 ghost use Rattle.stats_file_of_query.specs.ColumnPairs.{is_pair};
 
-/// A filter column and a joined column of a table, by their places in it.
+/// A filter column and a joined column of a table, by their places in the table.
 #[derive(Clone, Copy, Debug, PartialEq, Eq)]
 pub struct ColumnPair {
     pub filter: u32,
@@ -10,7 +10,7 @@ pub struct ColumnPair {
 }
 
 impl ColumnPair {
-    /// Whether these are its columns.
+    /// Whether the pair has these columns.
     pub fn is_of(&self, filter: u32, joined: u32) -> bool
         ensures { result ≡ is_pair filter joined self.now }
     {

@@ -1,4 +1,4 @@
-//! The file of a query.
+//! Makes the statistics file of a query.
 ghost use Rattle.std.specs.Prelude.{◌≡◌, ◌≤◌, IfOk, length};
 ghost use Rattle.join_graph.specs.Conjuncts.{equalities_of, local_of};
 ghost use Rattle.sql_meaning.specs.Tables.{tables_of};
@@ -17,7 +17,7 @@ use schema_types::Schema;
 use stats_file::{StatsFile, TableStats};
 use std::alloc::Global;
 
-// The first FROM entry of a table, where the query names it.
+// The first FROM entry of a table, if the query names the table.
 fn first_entry(query: &Query, table: u32) -> Option<u8>
     requires { length query.now.from ≤ 12 }
     ensures { result ≡ first_entry query.now table }
@@ -30,7 +30,7 @@ fn first_entry(query: &Query, table: u32) -> Option<u8>
     None
 }
 
-// The sections of the tables that the query names, of the first so many of its schema.
+// The sections of the tables that the query names, in the order of the schema.
 fn sections_of(
     alloc: Global,
     schema: &Schema,
@@ -54,9 +54,9 @@ fn sections_of(
     Ok(sections)
 }
 
-/// The statistics that the bounds of a query need, of all its tables, at an accuracy of compression (SafeBound, SIGMOD 2023):
-/// of each table that the query names, in the schema's order, the number of rows, and of each pair of columns that some entry of it needs
-/// all lists. Where memory is wanting nothing is kept.
+/// The statistics that the bounds of a query need, of all its tables, at an accuracy of compression (SafeBound, SIGMOD 2023). Each table that the
+/// query names has a section, in the schema's order. The section has the number of rows, and all lists of each pair of columns that an entry of this
+/// table needs. If memory runs out, nothing is kept.
 pub fn stats_of(
     alloc: Global,
     schema: &Schema,
@@ -66,12 +66,12 @@ pub fn stats_of(
 ) -> Result<StatsFile, NoMemory>
     requires over { IsReadOver schema.now query.now db.now }
     ensures file { IfOk result (λ file. file ≡ file_of_query schema.now query.now (tables_of db.now) accuracy) }
-    // it may be written
+    // the file may be written
     ensures rules { IfOk result (KeepsRules schema.now) }
-    // what is planned from it is never under
+    // no bound that is made from the file is too low
     ensures stands { IfOk result (λ file. StandsFor query.now file (tables_of db.now)) }
 {
-    // what the pool knows of its texts
+    // this call lets the proof use what is known of the pool's texts
     let _ = db.pool.len();
     let parts = split(alloc, query)?;
     let tables = sections_of(alloc, schema, query, &parts, db, accuracy)?;

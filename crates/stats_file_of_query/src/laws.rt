@@ -1,4 +1,4 @@
-//! What holds of the file of a query: no law computes anything, and the contract is the law.
+//! Laws of the statistics file of a query. The contract of a function is the law; the function does nothing.
 ghost use Rattle.std.specs.Prelude.{◌<◌, ◌≤◌, ℕ};
 ghost use Rattle.csv_tables.specs.declared.types.Database.{Database};
 ghost use Rattle.query_types.specs.declared.types.Query.{Query};
@@ -15,7 +15,7 @@ pub fn files_keep_the_rules()
         → KeepsRules schema (file_of_query schema query (tables_of db) accuracy) }
 {}
 
-/// The file of a query stands for its tables, of which entries of one table share the rows.
+/// The file of a query stands for the query's tables, if entries of the same table have the same rows.
 pub fn files_stand_for_their_tables()
     ensures { (schema : Schema) (query : Query) (tables : Tables) (accuracy : ℕ) → ShareRows query tables
         → StandsFor query (file_of_query schema query tables accuracy) tables }

@@ -1,8 +1,8 @@
-//! Which pairs of a filter column and a joined column a query needs statistics of, and the file of these statistics: for each of its tables
-//! the number of rows, and for each needed pair all lists.
+//! Of which pairs of a filter column and a joined column a query needs statistics, and the file of these statistics. For each table of the query the
+//! file has the number of rows, and for each needed pair all lists.
 //!
-//! In: a query over its schema, and its database. Out: a `StatsFile`, whose text `write_stats` of stats_file writes. A filter column is
-//! sorted once for all joined columns with which it is needed.
+//! In: a query over its schema, and its database. Out: a `StatsFile`, whose text `write_stats` of stats_file writes. A filter column is sorted once
+//! for all joined columns with which it makes needed pairs.
 //!
 //! Callers cite `needs_of`, `pairs_of` and `needed` (in `specs/Needs.antt`) for what an entry needs, `file_of_query` (in `specs/Files.antt`)
 //! for the file, and `StandsFor` (in `specs/Standing.antt`) for when a file stands for tables.

@@ -1,4 +1,4 @@
-//! The statistics of pairs of columns, and those of one filter column.
+//! The statistics of pairs of columns, and of all needed pairs of one filter column.
 ghost use Rattle.std.specs.Prelude.{◌≡◌, ◌++◌, ◌<◌, ◌^◌, All, IfOk, OnOk, length, map};
 ghost use Rattle.std.specs.List.{filter, list_any, range_with_len};
 ghost use Rattle.gathered_stats.specs.Filters.{IsColumnIn};
@@ -62,7 +62,7 @@ fn pair_of(
     })
 }
 
-/// All statistics of two columns of a table. The filter column is sorted for them alone.
+/// All statistics of two columns of a table. The filter column is sorted for this pair alone.
 pub fn pair_of_columns(
     alloc: Global,
     pool: &Pool,
@@ -83,14 +83,14 @@ pub fn pair_of_columns(
     pair_of(alloc, pool, cells, &sorted, filter, joined, accuracy)
 }
 
-// Whether a pair is there.
+// Whether the pair of two columns is needed.
 fn has(needed: &[ColumnPair], filter: u32, joined: u32) -> bool
     ensures { result ≡ list_any (is_pair filter joined) needed.now }
 {
     needed.iter().any(|pair| pair.is_of(filter, joined))
 }
 
-// The columns, of the first so many, with which a filter column is needed.
+// The columns, among the first `count` columns, with which a filter column makes a needed pair.
 fn joined_with(
     alloc: Global,
     needed: &[ColumnPair],
@@ -108,7 +108,7 @@ fn joined_with(
     Ok(columns)
 }
 
-// Appends the statistics of a filter column for each of these joined columns. It is sorted once.
+// Appends the statistics of a filter column for each of these joined columns. The filter column is sorted once.
 fn add_each(
     alloc: Global,
     pool: &Pool,
@@ -137,8 +137,8 @@ fn add_each(
     Ok(())
 }
 
-/// Appends the statistics of a filter column for each joined column with which it is needed, ascending. A column that isn't needed isn't
-/// sorted.
+/// Appends the statistics of a filter column for each joined column with which it makes a needed pair, in ascending order. A column that isn't needed
+/// isn't sorted.
 pub(crate) fn add_pairs(
     alloc: Global,
     pool: &Pool,

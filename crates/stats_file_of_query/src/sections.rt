@@ -20,7 +20,7 @@ use query_types::Query;
 use stats_file::{Pair, TableStats};
 use std::alloc::Global;
 
-// Appends the pairs of a filter column and a joined column of which the entry's bounds need statistics.
+// Appends the pairs of a filter column and a joined column that an entry needs: its bounds need their statistics.
 fn add_needed(
     alloc: Global,
     query: &Query,
@@ -46,7 +46,7 @@ pub(crate) fn table_of(query: &Query, entry: u8) -> u32
     query.from.get(usize::from(entry)).table
 }
 
-// The pairs that the FROM entries over a table need: those of the first entry, then those of the next. A pair may stand there twice.
+// The pairs that the FROM entries of a table need: the pairs of the first entry, then the pairs of the next entry. A pair may stand in the list twice.
 fn needed_of_table(
     alloc: Global,
     query: &Query,
@@ -86,8 +86,8 @@ fn pairs_of(
     Ok(pairs)
 }
 
-/// The section of a table: its number of rows, and the statistics of each pair of columns that some entry over it needs. They are made of
-/// the cells of `entry`, which is one of these entries. `table` is the table's place in the schema.
+/// The section of a table: its number of rows, and the statistics of each pair of columns that an entry of this table needs. The statistics are made
+/// from the cells of `entry`, which is an entry of the table. `table` is the table's place in the schema.
 pub(crate) fn section_of(
     alloc: Global,
     query: &Query,

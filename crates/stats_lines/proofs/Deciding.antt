@@ -1,4 +1,5 @@
--- Whether something holds, with what shows it. What is one of finitely many things is looked for among all of them.
+-- A decision says whether a proposition holds, with a proof of it or of its negation. To decide whether P holds for some value, all candidates are tried;
+-- there are finitely many.
 use Rattle.std.proofs.Common.{◌≡◌, ◌⊎◌, inl, inr, ℕ, zero, suc, ◌<◌, ◌≤◌, Bool, true, false, List, [], ◌∷◌, ◌++◌, length, refl, ap, sym, subst, arith, Option, Some, None}
 use Rattle.std.specs.Prelude.{All, slice_get}
 use Rattle.std.specs.List.{AllByRecursion}
@@ -26,12 +27,11 @@ pub not : {P : Type 0} → Decided P → Decided (P → ⊥)
 not (inl p) = inr (λ fails. fails p)
 not (inr fails) = inl fails
 
--- what is equivalent is decided alike
 pub alike : {P Q : Type 0} → (P → Q) → (Q → P) → Decided P → Decided Q
 alike to from (inl p) = inl (to p)
 alike to from (inr fails) = inr (λ q. fails (from q))
 
--- ---- equal values
+-- ---- decisions whether two values are equal
 
 pub is_true : (b : Bool) → Decided (b ≡ true)
 is_true true = inl refl
@@ -75,7 +75,7 @@ same_items {X = X} one (x ∷ xs) (y ∷ ys) = by (one x y) (same_items one xs y
 pub same_numbers : (xs ys : List ℕ) → Decided (xs ≡ ys)
 same_numbers xs ys = same_items same_number xs ys
 
--- ---- all elements of a list
+-- ---- decisions about each element of a list
 
 pub for_all : {X : Type 0} {P : X → Type 0} → ((x : X) → Decided (P x)) → (xs : List X) → Decided (All P xs)
 for_all one [] = inl (λ k d lt. absurd (omega arith))
@@ -90,7 +90,7 @@ for_all {X = X} {P = P} one (x ∷ xs) = by (one x) (for_all {P = P} one xs)
     by (inl p) (inr fails) = inr (λ h. fails (λ k d lt. h (suc k) d (omega arith)))
     by (inr fails) ps = inr (λ h. fails (h 0 x (omega arith)))
 
--- an element at a place, where there is one
+-- where there is no element, the answer is yes
 pub where_found : {X : Type 0} {P : X → Type 0} → ((x : X) → Decided (P x)) → (xs : List X) (place : ℕ) → Decided ((x : X) → slice_get xs place ≡ Some x → P x)
 where_found {X = X} {P = P} one xs place = by (slice_get xs place) refl
   where
@@ -102,7 +102,6 @@ where_found {X = X} {P = P} one xs place = by (slice_get xs place) refl
         at (inl p) = inl (λ x is. let there : y ≡ x = cc in subst P there p)
         at (inr fails) = inr (λ h. fails (h y e))
 
--- an element that is there
 pub is_there : {X : Type 0} {P : X → Type 0} → ((x : X) → Decided (P x)) → (xs : List X) (place : ℕ) → Decided ((x : X) × (slice_get xs place ≡ Some x) × P x)
 is_there {X = X} {P = P} one xs place = by (slice_get xs place) refl
   where
@@ -114,7 +113,7 @@ is_there {X = X} {P = P} one xs place = by (slice_get xs place) refl
         at (inl p) = inl (y, e, p)
         at (inr fails) = inr (λ h. let there : h.0 ≡ y = let is = h.1 in cc in fails (subst P there h.2))
 
--- ---- one of finitely many
+-- ---- a search among finitely many values
 
 pub below : {P : ℕ → Type 0} → ((n : ℕ) → Decided (P n)) → (most : ℕ) → Decided ((n : ℕ) × (n < most) × P n)
 below one zero = inr (λ h. let lt = h.1 in absurd (omega arith))
@@ -129,7 +128,6 @@ below {P = P} one (suc most) = by (one 0) (below {P = λ n. P (suc n)} (λ n. on
         at zero lt p = fails p
         at (suc n) lt p = none (n, omega arith, p)
 
--- a list of so many numbers at most, each below the limit
 pub record Within (len most : ℕ) (list : List ℕ) : Type 0 where
   pub few : length list ≤ len
   pub small : AllByRecursion (λ x. x < most) list
@@ -160,7 +158,6 @@ some_list {P = P} one (suc len) most =
             let few = within.few in
             none (x, within.small.0, (list, record { few = omega arith; small = within.small.1 }, p))
 
--- a text in two
 pub some_split : {P : List ℕ → List ℕ → Type 0} → ((front rest : List ℕ) → Decided (P front rest)) → (text : List ℕ)
     → Decided ((front : List ℕ) × (rest : List ℕ) × (text ≡ front ++ rest) × P front rest)
 some_split {P = P} one [] = by (one [] [])

@@ -1,4 +1,4 @@
--- The grammar of lines, decided.
+-- The functions decide whether a word or a line is one of the grammar.
 use Rattle.std.proofs.Common.{◌≡◌, ◌≢◌, ◌⊎◌, inl, inr, ℕ, zero, suc, ◌≤◌, Bool, true, false, List, [], ◌∷◌, ◌++◌, length, length-append, refl, ap, sym, subst, ◌∙◌, arith}
 use Rattle.std.specs.Prelude.{codes}
 use Rattle.stats_file.specs.Grammar.{are_hex_pairs, is_numeral, AreRunWords, IsHexWord, IsListWord, IsNumeral, IsRunWord, IsSignedNumeral, IsValueWord}
@@ -71,7 +71,6 @@ run_word word = alike to from (some_split {P = λ value rest. IsNumeral value ×
     from : IsRunWord word → (value : List ℕ) × (rest : List ℕ) × (word ≡ value ++ rest) × (IsNumeral value × Behind rest)
     from is = (is.value, 42 ∷ is.count, is.whole, (is.value_is, (is.count, refl, is.count_is)))
 
--- a text up to its first byte of a kind, where it has one
 first_split : (byte : ℕ) (text : List ℕ) → Without byte text ⊎ ((front : List ℕ) × (rest : List ℕ) × IsSplitAt byte text front rest)
 first_split byte [] = inl (λ k d lt. absurd (omega arith))
 first_split byte (c ∷ text) = by (same_number c byte) (first_split byte text)
@@ -90,7 +89,6 @@ first_split byte (c ∷ text) = by (same_number c byte) (first_split byte text)
         more zero d lt = other
         more (suc k) d lt = split.first k d (omega arith)
 
--- runs with blanks between them, in a word of so many bytes at most
 run_words : (most : ℕ) (word : List ℕ) → length word ≤ most → Decided (AreRunWords word)
 run_words zero word few = by (first_split 32 word)
   where
@@ -126,7 +124,6 @@ parts kind.Cut first second = both (value_word first) (nothing second)
 parts kind.Node first second = both (list_word first) (nothing second)
 parts kind.End first second = both (nothing first) (nothing second)
 
--- the words of a line of this kind
 pub record IsLine (k : LineKind) (line : List ℕ) : Type 0 where
   pub first : List ℕ
   pub second : List ℕ
@@ -135,7 +132,6 @@ pub record IsLine (k : LineKind) (line : List ℕ) : Type 0 where
 abbrev HasWords : LineKind → List ℕ → Type 0
 HasWords k words = (first : List ℕ) × (second : List ℕ) × (words ≡ words_text k first second) × AreLineParts k first second
 
--- one word, or two with a blank between them
 words_of : (k : LineKind) (words : List ℕ) → Decided (HasWords k words)
 words_of k words = by (has_two k) refl
   where
@@ -227,6 +223,5 @@ some_kind {P = P} one = by (one kind.First) (one kind.Table) (one kind.Pair) (on
     by (inr a) (inr b) (inr c) (inr d) (inr e) (inr f) (inr g) (inr h) (inl p) = inl (kind.End, p)
     by (inr a) (inr b) (inr c) (inr d) (inr e) (inr f) (inr g) (inr h) (inr i) = inr (λ both'. none a b c d e f g h i both'.0 both'.1)
 
--- a line is one of the grammar, or none
 pub some_line : (line : List ℕ) → Decided ((k : LineKind) × IsLine k line)
 some_line line = some_kind {P = λ k. IsLine k line} (λ k. of_kind k line)

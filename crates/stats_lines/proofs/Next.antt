@@ -1,4 +1,4 @@
--- What may be next in a draft, decided.
+-- The functions decide which values may come next in a draft (the part of a file that is read so far).
 use Rattle.std.proofs.Common.{◌≡◌, ◌≢◌, inl, inr, ℕ, suc, ◌-◌, ◌<◌, ◌≤◌, List, [], length, refl, ap, ◌∙◌, arith, Some}
 use Rattle.std.specs.Prelude.{slice_get, sum, decimal}
 use Rattle.std.specs.declared.cmp.Ordering.{Ordering}
@@ -14,7 +14,7 @@ use Rattle.stats_reading.specs.Drafts.{frequent_words, list_word, number_word, v
 use Rattle.stats_lines.proofs.Deciding.{alike, at_most, below, both, for_all, is_there, less, not, same_number, same_numbers, where_found, Decided}
 use Rattle.stats_lines.proofs.Values.{list, same_value, value, Spelled}
 
--- one word beside none, and a word beside another
+-- if a line has one word, its second word is empty
 abbrev alone : List ℕ → List ℕ × List ℕ
 alone word = (word, [])
 
@@ -24,7 +24,7 @@ two a b = (a, b)
 abbrev first_word : List ℕ × List ℕ → List ℕ
 first_word words = words.0
 
--- ---- behind earlier values
+-- ---- values that may come after the earlier ones
 
 follows_whole : (s : Draft) (l : List ℕ) → Decided (WholeFollows s l)
 follows_whole s l =
@@ -55,7 +55,6 @@ not_greater Less = inl (λ e. cc)
 not_greater Equal = inl (λ e. cc)
 not_greater Greater = inr (λ h. h refl)
 
--- the cut at a place is this one
 same_cut : (cuts : List Datum) (place : ℕ) (cut : Datum) → Decided (slice_get cuts place ≡ Some cut)
 same_cut cuts place cut =
     alike (λ h. let is = h.1 in let e = h.2 in cc) (λ e. (cut, e, refl)) (is_there {P = λ other. other ≡ cut} (λ other. same_value other cut) cuts place)
@@ -86,7 +85,7 @@ is_whole s = by (less 0 s.section.rows) (both (same_number (length s.pair.cuts) 
     by (inl some) (inr fails) = inr (λ h. fails (h some))
     by (inr none) (inr fails) = inl (λ h. absurd (none h))
 
--- ---- values that may be next, by their words
+-- ---- the value that may come next and is spelled by given words
 
 pub next_accuracy : (word : List ℕ) → Decided (Spelled number_word MayBeAccuracy (word, []))
 next_accuracy word =
@@ -94,7 +93,6 @@ next_accuracy word =
     (λ h. let most = h.may.1 in (h.value, omega arith, (h.may.0, ap first_word h.spells)))
     (below {P = λ n. (least_accuracy ≤ n) × (decimal n ≡ word)} (λ n. both (at_most least_accuracy n) (same_numbers (decimal n) word)) (suc most_accuracy))
 
--- one word
 as_one : {X : Type 0} (text : X → List ℕ) (MayBe : X → Type 0) (word : List ℕ) → Decided (Spelled text MayBe word) → Decided (Spelled (λ x. alone (text x)) MayBe (word, []))
 as_one text MayBe word d =
     alike (λ h. record { value = h.value; may = h.may; spells = ap alone h.spells }) (λ h. record { value = h.value; may = h.may; spells = ap first_word h.spells }) d
@@ -111,7 +109,6 @@ next_node s word = as_one list_text (MayBeNode s) word (list {F = NodeFollows s}
 pub next_cut : (s : Draft) (word : List ℕ) → Decided (Spelled value_word (MayBeCut s) (word, []))
 next_cut s word = as_one datum_text (MayBeCut s) word (value {F = CutFollows s} (follows_cut s) s.kind word)
 
--- the lists that this value may have
 abbrev ListOf : Draft → List ℕ → Datum → Type 0
 ListOf s word v = Spelled list_text (λ l. IsList s.section.rows l × FrequentFollows s (v, l)) word
 

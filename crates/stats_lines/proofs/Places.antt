@@ -1,4 +1,4 @@
--- Tables and columns that a word names, and places of pairs, decided.
+-- The functions decide which table or columns a word names, and at which place an earlier pair of columns stands.
 use Rattle.std.proofs.Common.{◌≡◌, ◌≢◌, inl, inr, ℕ, zero, suc, ◌<◌, ◌≤◌, List, [], ◌∷◌, length, refl, ap, subst, ◌∙◌, arith, Option, Some, None}
 use Rattle.std.specs.Prelude.{All, slice_get, decimal}
 use Rattle.std.proofs.lemmas.Option.{slice_get_within}
@@ -114,7 +114,6 @@ pub record Begun (table : Table) (s : Draft) (filter joined : ℕ) : Type 0 wher
   pub draft : Draft
   pub begins : BeginsPair table s draft filter joined
 
--- the draft in which this pair begins
 pub begun : (table : Table) (s : Draft) (filter joined : ℕ) → filter < length table.columns → Begun table s filter joined
 begun table s filter joined lt = by (slice_get table.columns filter) refl
   where

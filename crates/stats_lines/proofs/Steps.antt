@@ -1,4 +1,4 @@
--- What a line does to a draft, decided.
+-- The functions decide what a line does to a draft (the part of a file that is read so far).
 use Rattle.std.proofs.Common.{◌≡◌, ◌≢◌, inl, inr, ℕ, List, [], refl, subst, Option, Some, None}
 use Rattle.std.specs.Prelude.{slice_get, Result, Ok, Err}
 use Rattle.schema_types.specs.declared.types.Schema.{Schema}
@@ -27,9 +27,9 @@ use Rattle.stats_lines.proofs.Values.{Spelled}
 abbrev Outcome : Type 0
 Outcome = Result (Unit {0}) Fault
 
--- ---- words
+-- ---- the words of a line spell a value
 
--- one of the values that may be next was taken, or none has these words
+-- a value that may come next and has these words is taken, which gives `draft`; if there is no such value, `result` is the fault
 record Taken {X : Type 0} (text : X → List ℕ × List ℕ) (MayBe : X → Type 0) (After : Draft → X → Type 0) (words : List ℕ × List ℕ) : Type 0 where
   draft : Draft
   result : Outcome
@@ -44,7 +44,7 @@ taken text MayBe After s words after (inl h) =
 taken text MayBe After s words after (inr none) =
     record { draft = s; result = Err fault.Rule; is = λ x may e. none (record { value = x; may = may; spells = e }); some = λ e. cc }
 
--- ---- what ends
+-- ---- the pair or the table that a line ends
 
 pair_ends : (at : Stage) (s : Draft) → Decided ((m : Draft) × PairEnds at s m)
 pair_ends stage.Cuts s = by (is_whole s)
@@ -76,7 +76,7 @@ table_ends stage.Cuts s = open_ends stage.Cuts s
 table_ends stage.Nodes s = open_ends stage.Nodes s
 table_ends stage.Done s = open_ends stage.Done s
 
--- ---- the words of a line
+-- ---- the words of a line, for each kind of line
 
 record Read (at : Stage) (schema : Schema) (k : LineKind) (s : Draft) (words : List ℕ × List ℕ) : Type 0 where
   draft : Draft
@@ -154,7 +154,7 @@ read at schema kind.Node s (a, b) =
     record { draft = r.draft; result = r.result; reads = r.is; some = r.some }
 read at schema kind.End s words = read_end at schema s words
 
--- ---- a line
+-- ---- a whole line
 
 pub record Step (schema : Schema) (s : Draft) (line : List ℕ) : Type 0 where
   pub draft : Draft

@@ -1,4 +1,4 @@
--- What the bytes of a file are answered, line by line.
+-- The answer to the bytes of a file is found line by line.
 use Rattle.std.proofs.Common.{◌≡◌, ◌≢◌, inl, inr, ℕ, ◌+◌, List, [], ◌∷◌, ◌++◌, refl, ap, sym, subst, arith, append-nil, append_assoc}
 use Rattle.std.specs.Prelude.{Result, Ok, Err}
 use Rattle.schema_types.specs.declared.types.Schema.{Schema}
@@ -23,7 +23,7 @@ use Rattle.stats_reading.proofs.Stepping.{ended}
 use Rattle.stats_lines.proofs.Deciding.{both, same_number, same_numbers, Decided}
 use Rattle.stats_lines.proofs.Steps.{step, Step}
 
--- what is answered where so much was read of the bytes, and this is left of them
+-- the first lines were read into draft `s`; `left` are the remaining bytes, and `line` is the number of the next line
 record Left (schema : Schema) (s : Draft) (line : ℕ) (left : List ℕ) : Type 0 where
   answer : Result StatsFile StatsError
   answers : (bytes : List ℕ) → IsValid schema → IsRead schema bytes left s line → FileAnswers schema bytes answer
@@ -39,7 +39,6 @@ is_done stage.Cuts = inr (λ e. cc)
 is_done stage.Nodes = inr (λ e. cc)
 is_done stage.Done = inl refl
 
--- no further line ends
 at_end : (schema : Schema) (s : Draft) (line : ℕ) (left : List ℕ) → Without 10 left → Left schema s line left
 at_end schema s line left free = by (both (is_done s.stage) (same_numbers left []))
   where
@@ -54,7 +53,6 @@ at_end schema s line left free = by (both (is_done s.stage) (same_numbers left [
 abbrev refused_by : StatsError → Result StatsFile StatsError
 refused_by why = Err why
 
--- the line that stands here ends
 at_line : (schema : Schema) (s : Draft) (line : ℕ) (left text others : List ℕ) → IsSplitAt 10 left text others → (st : Step schema s text) → Left schema st.draft (line + 1) others → Left schema s line left
 at_line schema s line left text others split st further = by st.result refl
   where
@@ -81,7 +79,7 @@ at_line schema s line left text others split st further = by st.result refl
 no_bytes : Without 10 []
 no_bytes k d lt = absurd (omega arith)
 
--- so much of the line was gone through, and this is left
+-- the line was searched for its end as far as `text` goes; `rest` are the bytes after this part
 told_from : (schema : Schema) (s : Draft) (line : ℕ) (text rest : List ℕ) → Without 10 text → Left schema s line (text ++ rest)
 told_from schema s line text [] free = subst (Left schema s line) (sym (append-nil text)) (at_end schema s line text free)
 told_from schema s line text (c ∷ rest) free =
@@ -94,7 +92,6 @@ told_from schema s line text (c ∷ rest) free =
     by (inr other) further longer =
         subst (Left schema s line) (append_assoc text (c ∷ []) rest) (longer (both_without 10 text (c ∷ []) free (front_without 10 c [] other no_bytes)))
 
--- the answer to the bytes of a file
 pub record Told (schema : Schema) (bytes : List ℕ) : Type 0 where
   pub answer : Result StatsFile StatsError
   pub answers : IsValid schema → FileAnswers schema bytes answer

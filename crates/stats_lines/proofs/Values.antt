@@ -1,4 +1,4 @@
--- Values of the rules, decided, and the value that a word spells.
+-- The functions decide whether a value keeps the rules, and find the value that a word spells.
 use Rattle.std.proofs.Common.{◌≡◌, inl, inr, ℕ, zero, suc, ◌^◌, ◌<◌, ◌≤◌, List, [], ◌∷◌, length, ap, arith}
 use Rattle.std.specs.Prelude.{All, sum, ℤ, pos, negsuc, IsUtf8, decimal}
 use Rattle.std.specs.List.{flat_map}
@@ -16,7 +16,6 @@ use Rattle.stats_words.specs.Runs.{list_text}
 use Rattle.stats_words.proofs.TextFacts.{utf8_bytes}
 use Rattle.stats_lines.proofs.Deciding.{alike, at_most, below, both, for_all, is_true, less, same_number, same_numbers, some_list, Decided, Within}
 
--- a value that may stand here and has this word
 pub record Spelled {X W : Type 0} (text : X → W) (MayStand : X → Type 0) (word : W) : Type 0 where
   pub value : X
   pub may : MayStand value
@@ -52,7 +51,6 @@ is_list rows list =
     alike (λ h. record { falls = h.0; positive = h.1.0; within = h.1.1 }) (λ h. (h.falls, (h.positive, h.within)))
     (both (falls list) (both (for_all {P = λ x. 0 < x} (λ x. less 0 x) list) (at_most (sum list) rows)))
 
--- positive numbers with a small total are few and small
 few_and_small : (rows most : ℕ) (list : List ℕ) → rows < most → All (λ x. 0 < x) list → sum list ≤ rows → Within rows most list
 few_and_small rows most [] lt positive within = record { few = omega arith; small = tt }
 few_and_small rows most (x ∷ list) lt positive within =

@@ -1,4 +1,4 @@
-//! What holds of every text.
+//! A law of every text over a valid schema.
 ghost use Rattle.std.specs.Prelude.{◌≢◌, ℕ, List, Result, Err};
 ghost use Rattle.schema_types.specs.declared.types.Schema.{Schema};
 ghost use Rattle.schema_types.specs.Validity.{IsValid};
@@ -7,7 +7,7 @@ ghost use Rattle.stats_file.specs.declared.types.StatsError.TheVariants as error
 ghost use Rattle.stats_file.specs.declared.types.StatsFile.{StatsFile};
 ghost use Rattle.stats_file.specs.Answers.{Answers};
 
-/// Every text has an answer over a valid schema besides that memory is wanting.
+/// Over a valid schema every text has an answer other than that memory is lacking.
 pub fn texts_are_answered()
     ensures { (schema : Schema) (text : List ℕ) → IsValid schema
         → (answer : Result StatsFile StatsError) × Answers schema text answer × (answer ≢ Err error.NoMemory) }

@@ -1,4 +1,4 @@
--- What the answer to a line says of all that may follow it.
+-- If the words of a line are read as `WordsAreRead` says, the answer to the line is right for every file and text that may follow.
 use Rattle.std.proofs.Common.{◌≡◌, ◌≢◌, inl, ℕ, List, [], ◌∷◌, refl, ap, sym, subst, ◌∙◌, arith, Option, Some, None}
 use Rattle.std.specs.Prelude.{⊤, codes, Result, Ok, Err}
 use Rattle.std.proofs.lemmas.Option.{slice_get_within}
@@ -27,7 +27,7 @@ use Rattle.stats_reading.proofs.Stepping.{cut_goes, ended, frequent_goes, kind_l
 use Rattle.stats_reading.proofs.Tags.{tag}
 use Rattle.stats_reading.proofs.Turns.{end_line_goes, ends_in_cuts, ends_in_nodes, ends_in_pairs, ends_in_tables, first_goes, pair_goes, table_goes, table_in_cuts, table_in_nodes, table_in_pairs, PairEnding}
 
--- ---- files
+-- ---- files that may follow
 
 abbrev FilesGoAt : Option Stage → Stage → Schema → Draft → Draft → List ℕ → Result (Unit {0}) Fault → Type 0
 FilesGoAt None at schema s t line r = ⊤
@@ -93,7 +93,7 @@ files_at stage.Nodes kind.End schema s t a b l r good valid is h =
     (not_tag kind.End a b l 112 is (λ e. absurd (omega (arith, e))))) is h
 files_at _ _ schema s t a b l r good valid is h = tt
 
--- ---- texts
+-- ---- texts of the grammar that may follow
 
 abbrev last : List (List ℕ)
 last = codes "end\n" ∷ []
@@ -124,12 +124,12 @@ some_text stage.Cuts = (last, text_back stage.Cuts kind.End (codes "end\n") [] r
 some_text stage.Nodes = (last, text_back stage.Nodes kind.End (codes "end\n") [] refl refl)
 some_text stage.Done = ([], refl)
 
--- ---- answers
+-- ---- the answer to a line
 
 abbrev pub staged : Draft → Stage → Draft
 staged t next = record t { stage = next }
 
--- what is left of a file doesn't ask for the stage that a draft names
+-- the draft itself names a stage too, but the remaining lines don't depend on it
 file_staged : (schema : Schema) (t : Draft) (x y : Stage) (file : StatsFile) (more : List (List ℕ)) → InFile schema (staged t x) file more → InFile schema (staged t y) file more
 file_staged schema t x y file more h = record { tables = h.tables; keeps = h.keeps; is = h.is; all = h.all }
 
@@ -173,7 +173,7 @@ valid_pair_staged Left schema t x y v = record {
   keeps = v.keeps;
 }
 
--- nor does what holds of it; only an empty draft names the first stage
+-- at the first stage the draft must be empty, so this stage is left out
 valid_staged : (at : Stage) (schema : Schema) (t : Draft) (x y : Stage) → (at ≡ stage.Start → ⊥) → IsValidDraft at schema (staged t x) → IsValidDraft at schema (staged t y)
 valid_staged stage.Start schema t x y other v = absurd (other refl)
 valid_staged stage.Tables schema t x y other v = v
@@ -184,7 +184,6 @@ valid_staged stage.Cuts schema t x y other v = valid_pair_staged (CutsLeft t.pai
 valid_staged stage.Nodes schema t x y other v = valid_pair_staged (NodesLeft t.pair) schema t x y v
 valid_staged stage.Done schema t x y other v = v
 
--- no line leads back to the start
 starts_once : (at : Stage) (k : LineKind) → next_stage at k ≡ Some stage.Start → ⊥
 starts_once stage.Start kind.First e = absurd (cc)
 starts_once stage.Tables kind.Table e = absurd (cc)
@@ -206,7 +205,6 @@ starts_once stage.Nodes kind.Table e = absurd (cc)
 starts_once stage.Nodes kind.End e = absurd (cc)
 starts_once _ _ e = absurd (cc)
 
--- no stage follows: the line leaves the grammar
 pub leaves : (schema : Schema) (s : Draft) (k : LineKind) (a b l : List ℕ) → IsLineOf k a b l → next_stage s.stage k ≡ None
     → (more : List (List ℕ)) → TextLeft s.stage (ended l ∷ more) → ⊥
 leaves schema s k a b l is none more h = subst (λ (o : Option Stage). TextLeftAt o more) none (text_step s.stage k (ended l) more (kind_line k a b l is) h)
@@ -240,17 +238,15 @@ answered schema s t k next a b l r good valid is to h =
     by_result schema s t k next a b l r is to
     (subst (λ (o : Option Stage). FilesGoAt o s.stage schema s t (ended l) r) to (files_at s.stage k schema s t a b l r good valid is h))
 
--- an answer without a new draft is the same for any
+-- an answer that refuses a line says nothing of the new draft
 pub any_draft : (schema : Schema) (s t u : Draft) (line : List ℕ) (e : Fault) → LineAnswers schema s t line (Err e) → LineAnswers schema s u line (Err e)
 any_draft schema s t u line fault.Syntax h = h
 any_draft schema s t u line fault.Rule h = h
 any_draft schema s t u line fault.NoMemory h = h
 
--- a line that is none of the grammar
 pub no_line : (schema : Schema) (s : Draft) (l : List ℕ) → IsNoLine l → (more : List (List ℕ)) → TextLeft s.stage (ended l ∷ more) → ⊥
 no_line schema s l none more h = no_text s.stage (ended l) more (λ k is. let found = line_kind k l is in none k found.0 found.1 found.2) h
 
--- a draft is ready for the words of each line that the grammar knows here
 pub is_ready : (at : Stage) (k : LineKind) (next : Stage) (schema : Schema) (s : Draft) → next_stage at k ≡ Some next → IsValidDraft at schema s → IsReadyAt at k schema s
 is_ready at kind.First next schema s e v = tt
 is_ready at kind.Whole next schema s e v = tt

@@ -1,4 +1,4 @@
--- Pairs and tables ascend, so the last one tells whether another is later than all.
+-- Pairs and tables ascend, so a comparison with the last one tells whether a new one comes after all of them.
 use Rattle.std.proofs.Common.{◌≡◌, ◌≢◌, ◌↔◌, ℕ, ◌-◌, ◌<◌, ◌≤◌, ◌==◌, false, inl, inr, List, [], length, get_or, sym, subst, arith, append-nil}
 use Rattle.std.specs.Prelude.{All, AllPairs}
 use Rattle.std.proofs.lemmas.Bool.{eqb-false}
@@ -47,7 +47,6 @@ later_than pairs pair q is some ascend =
     let same = later_than_last pairs pair q some ascend in
     (λ h. same.0 (subst (λ (p : Pair). StandsBefore p pair) is h), λ all. subst (λ (p : Pair). StandsBefore p pair) (sym is) (same.1 all))
 
--- where the last pair has another filter column, all have
 pub no_place : (pairs : List Pair) (filter : ℕ) (d : Pair) → 0 < length pairs → AllPairs StandsBefore pairs → All (λ (q : Pair). q.filter ≤ filter) pairs
     → (get_or pairs (length pairs - 1) d).filter ≢ filter → IsPlaceOf (λ (q : Pair). q.filter) filter pairs (length pairs)
 no_place pairs filter d some ascend within other = record {
@@ -75,7 +74,7 @@ later_than_last_table tables place d some ascend = (
   λ all. all (length tables - 1) d (omega arith),
 )
 
--- ---- what is complete keeps the order of the rules
+-- ---- the complete pairs and tables of a valid draft ascend
 
 pairs_of_table : (schema : Schema) (s : Draft) → IsValidTable schema s → PairsAscend s
 pairs_of_table schema s v = subst (AllPairs StandsBefore) (append-nil s.section.pairs) (section_at schema s [] [] v.keeps).order

@@ -1,4 +1,4 @@
--- Tables and pairs that begin or end in a draft leave it one that some file begins as.
+-- A valid draft (one that some file which keeps the rules extends) stays valid when a table or a pair begins or ends.
 use Rattle.std.proofs.Common.{◌≡◌, ◌≢◌, ℕ, zero, suc, ◌^◌, ◌<◌, ◌≤◌, List, [], ◌∷◌, ◌++◌, length, get_or, replicate, refl, ap, sym, subst, ◌∙◌, arith, append-nil, Option, Some, None}
 use Rattle.std.specs.Prelude.{All, AllPairs, slice_get, sum, pos}
 use Rattle.std.specs.declared.cmp.Ordering.TheVariants.{Greater}
@@ -33,7 +33,6 @@ nothing : {X : Type 0} (xs ys : List X) → xs ++ ys ≡ [] → (xs ≡ []) × (
 nothing [] ys e = (refl, e)
 nothing (x ∷ xs) ys e = absurd (cc)
 
--- where the draft is whole, the pair with which it goes on is the one at hand
 cuts_whole : (kind : Kind) (rows : ℕ) (front old : List Datum) (nodes : List (List ℕ)) → IsHistogramOf kind rows (front ++ old) nodes → (0 < rows → length front ≡ 32) → old ≡ []
 cuts_whole kind zero front old nodes (none, others) all = (nothing front old none).1
 cuts_whole kind (suc n) front old nodes is all = no_more front old (is.leaves ∙ sym (all (omega arith)))
@@ -99,7 +98,7 @@ list_of_none rows = record { falls = λ r. omega arith; positive = λ k d lt. ab
 abbrev no_list : List ℕ
 no_list = []
 
--- a list of all rows
+-- one join value has all rows
 abbrev all_rows : ℕ → List ℕ
 all_rows zero = []
 all_rows (suc n) = suc n ∷ []
@@ -115,7 +114,7 @@ all_rows_is (suc n) = (record { falls = falls; positive = positive; within = ome
     positive zero d lt = omega arith
     positive (suc k) d lt = absurd (omega arith)
 
--- some value of a kind
+-- any value of the kind would do
 abbrev some_value : Kind → Datum
 some_value kinds.Int = datum.Int (pos 0)
 some_value (kinds.Text most) = datum.Text []
@@ -133,7 +132,7 @@ some_tree_is kind rows = record {
   lists = all_same (IsList rows) 63 no_list (list_of_none rows);
 }
 
--- what stands behind the list of all rows
+-- a new pair may go on with these lists after its list of all rows
 record Counted (s : Draft) (kind : Kind) (rows filter joined : ℕ) (whole : List ℕ) : Type 0 where
   frequent : List (Datum × List ℕ)
   rest : List ℕ
@@ -192,7 +191,7 @@ copied table s kind filter joined place whole q is same agree at column = record
         → HaveSameFilterCounts (get_or s.section.pairs k d) (record { filter = filter; joined = joined; whole = whole; frequent = q.frequent; rest = q.rest; cuts = q.cuts; nodes = q.nodes })
     again k d h = record { values = h.values; totals = h.totals; rest = h.rest; cuts = h.cuts; nodes = h.nodes }
 
--- the list of all rows
+-- a new pair with this joined column may begin with this list of all rows
 record Totalled (s : Draft) (joined : ℕ) : Type 0 where
   whole : List ℕ
   is : IsList s.section.rows whole
@@ -281,7 +280,7 @@ pair_begun_valid schema table s t filter joined v exists may b =
     subst (λ (x : Draft). IsValidPair (WholeLeft x.pair) schema x) (sym b.whole)
     (begun_valid schema table s filter joined t.same_filter_at t.same_joined_at b.column v exists may b.column_is b.same_filter_at b.same_joined_at)
 
--- ---- totals are small
+-- ---- sums of lists fit into a `u64`
 
 small_pair : (table : Table) (rows : ℕ) (q : Pair) → rows < 2 ^ 64 → IsPair table rows q → AreSmall q
 small_pair table rows q few is = record {

@@ -1,4 +1,4 @@
--- A file that keeps the rules of a valid schema consists of bytes, where the names of columns do.
+-- If the column names of a valid schema consist of bytes, a file over this schema that keeps the rules consists of bytes too.
 use Rattle.std.proofs.Common.{◌≡◌, ℕ, zero, suc, ◌<◌, ◌||◌, ◌==◌, true, List, [], ◌∷◌, get_or, subst, sym, arith}
 use Rattle.std.specs.Prelude.{All}
 use Rattle.std.specs.Char.{is_ascii_alphanumeric}

@@ -1,4 +1,4 @@
--- What the code's tests say.
+-- The lemmas say what the tests of the code mean for values, lists and words.
 use Rattle.std.proofs.Common.{◌≡◌, ◌↔◌, ℕ, suc, ◌<◌, arith, true, Bool, List, [], ◌∷◌, ◌++◌, length, get_or, refl, ap, sym, subst, ◌∙◌, Some, IsTrue}
 use Rattle.std.specs.Prelude.{slice_get, codes, Result}
 use Rattle.std.specs.declared.cmp.Ordering.{Ordering}
@@ -38,7 +38,6 @@ equal_itself R total a = at (R a a) refl
     at Equal e = e
     at Greater e = let z : Greater ≡ Less = sym e ∙ total.antisymm a a ∙ ap ordering_reverse e in absurd (cc)
 
--- values are the same exactly where they compare as equal
 pub equal_is : (a b : Datum) → (datum_cmp a b ≡ Equal) ↔ (a ≡ b)
 equal_is (datum.Int a) (datum.Int b) =
     (λ e. ap datum.Int (exact_signed a b e), λ e. let same : a ≡ b = cc in ap (λ x. int_cmp a x) (sym same) ∙ equal_itself int_cmp int_cmp_total a)
@@ -47,12 +46,10 @@ equal_is (datum.Text a) (datum.Int b) = (λ e. absurd (cc), λ e. absurd (cc))
 equal_is (datum.Text a) (datum.Text b) =
     (λ e. ap datum.Text (exact_bytes a b e), λ e. let same : a ≡ b = cc in ap (λ x. slice_cmp nat_cmp a x) (sym same) ∙ equal_itself (slice_cmp nat_cmp) nat_list_cmp_total a)
 
--- lists are the same exactly where their pieces are
 pub pieces_are : (a b : List ℕ) (p q : List Piece) → a ≡ expanded p → b ≡ expanded q → ArePieces p → ArePieces q → (p ≡ q) ↔ (a ≡ b)
 pieces_are a b p q is_a is_b are_p are_q =
     (λ e. is_a ∙ ap expanded e ∙ sym is_b, λ e. sym (runs_found a p are_p is_a) ∙ ap runs_of e ∙ runs_found b q are_q is_b)
 
--- what holds of the pair at a place holds of each pair there
 pub only_here : (pairs : List Pair) (place : ℕ) (q : Pair) (P : Pair → Type 0) (b : Bool) → slice_get pairs place ≡ Some q → (IsTrue b ↔ P q)
     → IsTrue b ↔ ((o : Pair) → slice_get pairs place ≡ Some o → P o)
 only_here pairs place q P b is h =
@@ -64,7 +61,6 @@ no_blank kind.Pair words two none first second are e = not_without 32 first seco
 no_blank kind.Frequent words two none first second are e = not_without 32 first second (subst (λ (w : List ℕ). Without 32 w) e none)
 no_blank _ words two none first second are e = absurd (cc)
 
--- where words of the grammar stand there, they are the two that the first blank parts
 pub parts_there : (k : LineKind) (words f s : List ℕ) → has_two k ≡ true → IsSplitAt 32 words f s → (first second : List ℕ) → AreLineParts k first second
     → words ≡ words_text k first second → AreLineParts k f s
 parts_there kind.Table words f s two split first second are e =
@@ -99,7 +95,6 @@ open_table_ends stage.Cuts s new r other h = h
 open_table_ends stage.Nodes s new r other h = h
 open_table_ends stage.Done s new r other h = h
 
--- lists of one length with equal elements are equal
 pub same_elements : {X : Type 0} (xs ys : List X) → length xs ≡ length ys → ((k : ℕ) (d : X) → k < length xs → get_or xs k d ≡ get_or ys k d) → xs ≡ ys
 same_elements [] [] len each = refl
 same_elements [] (y ∷ ys) len each = absurd (omega arith)

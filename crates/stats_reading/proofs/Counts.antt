@@ -1,4 +1,5 @@
--- Pairs that agree with the earlier ones of their table.
+-- Pairs of a table agree: those with the same filter column have the same counts, and those with the same joined column have the same list of all
+-- rows.
 use Rattle.std.proofs.Common.{◌≡◌, ℕ, zero, suc, ◌<◌, List, length, get_or, refl, sym, subst, ◌∙◌, arith, Option, Some, None}
 use Rattle.std.specs.Prelude.{All, AllPairs, slice_get}
 use Rattle.std.proofs.lemmas.Option.{get_or_from_slice_get, slice_get_within}
@@ -42,7 +43,6 @@ tri (suc a) (suc b) = up (tri a b)
     up (same h) = same (omega arith)
     up (behind h) = behind (omega arith)
 
--- pairs of one table agree, wherever they stand
 pub members_agree : (pairs : List Pair) (i j : ℕ) (d e : Pair) → AllPairs Agree pairs → i < length pairs → slice_get pairs j ≡ Some e → Agree (get_or pairs i d) e
 members_agree pairs i j d e agree lt is = subst (λ (x : Pair). Agree (get_or pairs i d) x) (get_or_from_slice_get pairs j e d is) (at (tri i j))
   where
@@ -54,7 +54,7 @@ members_agree pairs i j d e agree lt is = subst (λ (x : Pair). Agree (get_or pa
     at (same h) = subst (λ (n : ℕ). Agree (get_or pairs i d) (get_or pairs n d)) h (agree_itself (get_or pairs i d))
     at (behind h) = agree_back (get_or pairs j d) (get_or pairs i d) (agree j i d h lt)
 
--- another pair of the same columns and list of all rows agrees, where it counts the same as the one with this filter column does
+-- if an earlier pair has the filter column of p, `other` must have the counts of p too
 pub agrees_after : (table : Table) (s : Draft) (p other : Pair) (rows : ℕ) → IsKnown table s → PairRules table rows s.section.pairs p → p.filter ≡ s.pair.filter
     → other.filter ≡ p.filter → other.joined ≡ p.joined → other.whole ≡ p.whole → ((q : Pair) → IsLike s q → HaveSameFilterCounts p other) → All (λ q. Agree q other) s.section.pairs
 agrees_after table s p other rows known rules at_filter same_filter same_joined same_whole counts k d lt =
@@ -69,7 +69,7 @@ agrees_after table s p other rows known rules at_filter same_filter same_joined 
     by_like e None is = absurd (known.same_filter_at.none is k d lt (e ∙ at_filter))
     by_like e (Some same_filter_at) is = counts_too (get_or s.section.pairs k d) p other ((rules.agree k d lt).filter e) (counts same_filter_at is)
 
--- another list of all rows, where it is that of the pair with this joined column
+-- if an earlier pair has the joined column of p, `list` must be its list of all rows
 pub agrees_whole : (table : Table) (s : Draft) (p : Pair) (list : List ℕ) (rows : ℕ) → IsKnown table s → PairRules table rows s.section.pairs p → p.joined ≡ s.pair.joined
     → ((q : Pair) → IsTwin s q → q.whole ≡ list) → All (λ q. Agree q (record p { whole = list })) s.section.pairs
 agrees_whole table s p list rows known rules at_joined alike k d lt =

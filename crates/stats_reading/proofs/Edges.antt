@@ -1,4 +1,4 @@
--- Where pairs and tables of a file begin and end.
+-- A pair or a table of a file begins or ends at a line. The lemmas say which lines of the file remain then.
 use Rattle.std.proofs.Common.{◌≡◌, ◌≢◌, ℕ, zero, suc, ◌<◌, List, [], ◌∷◌, ◌++◌, length, refl, ap, sym, subst, ◌∙◌, arith, append-nil, append_assoc, Some}
 use Rattle.std.specs.Prelude.{slice_get}
 use Rattle.std.proofs.lemmas.Option.{slice_get_within}
@@ -34,7 +34,7 @@ same_pair p q a b c d e f g =
     ∙ ap (λ x. record p { filter = q.filter; joined = q.joined; whole = q.whole; frequent = q.frequent; rest = q.rest; cuts = x }) f
     ∙ ap (λ x. record q { nodes = x }) g
 
--- ---- the pair at hand ends
+-- ---- the current pair ends
 
 pub ended_is : (s : Draft) (pairs : List Pair) (tables : List TableStats) → file_of_draft s (section_of s (s.pair ∷ pairs) ∷ tables) ≡ file_of_draft (pair_ended s) (section_of (pair_ended s) pairs ∷ tables)
 ended_is s pairs tables = ap (λ (ps : List Pair). file_of_draft s (record s.section { pairs = ps } ∷ tables)) (sym (append_assoc s.section.pairs (s.pair ∷ []) pairs))
@@ -89,7 +89,7 @@ pair_reopens schema s file lines h = record {
   all = h.all;
 }
 
--- ---- the table at hand ends
+-- ---- the current table ends
 
 pub table_is : (s : Draft) (tables : List TableStats) → file_of_draft s (section_of s [] ∷ tables) ≡ file_of_draft (table_ended s) tables
 table_is s tables =

@@ -1,4 +1,4 @@
--- A step is one equivalence between a line with what follows it and the next draft.
+-- A step reads a line and makes the next draft. The line with further lines may follow a draft exactly if the further lines may follow the next draft.
 use Rattle.std.proofs.Common.{◌≡◌, ◌↔◌, inl, inr, ℕ, List, ◌∷◌, refl, sym, subst, ◌∙◌}
 use Rattle.std.specs.Prelude.{⊤, Result, Ok, Err}
 use Rattle.stats_file.specs.declared.types.StatsFile.{StatsFile}
@@ -18,14 +18,15 @@ Words = List ℕ × List ℕ
 abbrev pub two : List ℕ → List ℕ → Words
 two a b = (a, b)
 
--- a line is that of a value that is taken, in both directions
+-- to read `line` is to take a value: a file goes on with the line exactly if it is the line of a value that may come next. The words of a line determine the
+-- value
 pub record IsStep {X : Type 0} (line_of : X → List ℕ) (text : X → Words) (MayBe Then : X → Type 0) (Before Next : StatsFile → Lines → Type 0) (line : List ℕ) (words : Words) : Type 0 where
   pub opens : (file : StatsFile) (more : Lines) → Before file (line ∷ more) → Opened line_of MayBe (λ v. Then v → Next file more) line
   pub closes : (v : X) (file : StatsFile) (more : Lines) → Then v → MayBe v → Next file more → Before file (line_of v ∷ more)
   pub same : (a b : X) → MayBe a → MayBe b → text a ≡ text b → a ≡ b
   pub spells : (v : X) → MayBe v → (line_of v ≡ line) ↔ (text v ≡ words)
 
--- what is left of files before and after a line that was answered so
+-- an answer to a line says this of the files that may follow before the line and after it
 abbrev pub FilesGo : (StatsFile → Lines → Type 0) → (StatsFile → Lines → Type 0) → Type 0 → List ℕ → Result (Unit {0}) Fault → Type 0
 FilesGo Before After Valid line (Ok done) = ((file : StatsFile) (more : Lines) → Before file (line ∷ more) ↔ After file more) × Valid
 FilesGo Before After Valid line (Err fault.Syntax) = ⊥
@@ -42,7 +43,6 @@ value_goes {Then = Then} {Before = Before} step v may spelled then' file more = 
   λ a. subst (λ (l : List ℕ). Before file (l ∷ more)) ((step.spells v may).1 spelled) (step.closes v file more then' may a),
 )
 
--- a step over values, from what the code says that it took
 pub step_goes : {X : Type 0} {line_of : X → List ℕ} {text : X → Words} {MayBe Then : X → Type 0} {Before Next : StatsFile → Lines → Type 0} {line : List ℕ} {words : Words}
     → IsStep line_of text MayBe Then Before Next line words → (Valid : Type 0) (r : Result (Unit {0}) Fault) → Takes text MayBe Then words r → ((v : X) → MayBe v → Then v → Valid)
     → FilesGo Before Next Valid line r
@@ -54,7 +54,7 @@ step_goes step Valid (Err fault.Rule) none valid = λ file more b.
     none o.value o.may ((step.spells o.value o.may).0 (sym o.is))
 step_goes step Valid (Err fault.NoMemory) any valid = tt
 
--- something ends before this line in one way, where it can
+-- something (a pair or a table) ends before this line in exactly one way, if it can end
 pub record EndsBefore (MayEnd : Draft → Type 0) (Before : StatsFile → Lines → Type 0) (Between : Draft → StatsFile → Lines → Type 0) (line : List ℕ) : Type 0 where
   pub may : (file : StatsFile) (more : Lines) → Before file (line ∷ more) → (m : Draft) × MayEnd m
   pub same : (m : Draft) → MayEnd m → (file : StatsFile) (more : Lines) → Before file (line ∷ more) ↔ Between m file (line ∷ more)
@@ -62,7 +62,6 @@ pub record EndsBefore (MayEnd : Draft → Type 0) (Before : StatsFile → Lines 
 both_ways : {A B C : Type 0} → A ↔ B → B ↔ C → A ↔ C
 both_ways f g = (λ a. g.0 (f.0 a), λ c. f.1 (g.1 c))
 
--- first something ends, and then a step is done
 pub then_goes : {MayEnd : Draft → Type 0} {Before : StatsFile → Lines → Type 0} {Between : Draft → StatsFile → Lines → Type 0} {line : List ℕ} → EndsBefore MayEnd Before Between line
     → (Then : Draft → Result (Unit {0}) Fault → Type 0) (Next : StatsFile → Lines → Type 0) (Valid : Type 0) (r : Result (Unit {0}) Fault) → EndsAnd MayEnd Then r
     → ((m : Draft) → MayEnd m → Then m r → FilesGo (Between m) Next Valid line r) → FilesGo Before Next Valid line r
@@ -77,7 +76,6 @@ then_goes {Before = Before} {line = line} ends Then Next Valid r (inr (inl (none
 then_goes {Before = Before} {line = line} ends Then Next Valid r (inr (inr is)) step =
     subst (λ (x : Result (Unit {0}) Fault). FilesGo Before Next Valid line x) (sym is) tt
 
--- something ends, and nothing else is done
 pub end_goes : {MayEnd : Draft → Type 0} {Before : StatsFile → Lines → Type 0} {Between : Draft → StatsFile → Lines → Type 0} {line : List ℕ} → EndsBefore MayEnd Before Between line
     → (Next : StatsFile → Lines → Type 0) (Valid : Type 0) (new : Draft) (r : Result (Unit {0}) Fault) → Ends MayEnd new r
     → ((m : Draft) → MayEnd m → m ≡ new → ((file : StatsFile) (more : Lines) → Between m file (line ∷ more) ↔ Next file more) × Valid) → FilesGo Before Next Valid line r

@@ -1,4 +1,4 @@
--- What a text of the grammar has left behind a line.
+-- In a text of the grammar, only lines of some kinds may follow a line.
 use Rattle.std.proofs.Common.{◌≡◌, ◌⊎◌, inl, inr, ℕ, List, [], ◌∷◌, ◌++◌, ◌==◌, if◌then◌else◌, refl, ap, sym, subst, ◌∙◌, append_assoc, Option, Some, None}
 use Rattle.std.specs.Prelude.{codes}
 use Rattle.std.specs.List.{AllByRecursion, flat_map}
@@ -11,7 +11,7 @@ use Rattle.stats_reading.specs.Kinds.{IsOfKind}
 use Rattle.stats_reading.specs.Stages.{next_stage, CutsLeft, FrequentLeft, Many, MayEnd, NodesLeft, One, PairsLeft, TablesLeft, TextLeft, TextLeftAt}
 use Rattle.stats_reading.proofs.Tags.{same_tag, tag}
 
--- ---- kinds by their first bytes
+-- ---- the kind of a line by its first byte
 
 abbrev pub tag_of : LineKind → ℕ
 tag_of kind.First = 115
@@ -55,11 +55,10 @@ tag_of_line kind.Cut line is = same_tag line (codes "cut " ++ (is.word ++ codes 
 tag_of_line kind.Node line is = same_tag line (codes "node " ++ (is.word ++ codes "\n")) is.whole
 tag_of_line kind.End line is = same_tag line (codes "end\n") is
 
--- a line is of one kind
 pub same_kind : (a b : LineKind) (line : List ℕ) → IsOfKind a line → IsOfKind b line → a ≡ b
 same_kind a b line is other = kind_by_tag a b (sym (tag_of_line a line is) ∙ tag_of_line b line other)
 
--- ---- the first line of what is left
+-- ---- the first of the remaining lines
 
 many_first : {IsKind : List ℕ → Type 0} {Next : List (List ℕ) → Type 0} (line : List ℕ) (more : List (List ℕ)) → Many IsKind Next (line ∷ more)
     → (IsKind line × Many IsKind Next more) ⊎ Next (line ∷ more)
@@ -210,7 +209,6 @@ pairs_put line more is h =
 
 -- ---- a step of the grammar
 
--- the next line is of a kind that may come here, and the text goes on
 abbrev GoesOn : Stage → List ℕ → List (List ℕ) → Type 0
 GoesOn at line more = (k : LineKind) × (IsOfKind k line × TextLeftAt (next_stage at k) more)
 
@@ -309,7 +307,6 @@ text_closes stage.Nodes kind.Table line more is h = many_none (line ∷ more) (t
 text_closes stage.Nodes kind.End line more is h = many_none (line ∷ more) (to_pairs (line ∷ more) (to_tables (line ∷ more) (ends_here line more is h)))
 text_closes _ _ line more is h = absurd h
 
--- a line of this kind leaves what the next stage has left, and nothing where there is none
 pub text_step : (at : Stage) (k : LineKind) (line : List ℕ) (more : List (List ℕ)) → IsOfKind k line → TextLeft at (line ∷ more) → TextLeftAt (next_stage at k) more
 text_step at k line more is h =
     let on = text_opens at line more h in
@@ -318,6 +315,5 @@ text_step at k line more is h =
 pub text_back : (at : Stage) (k : LineKind) (line : List ℕ) (more : List (List ℕ)) → IsOfKind k line → TextLeftAt (next_stage at k) more → TextLeft at (line ∷ more)
 text_back at k line more is h = text_closes at k line more is h
 
--- a line of no kind leaves nothing
 pub no_text : (at : Stage) (line : List ℕ) (more : List (List ℕ)) → ((k : LineKind) → IsOfKind k line → ⊥) → TextLeft at (line ∷ more) → ⊥
 no_text at line more none h = let on = text_opens at line more h in none on.0 on.1.0

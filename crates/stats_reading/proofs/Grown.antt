@@ -1,4 +1,4 @@
--- A draft that some file begins as is still such a one when the next value is read into the pair at hand.
+-- A valid draft (one that some file which keeps the rules extends) stays valid when the next value is read into its current pair.
 use Rattle.std.proofs.Common.{◌≡◌, ◌≢◌, ℕ, ◌<◌, ◌≤◌, List, [], ◌∷◌, ◌++◌, length, length-append, map, refl, ap, sym, subst, ◌∙◌, arith, append-nil, append_assoc, Option, Some, None}
 use Rattle.std.specs.Prelude.{All, AllPairs, slice_get, sum}
 use Rattle.std.proofs.lemmas.List.Quantifiers.{all_pairs_push}
@@ -21,7 +21,6 @@ use Rattle.stats_reading.proofs.Seams.{all_left, all_more, get_map, map_get, pai
 pub rules_of : (Left : Pair → List (List ℕ) → Type 0) (schema : Schema) (s : Draft) (v : IsValidPair Left schema s) → PairRules v.table s.section.rows s.section.pairs v.pair
 rules_of Left schema s v = pair_rules schema v.table s v.pair [] [] v.exists v.keeps
 
--- another pair with which the draft may go on
 pub kept : (Left : Pair → List (List ℕ) → Type 0) (schema : Schema) (s : Draft) (v : IsValidPair Left schema s) (p : Pair) → PairRules v.table s.section.rows s.section.pairs p
     → KeepsRules schema (file_of_draft s (section_of s (p ∷ []) ∷ []))
 kept Left schema s v p rules = with_pair schema v.table s p v.exists (without_pair schema s (v.pair ∷ []) [] v.keeps) rules
@@ -77,7 +76,7 @@ whole_grown schema s list v may =
 
 -- ---- frequent values
 
--- how the values go on behind the next one
+-- these frequent values may come after the next one
 record Next (s : Draft) (p : Pair) (f : Datum × List ℕ) (kind : Kind) : Type 0 where
   rest : List (Datum × List ℕ)
   are : AreFrequent kind s.section.rows (s.pair.frequent ++ f ∷ rest)
@@ -104,7 +103,6 @@ next_alone s p f old kind same are is may none =
       counts = λ q same_filter_at. absurd (cc);
     }
 
--- behind the front stands this value
 pub at_front : {X : Type 0} (front old : List X) (x : X) → slice_get (front ++ old) (length front) ≡ Some x → (rest : List X) × (old ≡ x ∷ rest)
 at_front [] [] x is = absurd (cc)
 at_front [] (y ∷ old) x is = let same : y ≡ x = cc in (old, ap (λ z. z ∷ old) same)
@@ -154,7 +152,7 @@ next_of s p f old kind same are is may counts = by_like (slice_get s.section.pai
     by_like None none = next_alone s p f old kind same are is may none
     by_like (Some q) same_filter_at = next_like s p q f old kind are is may same_filter_at (counts q same_filter_at)
 
--- the rules of a pair with other frequent values and another list of the others
+-- another pair p with other frequent values and another list of the other values still keeps the rules, if these do
 other_values : (table : Table) (s : Draft) (p : Pair) (frequent : List (Datum × List ℕ)) (rest : List ℕ) → IsKnown table s → PairRules table s.section.rows s.section.pairs p
     → p.filter ≡ s.pair.filter → AreFrequent s.kind s.section.rows frequent → IsList s.section.rows rest
     → ((q : Pair) → IsLike s q → HaveSameFilterCounts p (record p { frequent = frequent; rest = rest }))
@@ -212,7 +210,7 @@ frequent_grown schema s f v may =
     known_again : (table : Table) → IsKnown table s → IsKnown table (with_frequent s f)
     known_again table k = record { column = k.column; column_is = k.column_is; kind_is = k.kind_is; same_filter_at = k.same_filter_at; same_joined_at = k.same_joined_at }
 
--- ---- the list of the other values
+-- ---- the list of the other values (those that aren't frequent)
 
 pub no_more : {X : Type 0} (xs ys : List X) → length (xs ++ ys) ≡ length xs → ys ≡ []
 no_more [] [] e = refl

@@ -1,4 +1,4 @@
--- The same for the tree of the pair at hand: its cuts and its nodes.
+-- A valid draft (one that some file which keeps the rules extends) stays valid when the next cut or node is read into its current pair.
 use Rattle.std.proofs.Common.{◌≡◌, ◌≢◌, ℕ, zero, suc, ◌-◌, ◌<◌, List, [], ◌∷◌, ◌++◌, length, length-append, map, replicate, refl, ap, sym, subst, ◌∙◌, arith, append_assoc, Option, Some, None}
 use Rattle.std.specs.Prelude.{All, AllPairs, slice_get, sum}
 use Rattle.std.specs.declared.cmp.Ordering.TheVariants.{Greater}
@@ -24,7 +24,7 @@ use Rattle.stats_reading.proofs.Grown.{at_front, kept, no_more, rules_of}
 
 -- ---- cuts
 
--- how the cuts go on behind the next one
+-- these cuts may come after the next one
 record NextCut (s : Draft) (p : Pair) (cut : Datum) (kind : Kind) : Type 0 where
   rest : List Datum
   is : IsHistogram kind s.section.rows (s.pair.cuts ++ cut ∷ rest) p.nodes
@@ -82,7 +82,7 @@ pub tree_back : (kind : Kind) (rows : ℕ) (cuts : List Datum) (nodes : List (Li
 tree_back kind zero cuts nodes some is = absurd (omega arith)
 tree_back kind (suc n) cuts nodes some is = is
 
--- the rules of a pair with another tree
+-- pair p with other cuts and nodes still keeps the rules, if these do
 other_tree : (table : Table) (s : Draft) (p : Pair) (cuts : List Datum) (nodes : List (List ℕ)) → IsKnown table s → (rules : PairRules table s.section.rows s.section.pairs p)
     → p.filter ≡ s.pair.filter → 0 < s.section.rows → IsHistogram rules.is.filter.kind s.section.rows cuts nodes
     → ((q : Pair) → IsLike s q → HaveSameFilterCounts p (record p { cuts = cuts; nodes = nodes }))
@@ -145,7 +145,6 @@ cut_grown schema s cut v may =
 
 -- ---- nodes
 
--- where so many elements are fewer than all, one more follows
 one_follows : {X : Type 0} (front old : List X) → length front < length (front ++ old) → (x : X) × (rest : List X) × (old ≡ x ∷ rest)
 one_follows [] [] lt = absurd (omega arith)
 one_follows [] (x ∷ old) lt = (x, old, refl)

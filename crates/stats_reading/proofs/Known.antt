@@ -1,4 +1,4 @@
--- What was read of words that weren't tested before: they are words of the grammar.
+-- Some words aren't tested before they are read. If they are taken, they are words of the grammar.
 use Rattle.std.proofs.Common.{◌≡◌, ℕ, ◌≤◌, inl, inr, List, [], ◌∷◌, ap, subst, refl, Bool, true, false, Some}
 use Rattle.std.specs.Prelude.{Ok, Err}
 use Rattle.schema_types.specs.declared.types.Kind.{Kind}
@@ -77,12 +77,11 @@ known _ _ next schema s t a b done to untested alone v h = absurd (cc)
 
 -- ---- faults
 
--- words that aren't those of the grammar: no text goes on with their line
 pub no_words : (schema : Schema) (s : Draft) (k : LineKind) (a b l : List ℕ) → MayBeLineOf k a b l → (AreLineParts k a b → ⊥)
     → (more : List (List ℕ)) → TextLeft s.stage (ended l ∷ more) → ⊥
 no_words schema s k a b l may none = no_line schema s l (λ j f g is. none (may.only j f g is))
 
--- a fault is that of a line of the grammar, or the line is none of it
+-- a line that isn't one of the grammar has the fault Syntax, even if a rule refused it first
 pub faulted : (schema : Schema) (s t : Draft) (k : LineKind) (a b l : List ℕ) (old new : Fault) → MayBeLineOf k a b l → (IsLineOf k a b l → LineAnswers schema s t (ended l) (Err old))
     → IsFaultOf k a b old new → LineAnswers schema s t (ended l) (Err new)
 faulted schema s t k a b l fault.Rule fault.Rule may answers is = answers (record { parts = is; whole = may.whole })
@@ -96,7 +95,6 @@ faulted schema s t k a b l fault.NoMemory fault.Syntax may answers is = absurd (
 faulted schema s t k a b l fault.NoMemory fault.Rule may answers is = absurd (cc)
 faulted schema s t k a b l fault.NoMemory fault.NoMemory may answers is = tt
 
--- a line that is taken is one of the grammar
 pub answered_line : (schema : Schema) (s t : Draft) (k : LineKind) (a b l : List ℕ) (done : Unit {0}) → MayBeLineOf k a b l → (is_tested k ≡ true → AreLineParts k a b)
     → (is_tested k ≡ false → AreLineParts k a b) → (IsLineOf k a b l → LineAnswers schema s t (ended l) (Ok done)) → LineAnswers schema s t (ended l) (Ok done)
 answered_line schema s t k a b l done may tested untested answers = at (is_tested k) refl

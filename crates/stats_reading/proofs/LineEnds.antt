@@ -1,4 +1,4 @@
--- Each line of a file has one end, and lines with ends are read off their text in one way.
+-- Each line of a file has one line end, at its end, so the lines can be told from their text in one way.
 use Rattle.std.proofs.Common.{◌≡◌, ℕ, suc, ◌^◌, ◌<◌, ◌≤◌, ◌==◌, Bool, true, false, if◌then◌else◌, List, [], ◌∷◌, ◌++◌, length, get_or, map, refl, ap, sym, subst, ◌∙◌, arith, append_assoc}
 use Rattle.std.specs.Prelude.{codes, decimal, sum}
 use Rattle.std.specs.List.{concat, flat_map, AllByRecursion}
@@ -74,7 +74,7 @@ list_free rows list few is =
     runs_free rows (runs_of list) (omega arith)
     (small_runs rows (runs_of list) (runs_fall list is.falls is.positive) (subst (λ (x : List ℕ). sum x ≤ rows) (sym (expanded_runs list)) is.within))
 
--- ---- lines with ends
+-- ---- lines with line ends
 
 pub record IsEnded (line : List ℕ) : Type 0 where
   pub text : List ℕ
@@ -133,7 +133,6 @@ section_ended schema section is =
       each_part (pair_lines is.table) section.pairs (λ k d lt. pair_ended is.table section.rows (get_or section.pairs k d) few (is.pairs k d lt)),
     )
 
--- each line of a file that keeps the rules has its end behind it, and none in it
 pub lines_ended : (schema : Schema) (file : StatsFile) → KeepsRules schema file → AreEnded (file_lines schema file)
 unfolding file_lines
 lines_ended schema file keeps =
@@ -158,7 +157,6 @@ empty (c ∷ text) behind rest e = absurd (cc)
 pub not_empty : (line behind rest : List ℕ) → IsEnded line → (line ++ behind) ++ rest ≡ [] → ⊥
 not_empty line behind rest is e = empty is.text behind rest (ap (λ (l : List ℕ). (l ++ behind) ++ rest) (sym is.whole) ∙ e)
 
--- lines with which a text begins are its first lines
 pub front_of : (lines all : List (List ℕ)) (rest : List ℕ) → AreEnded lines → AreEnded all → concat lines ++ rest ≡ concat all → IsFront lines all rest
 front_of [] all rest are all_are e = record { more = all; whole = refl; rest_is = e }
 front_of (x ∷ lines) [] rest are all_are e = absurd (not_empty x (concat lines) rest are.0 e)

@@ -1,4 +1,4 @@
--- What is next in a pair that keeps the rules may be next in the draft.
+-- If a pair keeps the rules and extends the draft's current pair, the next value of this pair may come next in the draft.
 use Rattle.std.proofs.Common.{◌≡◌, ◌≢◌, ℕ, zero, suc, ◌+◌, ◌-◌, ◌<◌, ◌≤◌, List, ◌∷◌, ◌++◌, length, length-append, map, ap, sym, subst, ◌∙◌, arith, Some}
 use Rattle.std.specs.Prelude.{All, AllPairs, slice_get, sum}
 use Rattle.std.specs.declared.cmp.Ordering.TheVariants.{Greater}
@@ -19,7 +19,6 @@ kind_of_pair table s p rows known is same =
     let at : slice_get table.columns s.pair.filter ≡ Some is.filter = ap (λ i. slice_get table.columns i) (sym same) ∙ is.filter_is in
     ap (λ (c : Column). c.kind) (same_some is.filter known.column (slice_get table.columns s.pair.filter) at known.column_is) ∙ sym known.kind_is
 
--- the earlier pair with this filter column counts the same
 pub like_counts : (table : Table) (s : Draft) (p : Pair) (rows : ℕ) → IsKnown table s → PairRules table rows s.section.pairs p → p.filter ≡ s.pair.filter → (q : Pair) → IsLike s q → HaveSameFilterCounts q p
 like_counts table s p rows known rules same q is =
     let agree = all_at (λ o. Agree o p) s.section.pairs s.same_filter_at q rules.agree is in
@@ -77,7 +76,7 @@ may_rest table s p known rules same is = (
   },
 )
 
--- a tree that isn't empty
+-- only a table that has rows has a histogram
 pub record SomeTree (kind : Kind) (rows : ℕ) (cuts : List Datum) (nodes : List (List ℕ)) : Type 0 where
   pub some : 0 < rows
   pub is : IsHistogram kind rows cuts nodes

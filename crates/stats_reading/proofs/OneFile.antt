@@ -1,4 +1,4 @@
--- Lines spell one file.
+-- Two files with the same lines are equal.
 use Rattle.std.proofs.Common.{◌≡◌, ◌≢◌, ◌⊎◌, inl, inr, ℕ, suc, ◌≤◌, List, [], ◌∷◌, ◌++◌, get_or, map, refl, ap, sym, subst, ◌∙◌, arith, append-nil, append_assoc, Some}
 use Rattle.std.specs.Prelude.{All, codes, decimal, slice_get, Result, Ok, Err}
 use Rattle.std.specs.List.{concat, AllByRecursion}
@@ -50,7 +50,7 @@ two_same front a b c d free_a free_c e =
 
 -- ---- equal lists of lines
 
--- lines of one kind, and then lines of other kinds
+-- each list begins with all its lines of one kind
 same_mapped : {X : Type 0} (f : X → List ℕ) (Good : X → Type 0) → ((a b : X) → Good a → Good b → f a ≡ f b → a ≡ b) → (n : ℕ) → ((x : X) → tag (f x) ≡ n)
     → (xs ys : List X) (m o : Lines) → All Good xs → All Good ys → ((line : List ℕ) (more : Lines) → line ∷ more ≡ m → tag line ≢ n) → ((line : List ℕ) (more : Lines) → line ∷ more ≡ o → tag line ≢ n)
     → map f xs ++ m ≡ map f ys ++ o → (xs ≡ ys) × (m ≡ o)
@@ -220,7 +220,6 @@ no_text_left : (lines : Lines) → AllEnded lines → concat lines ≡ [] → li
 no_text_left [] are e = refl
 no_text_left (x ∷ lines) (is, are) e = absurd (not_empty x (concat lines) [] is (append-nil (x ++ concat lines) ∙ e))
 
--- a text is that of one file
 pub one_file : (schema : Schema) (a b : StatsFile) → IsValid schema → KeepsRules schema a → KeepsRules schema b → file_text schema a ≡ file_text schema b → a ≡ b
 one_file schema a b good keeps_a keeps_b e =
     let ended = lines_ended schema b keeps_b in
@@ -233,7 +232,6 @@ front_ended : (lines more : Lines) → AllEnded (lines ++ more) → AllEnded lin
 front_ended [] more are = tt
 front_ended (x ∷ lines) more (is, are) = (is, front_ended lines more are)
 
--- the first line that is left, where a line is
 first_is : (line : List ℕ) (rest : List ℕ) (more : Lines) → IsEnded line → AllEnded more → line ++ rest ≡ concat more → (others : Lines) × (more ≡ line ∷ others)
 first_is line rest more is are e =
     let f = front_of (line ∷ []) more rest (is, tt) are (ap (λ (l : List ℕ). l ++ rest) (append-nil line) ∙ e) in
@@ -244,7 +242,6 @@ no_end_left [] are none = refl
 no_end_left (x ∷ more) (is, are) none =
     absurd (not_without 10 is.text (concat more) (subst (λ (l : List ℕ). Without 10 l) (ap (λ (l : List ℕ). l ++ concat more) is.whole ∙ append_assoc is.text (codes "\n") (concat more)) none))
 
--- how the file goes on behind lines that were read
 rest_of : (schema : Schema) (file : StatsFile) (bytes : List ℕ) (lines : Lines) (left : List ℕ) → KeepsRules schema file → bytes ≡ file_text schema file → IsReadUpTo schema bytes lines left
     → IsFront lines (file_lines schema file) left
 rest_of schema file bytes lines left keeps is read =
@@ -255,7 +252,6 @@ rest_of schema file bytes lines left keeps is read =
 line_ended : (left line rest : List ℕ) → BeginsWithLine left line rest → IsEnded line
 line_ended left line rest h = record { text = h.text; free = h.no_end; whole = h.ended }
 
--- the bytes of a file's text are answered by the file, or by want of memory
 pub answers_file : (schema : Schema) (file : StatsFile) (bytes : List ℕ) (answer : Result StatsFile StatsError) → IsValid schema → ConsistOfBytes schema file → KeepsRules schema file
     → bytes ≡ file_text schema file → Answers schema bytes answer → (answer ≡ Ok file) ⊎ (answer ≡ Err error.NoMemory)
 answers_file schema file bytes (Ok other) good bytes_are keeps is (keeps_other, is_other) = inl (ap Ok (one_file schema other file good keeps_other keeps (sym is_other ∙ is)))

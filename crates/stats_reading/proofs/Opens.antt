@@ -1,4 +1,4 @@
--- The next line of a file that begins as the draft, in the pair at hand.
+-- If a file extends the draft, its next line in the current pair is that of a value that may come next.
 use Rattle.std.proofs.Common.{◌≡◌, ℕ, List, [], ◌∷◌, ◌++◌, map, refl, ap, sym, subst, ◌∙◌, append-nil, append_assoc, Some}
 use Rattle.std.specs.Prelude.{slice_get}
 use Rattle.schema_types.specs.declared.types.Schema.{Schema}
@@ -18,14 +18,12 @@ use Rattle.stats_reading.proofs.RuleFacts.{pair_rules, PairRules}
 use Rattle.stats_reading.proofs.Seams.{same_some}
 use Rattle.stats_reading.proofs.Tags.{after_pair, frequent_parts, tag, tree_parts, FrequentParts, TreeParts}
 
--- the line is that of a value which may be next, and this is left behind it
 pub record Opened {X : Type 0} (line_of : X → List ℕ) (MayBe Rest : X → Type 0) (line : List ℕ) : Type 0 where
   pub value : X
   pub is : line ≡ line_of value
   pub may : MayBe value
   pub rest : Rest value
 
--- what is known over the table at hand
 abbrev pub KnownIn : Schema → Draft → Type 0
 KnownIn schema s = (table : Table) → slice_get schema.tables s.section.table ≡ Some table → IsKnown table s
 
@@ -257,7 +255,7 @@ close_whole schema s list file more h =
           ∙ ap (λ (l : List ℕ). whole_line l ∷ (lines ++ after)) (sym own.whole);
     }
 
--- ---- frequent values, and the list of the others
+-- ---- frequent values, and the list of the other values
 
 values_here : (schema : Schema) (s : Draft) (file : StatsFile) (line : List ℕ) (more : List (List ℕ)) (h : InPair (FrequentLeft s.pair) schema s file (line ∷ more))
     → FrequentParts h.left.frequent h.pair.rest line more (histogram_lines h.left.cuts h.left.nodes) (pairs_left schema h.table h.pairs h.tables)

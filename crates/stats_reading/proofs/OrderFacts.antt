@@ -1,4 +1,4 @@
--- The order of values, and lists in order.
+-- The lemmas are about the order of values, and about lists in this order.
 use Rattle.std.proofs.Common.{◌≡◌, ◌≢◌, ℕ, zero, suc, ◌-◌, ◌<◌, List, [], ◌∷◌, ◌++◌, length, get_or, replicate, refl, ap, sym, subst, ◌∙◌, arith, append-nil, append_assoc, Some}
 use Rattle.std.specs.Prelude.{All, AllPairs, slice_get}
 use Rattle.std.specs.declared.cmp.Ordering.{Ordering}
@@ -44,7 +44,6 @@ pub value_itself : (a : Datum) → datum_cmp a a ≢ Greater
 value_itself (datum.Int a) = itself int_cmp int_cmp_total a
 value_itself (datum.Text a) = itself (slice_cmp nat_cmp) nat_list_cmp_total a
 
--- what the last one of an ordered list tells of all
 pub last_tells : {X : Type 0} (R : X → X → Type 0) (Q : X → Type 0) → ((a b : X) → R a b → Q b → Q a) → (xs : List X) → AllPairs R xs
     → ((last : X) → slice_get xs (length xs - 1) ≡ Some last → Q last) → All Q xs
 last_tells {X} R Q carry xs sorted last k d lt = at (length xs - 1 - k) refl
@@ -58,7 +57,6 @@ last_tells {X} R Q carry xs sorted last k d lt = at (length xs - 1 - k) refl
         let z = get_or xs (length xs - 1) d in
         carry (get_or xs k d) z (sorted k (length xs - 1) d (omega arith) less) (last z (slice_get-get_or xs (length xs - 1) d less))
 
--- where the last one isn't above, none is
 pub none_above : (cuts : List Datum) (cut : Datum) → AllPairs (λ a b. datum_cmp a b ≢ Greater) cuts
     → ((last : Datum) → slice_get cuts (length cuts - 1) ≡ Some last → datum_cmp last cut ≢ Greater) → All (λ a. datum_cmp a cut ≢ Greater) cuts
 none_above cuts cut sorted last = last_tells (λ a b. datum_cmp a b ≢ Greater) (λ a. datum_cmp a cut ≢ Greater) (λ a b. values_not_above a b cut) cuts sorted last
@@ -71,7 +69,6 @@ all_same P (suc m) x h = at (all_same P m x h)
     at rest zero d lt = h
     at rest (suc k) d lt = rest k d (omega arith)
 
--- a list in order, and then the same again and again
 pub pairs_padded : {X : Type 0} (R : X → X → Type 0) (m : ℕ) (xs : List X) (x : X) → AllPairs R xs → All (λ y. R y x) xs → R x x → AllPairs R (xs ++ replicate m x)
 pairs_padded R zero xs x pairs above own = subst (AllPairs R) (sym (append-nil xs)) pairs
 pairs_padded R (suc m) xs x pairs above own =

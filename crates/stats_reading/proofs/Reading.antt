@@ -1,4 +1,4 @@
--- From the answers to lines to the answer to the bytes.
+-- The answer to the bytes of a file follows from the answers to its lines.
 use Rattle.std.proofs.Common.{◌≡◌, ◌↔◌, inl, inr, ℕ, ◌+◌, ◌≤◌, List, [], ◌∷◌, ◌++◌, length, length-append, refl, ap, sym, subst, ◌∙◌, arith, append-nil, append_assoc}
 use Rattle.std.specs.Prelude.{codes, Ok, Err}
 use Rattle.std.specs.List.{concat, flat_map}
@@ -27,7 +27,7 @@ use Rattle.stats_reading.proofs.Seams.{none_left}
 abbrev Lines : Type 0
 Lines = List (List ℕ)
 
--- so many lines are read, and a draft is made of them
+-- `lines` were read and gave draft s; `rest` are the remaining bytes, and `line` is the number of the next line
 pub record IsRead (schema : Schema) (bytes rest : List ℕ) (s : Draft) (line : ℕ) : Type 0 where
   pub lines : Lines
   pub whole : bytes ≡ concat lines ++ rest
@@ -44,7 +44,7 @@ concat_append (x ∷ a) b = ap (λ (rest : List ℕ). x ++ rest) (concat_append 
 abbrev ended : List ℕ → List ℕ
 ended text = text ++ codes "\n"
 
--- one more line stands behind the others
+-- a line is counted to the lines before it, or to the lines after it
 one_more : (lines : Lines) (line : List ℕ) (more : Lines) → (lines ++ line ∷ []) ++ more ≡ lines ++ (line ∷ more)
 one_more lines line more = append_assoc lines (line ∷ []) more
 
@@ -75,7 +75,7 @@ read_more schema bytes rest text others s t line h split goes =
       );
     }
 
--- ---- some file begins as the draft
+-- ---- for each valid draft there is a file that extends it
 
 record Begun (at : Stage) (schema : Schema) (s : Draft) : Type 0 where
   file : StatsFile
@@ -120,14 +120,13 @@ begun_at stage.Cuts schema s v = record { file = file_of_draft s (section_of s (
 begun_at stage.Nodes schema s v = record { file = file_of_draft s (section_of s (v.pair ∷ []) ∷ []); more = v.own ++ last; left = in_pair (NodesLeft s.pair) schema s v }
 begun_at stage.Done schema s v = record { file = file_of_draft s []; more = []; left = (v, refl, refl) }
 
--- the lines that are read are those with which some file begins
 read_up_to : (schema : Schema) (bytes rest : List ℕ) (s : Draft) (line : ℕ) (h : IsRead schema bytes rest s line) → IsReadUpTo schema bytes h.lines rest
 read_up_to schema bytes rest s line h =
     let b = begun_at s.stage schema s h.valid in
     let both = (h.files b.file b.more).1 b.left in
     record { whole = h.whole; begins = record { file = b.file; keeps = both.0; more = b.more; whole = both.1 } }
 
--- ---- refusals
+-- ---- a line is refused
 
 next_line : (rest text others : List ℕ) → IsSplitAt 10 rest text others → BeginsWithLine rest (ended text) others
 next_line rest text others split = record { text = text; no_end = split.first; ended = refl; whole = split.whole ∙ with_end text others }
@@ -169,7 +168,6 @@ not_left own before e = not_nothing before (sym (none_left own (before ++ last) 
 not_behind : (own pairs tables : Lines) → [] ≡ own ++ (pairs ++ (tables ++ last)) → ⊥
 not_behind own pairs tables e = not_left pairs tables (sym (none_left own (pairs ++ (tables ++ last)) e).1)
 
--- before the last line something is left
 more_left : (at : Stage) (schema : Schema) (s : Draft) (file : StatsFile) → (at ≡ stage.Done → ⊥) → FileLeft at schema s file [] → ⊥
 unfolding file_lines
 more_left stage.Start schema s file other h = let none = h.1 in absurd (cc)
@@ -181,7 +179,6 @@ more_left stage.Cuts schema s file other h = not_behind h.own (flat_map (pair_li
 more_left stage.Nodes schema s file other h = not_behind h.own (flat_map (pair_lines h.table) h.pairs) (flat_map (section_lines schema) h.tables) h.all
 more_left stage.Done schema s file other h = other refl
 
--- no line is left, and something is missing or stands behind the last line
 pub too_early : (schema : Schema) (bytes rest : List ℕ) (s : Draft) (line : ℕ) → IsRead schema bytes rest s line → Without 10 rest → ((s.stage ≡ stage.Done) × (rest ≡ []) → ⊥)
     → FileAnswers schema bytes (Err (error.Syntax line))
 too_early schema bytes rest s line h none other = record {
@@ -196,7 +193,7 @@ too_early schema bytes rest s line h none other = record {
   });
 }
 
--- ---- the file
+-- ---- the whole file is read
 
 done_left : (at : Stage) (schema : Schema) (s : Draft) → at ≡ stage.Done → IsValidDraft at schema s → KeepsRules schema (file_of_draft s []) × FileLeft at schema s (file_of_draft s []) []
 done_left stage.Start schema s is v = absurd (cc)

@@ -1,4 +1,4 @@
--- A list in which one element is another one.
+-- One element of a list is exchanged for another.
 use Rattle.std.proofs.Common.{◌≡◌, ◌≢◌, ℕ, zero, suc, List, [], ◌∷◌, ◌++◌, length, get_or, map, refl, ap, sym, subst, ◌∙◌, arith}
 use Rattle.std.specs.Prelude.{All, AllPairs}
 use Rattle.stats_file.specs.declared.types.Datum.{Datum}
@@ -17,7 +17,6 @@ pub map_replaced : {X Y : Type 0} (f : X → Y) (xs : List X) (x y : X) (ys : Li
 map_replaced f [] x y ys e = ap (λ z. z ∷ map f ys) e
 map_replaced f (z ∷ xs) x y ys e = ap (λ l. f z ∷ l) (map_replaced f xs x y ys e)
 
--- the same values, whatever their lists are
 same_firsts : (xs ys : List (Datum × List ℕ)) (k : ℕ) (d : Datum × List ℕ) → map (λ (f : Datum × List ℕ). f.0) xs ≡ map (λ (f : Datum × List ℕ). f.0) ys → (get_or xs k d).0 ≡ (get_or ys k d).0
 same_firsts [] [] k d e = refl
 same_firsts [] (y ∷ ys) k d e = absurd (cc)

@@ -1,4 +1,4 @@
--- The rules of a file, and those of its last pair.
+-- A file keeps rules, and so does its last pair. The lemmas carry the rules from the file to this pair and back.
 use Rattle.std.proofs.Common.{◌≡◌, ℕ, ◌<◌, List, [], ◌∷◌, ◌++◌, get_or, refl, sym, subst, append-nil, append_assoc, Some}
 use Rattle.std.specs.Prelude.{All, AllPairs, slice_get}
 use Rattle.std.proofs.lemmas.List.Quantifiers.{all_pairs_push}
@@ -11,13 +11,11 @@ use Rattle.stats_reading.specs.declared.draft.Draft.{Draft}
 use Rattle.stats_reading.specs.Left.{file_of_draft, section_of}
 use Rattle.stats_reading.proofs.Seams.{all_here, all_left, all_more, pairs_front, pairs_here, same_some}
 
--- the rules that speak of a pair behind those of the table
 pub record PairRules (table : Table) (rows : ℕ) (pairs : List Pair) (pair : Pair) : Type 0 where
   pub is : IsPair table rows pair
   pub order : All (λ q. StandsBefore q pair) pairs
   pub agree : All (λ q. Agree q pair) pairs
 
--- the pairs of a section, over its table
 pub record SectionRules (table : Table) (section : TableStats) : Type 0 where
   pub pairs : All (IsPair table section.rows) section.pairs
   pub order : AllPairs StandsBefore section.pairs
@@ -28,12 +26,10 @@ section_rules schema table section is exists =
     let same = same_some is.table table (slice_get schema.tables section.table) is.table_is exists in
     record { pairs = subst (λ t. All (IsPair t section.rows) section.pairs) same is.pairs; order = is.order; agree = is.agree }
 
--- the table at hand keeps the rules
 pub section_at : (schema : Schema) (s : Draft) (pairs : List Pair) (tables : List TableStats) → KeepsRules schema (file_of_draft s (section_of s pairs ∷ tables))
     → IsSection schema (section_of s pairs)
 section_at schema s pairs tables keeps = all_here (IsSection schema) s.tables (section_of s pairs) tables keeps.tables
 
--- the rules of the pair behind those of the draft
 pub pair_rules : (schema : Schema) (table : Table) (s : Draft) (pair : Pair) (pairs : List Pair) (tables : List TableStats) → slice_get schema.tables s.section.table ≡ Some table
     → KeepsRules schema (file_of_draft s (section_of s (pair ∷ pairs) ∷ tables)) → PairRules table s.section.rows s.section.pairs pair
 pair_rules schema table s pair pairs tables exists keeps =
@@ -45,7 +41,6 @@ pair_rules schema table s pair pairs tables exists keeps =
       agree = pairs_here Agree s.section.pairs pair pairs rules.agree;
     }
 
--- the rules of a file with fewer tables
 pub fewer_tables : (schema : Schema) (s : Draft) (tables more : List TableStats) → KeepsRules schema (file_of_draft s (tables ++ more)) → KeepsRules schema (file_of_draft s tables)
 fewer_tables schema s tables more keeps =
     let same : s.tables ++ (tables ++ more) ≡ (s.tables ++ tables) ++ more = sym (append_assoc s.tables tables more) in
@@ -68,7 +63,6 @@ fewer_pairs_section schema s pairs more is =
       agree = pairs_front Agree (s.section.pairs ++ pairs) more (subst (AllPairs Agree) same is.agree);
     }
 
--- another last table of the same place
 other_last : (schema : Schema) (s : Draft) (a b : TableStats) → a.table ≡ b.table → IsSection schema b → KeepsRules schema (file_of_draft s (a ∷ [])) → KeepsRules schema (file_of_draft s (b ∷ []))
 other_last schema s a b same is keeps =
     let order = pairs_here (λ (x y : TableStats). x.table < y.table) s.tables a [] keeps.order in
@@ -80,14 +74,12 @@ other_last schema s a b same is keeps =
       tables = all_more (IsSection schema) s.tables b (all_left (IsSection schema) s.tables (a ∷ []) keeps.tables) is;
     }
 
--- the rules of the draft alone, without the pair that goes on
 pub without_pair : (schema : Schema) (s : Draft) (pairs : List Pair) (tables : List TableStats) → KeepsRules schema (file_of_draft s (section_of s pairs ∷ tables))
     → KeepsRules schema (file_of_draft s (section_of s [] ∷ []))
 without_pair schema s pairs tables keeps =
     let one = fewer_tables schema s (section_of s pairs ∷ []) tables keeps in
     other_last schema s (section_of s pairs) (section_of s []) refl (fewer_pairs_section schema s [] pairs (section_at schema s pairs [] one)) one
 
--- a pair that keeps the rules may stand behind those of the draft
 pub with_pair : (schema : Schema) (table : Table) (s : Draft) (pair : Pair) → slice_get schema.tables s.section.table ≡ Some table
     → KeepsRules schema (file_of_draft s (section_of s [] ∷ [])) → PairRules table s.section.rows s.section.pairs pair
     → KeepsRules schema (file_of_draft s (section_of s (pair ∷ []) ∷ []))

@@ -1,4 +1,4 @@
--- What holds of a list and of its parts.
+-- An appended list has two parts. The lemmas carry properties of the whole list to its parts, and back.
 use Rattle.std.proofs.Common.{◌≡◌, ◌⊎◌, inl, inr, ℕ, zero, suc, ◌<◌, List, [], ◌∷◌, ◌++◌, length, length-append, get_or, map, refl, ap, sym, subst, ◌∙◌, arith, Option, Some}
 use Rattle.std.specs.Prelude.{All, AllPairs, slice_get}
 use Rattle.std.proofs.lemmas.List.{get_or_append_left}
@@ -31,20 +31,17 @@ pairs_front R xs ys h i j d less lt =
     subst (λ x. R x (get_or xs j d)) (get_or_append_left xs ys d i at_i)
     (subst (λ y. R (get_or (xs ++ ys) i d) y) (get_or_append_left xs ys d j lt) (h i j d less (omega arith)))
 
--- each element of the front and the one behind it
 pub pairs_here : {X : Type 0} (R : X → X → Type 0) (xs : List X) (y : X) (ys : List X) → AllPairs R (xs ++ y ∷ ys) → All (λ x. R x y) xs
 pairs_here R xs y ys h k d lt =
     let len = length-append xs (y ∷ ys) in
     subst (λ x. R x y) (get_or_append_left xs (y ∷ ys) d k lt)
     (subst (λ z. R (get_or (xs ++ y ∷ ys) k d) z) (at_seam xs y ys d) (h k (length xs) d lt (omega arith)))
 
--- the element behind the front
 pub get_here : {X : Type 0} (xs : List X) (y : X) (ys : List X) → slice_get (xs ++ y ∷ ys) (length xs) ≡ Some y
 get_here xs y ys =
     let len = length-append xs (y ∷ ys) in
     slice_get-get_or (xs ++ y ∷ ys) (length xs) y (omega arith) ∙ ap Some (at_seam xs y ys y)
 
--- an element of a list at a place
 pub all_at : {X : Type 0} (P : X → Type 0) (xs : List X) (i : ℕ) (x : X) → All P xs → slice_get xs i ≡ Some x → P x
 all_at P xs i x h is = subst P (get_or_from_slice_get xs i x x is) (h i x (slice_get_within xs i x is))
 
@@ -65,9 +62,8 @@ map_get f [] i y is = absurd (cc)
 map_get f (z ∷ xs) zero y is = let same : f z ≡ y = cc in (z, refl, same)
 map_get f (z ∷ xs) (suc i) y is = map_get f xs i y is
 
--- ---- lists of lines that are equal
+-- ---- equal lists of lines
 
--- a line at the front of mapped lines and others is one of them, or there is none of them
 pub record FromMap {X : Type 0} (f : X → List ℕ) (xs : List X) (line : List ℕ) (more after : List (List ℕ)) : Type 0 where
   pub head : X
   pub rest : List X

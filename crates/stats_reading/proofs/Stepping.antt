@@ -1,4 +1,4 @@
--- What each kind of line does in each stage where it may come.
+-- A line takes a draft one step further. The lemmas say what each kind of line does, at each stage where the grammar allows it.
 use Rattle.std.proofs.Common.{◌≡◌, ◌↔◌, ℕ, ◌^◌, ◌<◌, ◌≤◌, List, [], ◌∷◌, ◌++◌, refl, ap, sym, subst, ◌∙◌, arith, append_assoc}
 use Rattle.std.specs.Prelude.{codes, Result}
 use Rattle.std.proofs.lemmas.List.{append_cancel_right}
@@ -40,7 +40,6 @@ of_one first word l whole = ap ended whole ∙ append_assoc first word (codes "\
 of_two : (first a b l : List ℕ) → l ≡ first ++ (a ++ (codes " " ++ b)) → ended l ≡ first ++ (a ++ (codes " " ++ (b ++ codes "\n")))
 of_two first a b l whole = of_one first (a ++ (codes " " ++ b)) l whole ∙ ap (λ (x : List ℕ). first ++ x) (append_assoc a (codes " " ++ b) (codes "\n"))
 
--- a line without its end is one of the grammar with it
 pub kind_line : (k : LineKind) (a b l : List ℕ) → IsLineOf k a b l → IsOfKind k (ended l)
 kind_line kind.First a b l is = record { word = a; word_is = is.parts.0; whole = of_one (codes "safebound-stats 1 ") a l is.whole }
 kind_line kind.Table a b l is = record { first = a; second = b; first_is = is.parts.0; second_is = is.parts.1; whole = of_two (codes "table ") a b l is.whole }
@@ -61,7 +60,6 @@ back_one first word l e = cut_end (first ++ word) l (e ∙ sym (append_assoc fir
 back_two : (first a b l : List ℕ) → ended l ≡ first ++ (a ++ (codes " " ++ (b ++ codes "\n"))) → l ≡ first ++ (a ++ (codes " " ++ b))
 back_two first a b l e = back_one first (a ++ (codes " " ++ b)) l (e ∙ ap (λ (x : List ℕ). first ++ x) (sym (append_assoc a (codes " " ++ b) (codes "\n"))))
 
--- the words of a line that is one of the grammar with its end
 pub line_kind : (k : LineKind) (l : List ℕ) → IsOfKind k (ended l) → (a : List ℕ) × (b : List ℕ) × IsLineOf k a b l
 line_kind kind.First l is = (is.word, [], record { parts = (is.word_is, refl); whole = back_one (codes "safebound-stats 1 ") is.word l is.whole })
 line_kind kind.Table l is = (is.first, is.second, record { parts = (is.first_is, is.second_is); whole = back_two (codes "table ") is.first is.second l is.whole })
@@ -102,7 +100,6 @@ rows_fit Left schema s v =
 pub weaker_valid : (schema : Schema) (s : Draft) → IsValidPair (NodesLeft s.pair) schema s → IsValidPair (CutsLeft s.pair) schema s
 weaker_valid schema s v = record { table = v.table; exists = v.exists; known = v.known; pair = v.pair; own = v.own; left = ([], v.left); keeps = v.keeps }
 
--- the same of an equal draft
 along : (at : Stage) (schema : Schema) (a b : Draft) (file : StatsFile) (more : Lines) → b ≡ a → FileLeft at schema a file more → FileLeft at schema b file more
 along at schema a b file more e h = subst (λ (x : Draft). FileLeft at schema x file more) (sym e) h
 
@@ -181,7 +178,7 @@ cut_goes schema s t a b l r valid is takes =
       spells = λ v may. spells_one (codes "cut ") (datum_text v) a b l is.whole is.parts.1;
     }
 
--- a node behind cuts, or behind other nodes
+-- a node comes after the cuts, or after other nodes
 pub node_goes : (schema : Schema) (s t : Draft) (a b l : List ℕ) (r : Result (Unit {0}) Fault) → IsValidDraft stage.Cuts schema s → IsLineOf kind.Node a b l
     → Takes list_word (MayBeNode s) (λ v. t ≡ with_node s v) (a, b) r → FilesGo (FileLeft stage.Cuts schema s) (FileLeft stage.Nodes schema t) (IsValidDraft stage.Nodes schema t) (ended l) r
 node_goes schema s t a b l r valid is takes =

@@ -1,4 +1,4 @@
--- The first bytes of lines tell their kinds apart.
+-- The first byte of a line (its tag) tells the kind of the line.
 use Rattle.std.proofs.Common.{◌≡◌, ◌≢◌, ◌⊎◌, inl, inr, ℕ, List, [], ◌∷◌, ◌++◌, get_or, map, ap, sym, ◌∙◌, arith, append_assoc, Option, Some, None}
 use Rattle.std.specs.Prelude.{slice_get}
 use Rattle.std.specs.List.{flat_map}
@@ -18,7 +18,7 @@ tag line = get_or line 0 0
 pub same_tag : (a b : List ℕ) → a ≡ b → tag a ≡ tag b
 same_tag a b e = ap (λ (l : List ℕ). get_or l 0 0) e
 
--- ---- further tables
+-- ---- the lines of further tables
 
 tables_tag : (schema : Schema) (tables : List TableStats) (line : List ℕ) (more : List (List ℕ)) → line ∷ more ≡ tables_left schema tables → (tag line ≡ 116) ⊎ (tag line ≡ 101)
 unfolding table_lines
@@ -30,7 +30,6 @@ tables_tag schema (section ∷ rest) line more e = at (slice_get schema.tables s
     at None f later = later f
     at (Some table) f later = let same : line ≡ table_line table.name section.rows = cc in inl (same_tag line (table_line table.name section.rows) same)
 
--- the first line of a further table, and what follows it
 pub from_tables : (schema : Schema) (section : TableStats) (rest : List TableStats) (table : Table) (line : List ℕ) (more : List (List ℕ))
     → slice_get schema.tables section.table ≡ Some table → line ∷ more ≡ tables_left schema (section ∷ rest)
     → (line ≡ table_line table.name section.rows) × (more ≡ pairs_left schema table section.pairs rest)
@@ -50,9 +49,9 @@ to_tables schema section rest table exists =
     sym (append_assoc (section_lines schema section) (flat_map (section_lines schema) rest) (end_line ∷ [])
     ∙ ap (λ (ls : List (List ℕ)). ls ++ tables_left schema rest) opened)
 
--- ---- further pairs
+-- ---- the lines of further pairs
 
--- the lines of a pair behind its first one
+-- the first line of a pair names its columns; these are the lines after it
 abbrev pub pair_rest : Pair → List (List ℕ)
 pair_rest pair = whole_line pair.whole ∷ frequent_lines pair.frequent pair.rest pair.cuts pair.nodes
 
@@ -69,7 +68,7 @@ pairs_tag schema table (pair ∷ rest) tables line more e =
     let same : line ≡ pair_line (name_at table pair.filter) (name_at table pair.joined) = cc in
     inl (same_tag line (pair_line (name_at table pair.filter) (name_at table pair.joined)) same)
 
--- behind a pair comes no cut and no node, and behind pairs no pair
+-- 99 and 110 are the tags of a cut and a node
 pub after_pair : (schema : Schema) (table : Table) (pairs : List Pair) (tables : List TableStats) (line : List ℕ) (more : List (List ℕ)) → line ∷ more ≡ pairs_left schema table pairs tables
     → (tag line ≢ 99) × (tag line ≢ 110)
 after_pair schema table pairs tables line more e = at (pairs_tag schema table pairs tables line more e)
@@ -88,7 +87,6 @@ after_pairs schema tables line more e = at (tables_tag schema tables line more e
 
 -- ---- the lines of a tree
 
--- the line is the next cut, or the next node, or comes behind them
 pub record TreeParts (cuts : List Datum) (nodes : List (List ℕ)) (line : List ℕ) (more after : List (List ℕ)) : Type 0 where
   pub cut : tag line ≡ 99 → FromMap cut_line cuts line more (map histogram_node_line nodes ++ after)
   pub node : tag line ≡ 110 → (cuts ≡ []) × FromMap histogram_node_line nodes line more after
@@ -116,7 +114,6 @@ tree_parts cuts nodes line more after other e =
 
 -- ---- the lines of frequent values
 
--- the line is the next frequent value, or that of the other values
 pub record FrequentParts (frequent : List (Datum × List ℕ)) (rest : List ℕ) (line : List ℕ) (more tree after : List (List ℕ)) : Type 0 where
   pub value : tag line ≡ 102 → FromMap value_line frequent line more ((rest_line rest ∷ tree) ++ after)
   pub others : tag line ≡ 114 → (frequent ≡ []) × (line ≡ rest_line rest) × (more ≡ tree ++ after)

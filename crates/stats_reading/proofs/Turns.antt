@@ -1,4 +1,4 @@
--- Lines at which tables and pairs begin and end.
+-- At some lines a table or a pair begins, and the table or pair before it ends.
 use Rattle.std.proofs.Common.{◌≡◌, ◌≢◌, ◌↔◌, ℕ, zero, suc, ◌<◌, ◌≤◌, List, [], ◌∷◌, ◌++◌, length, get_or, map, refl, ap, sym, subst, ◌∙◌, arith, Option, Some, None}
 use Rattle.std.specs.Prelude.{slice_get, codes, decimal, Result}
 use Rattle.std.proofs.lemmas.Fmt.{decimal_injective}
@@ -34,9 +34,8 @@ use Rattle.stats_reading.proofs.Stepping.{ended, line_tag, spells_one, spells_tw
 use Rattle.stats_reading.proofs.Tags.{tag}
 use Rattle.stats_reading.proofs.WordFacts.{hex_without, hex_word_blank}
 
--- ---- names are those of one table or column
+-- ---- each name is that of one table or column
 
--- two places in a list of which no two names are equal
 pub one_place : {X : Type 0} (name : X → List ℕ) (xs : List X) (i j : ℕ) (x y : X) → Differ (map name xs) → slice_get xs i ≡ Some x → slice_get xs j ≡ Some y → hex_text (name x) ≡ hex_text (name y) → i ≡ j
 one_place {X} name xs i j x y differ at_x at_y e = by (tri i j)
   where
@@ -56,9 +55,9 @@ one_place {X} name xs i j x y differ at_x at_y e = by (tri i j)
     by (same h) = h
     by (behind h) = absurd (differ j i [] h (mapped i x at_x).0 (sym equal))
 
--- ---- where a pair or a table ends
+-- ---- a pair or a table ends
 
--- in this stage a line that is no cut and no node ends the pair at hand, where one is open
+-- a line that is neither a cut nor a node ends the current pair, if there is one
 pub record PairEnding (at : Stage) (schema : Schema) (s : Draft) (line : List ℕ) : Type 0 where
   pub ends : EndsBefore (PairEnds at s) (FileLeft at schema s) (InTable schema) line
   pub valid : (m : Draft) → PairEnds at s m → IsValidTable schema m
@@ -112,7 +111,6 @@ ends_in_tables schema s line valid = record {
   valid = λ m e. subst (λ (x : Draft). KeepsRules schema (file_of_draft x [])) (sym e) valid;
 }
 
--- after the pair the table ends
 after_pair_ends : (at : Stage) (schema : Schema) (s : Draft) (line : List ℕ) → PairEnding at schema s line → tag line ≢ 112
     → EndsBefore (λ t. (m : Draft) × PairEnds at s m × (t ≡ table_ended m)) (FileLeft at schema s) (InFile schema) line
 after_pair_ends at schema s line pair no_pair = record {
@@ -140,7 +138,7 @@ table_in_cuts schema s line pair no_pair = record { ends = after_pair_ends stage
 pub table_in_nodes : (schema : Schema) (s : Draft) (line : List ℕ) → PairEnding stage.Nodes schema s line → tag line ≢ 112 → TableEnding stage.Nodes schema s line
 table_in_nodes schema s line pair no_pair = record { ends = after_pair_ends stage.Nodes schema s line pair no_pair; valid = after_pair_valid stage.Nodes schema s line pair }
 
--- ---- the lines
+-- ---- lines that begin or end a table or a pair
 
 within : (columns : List Column) (i : ℕ) → i < length columns → (c : Column) × (slice_get columns i ≡ Some c)
 within [] i lt = absurd (omega arith)

@@ -1,4 +1,4 @@
--- Words spell one value, and lines of words are split in one way.
+-- A word spells at most one value, and a line splits into words in at most one way.
 use Rattle.std.proofs.Common.{◌≡◌, ◌≢◌, ℕ, zero, suc, ◌+◌, ◌^◌, ◌<◌, ◌≤◌, ◌↔◌, List, [], ◌∷◌, ◌++◌, refl, ap, sym, subst, ◌∙◌, arith, append-nil, append_assoc, if◌then◌else◌, true, false, Bool, ◌/◌, ◌%◌, ◌&&◌, inl, inr, Option, Some}
 use Rattle.std.specs.Prelude.{nat_lt, ℤ, pos, negsuc, FitsSigned, codes, decimal, sum}
 use Rattle.std.specs.Fmt.{signed_decimal}
@@ -79,7 +79,6 @@ same_list rows a b fits is_a is_b e =
     small : (list : List ℕ) → IsList rows list → AllByRecursion (IsSmall rows) (runs_of list)
     small list is = small_runs rows (runs_of list) (runs_fall list is.falls is.positive) (subst (λ (x : List ℕ). sum x ≤ rows) (sym (expanded_runs list)) is.within)
 
--- where the value that a word spells may not follow, none with this word may
 pub not_next : {X : Type 0} (text : X → List ℕ) (Base Follows : X → Type 0) → ((a b : X) → Base a → Base b → text a ≡ text b → a ≡ b) → (word : List ℕ) (r : Option X) (v : X)
     → Spells text Base word r → r ≡ Some v → (Follows v → ⊥) → (x : X) → Base x × Follows x → text x ≢ word
 not_next text Base Follows same word r v spells is no' x (base, follows) e =
@@ -119,7 +118,6 @@ datum_blank kinds.Int (datum.Text bytes) never = absurd never
 datum_blank (kinds.Text most) (datum.Int n) never = absurd never
 datum_blank (kinds.Text most) (datum.Text bytes) utf8 = hex_without bytes
 
--- a hexadecimal word has none
 hex_pairs_blank : (ds : List ℕ) → are_hex_pairs ds ≡ true → Without 32 ds
 hex_pairs_blank [] are = λ k d lt. absurd (omega arith)
 hex_pairs_blank (a ∷ []) are = absurd (cc)
@@ -142,7 +140,7 @@ value_blank word (inr is) = hex_word_blank word is
 
 -- ---- lines and their words
 
--- a line is its front, a word and its end
+-- a line with one word is its fixed first part, the word and the line end
 pub one_word : (front word first l : List ℕ) → l ≡ front ++ first → (front ++ (word ++ codes "\n") ≡ l ++ codes "\n") ↔ (word ≡ first)
 one_word front word first l whole = (to, from)
   where
@@ -154,7 +152,7 @@ one_word front word first l whole = (to, from)
     from : word ≡ first → front ++ (word ++ codes "\n") ≡ l ++ codes "\n"
     from e = sym (append_assoc front word (codes "\n")) ∙ ap (λ (x : List ℕ). (front ++ x) ++ codes "\n") e ∙ ap (λ (x : List ℕ). x ++ codes "\n") (sym whole)
 
--- or two words with a blank between them
+-- a blank stands between the two words, and the first word has no blank
 pub two_words : (front a b first second l : List ℕ) → Without 32 a → Without 32 first → l ≡ front ++ (first ++ (codes " " ++ second))
     → (front ++ (a ++ (codes " " ++ (b ++ codes "\n"))) ≡ l ++ codes "\n") ↔ ((a ≡ first) × (b ≡ second))
 two_words front a b first second l free_a free_first whole =

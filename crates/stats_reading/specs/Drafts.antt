@@ -1,4 +1,4 @@
--- What may be read next into a draft, and what the draft then is.
+-- What a line may add to a draft (the part of a file that is read so far), and the draft afterwards.
 use Rattle.std.specs.Prelude.{ℕ, ◌≡◌, ◌≢◌, ◌<◌, ◌≤◌, ◌-◌, ◌^◌, ⊤, List, [], ◌∷◌, ◌++◌, length, sum, All, AllPairs, Option, Some, None, slice_get, decimal, Result, Ok, Err}
 use Rattle.std.specs.declared.cmp.Ordering.TheVariants.{Greater}
 use Rattle.limits.specs.Profile.{least_accuracy, most_accuracy, most_rows}
@@ -18,7 +18,7 @@ use Rattle.stats_reading.specs.declared.fault.Fault.{Fault}
 use Rattle.stats_reading.specs.declared.fault.Fault.TheVariants as fault
 use Rattle.stats_reading.specs.declared.stages.Stage.TheVariants as stage
 
--- ---- drafts
+-- ---- drafts and how they change
 
 abbrev pub empty_pair : ℕ → ℕ → Pair
 empty_pair filter joined = record { filter = filter; joined = joined; whole = []; frequent = []; rest = []; cuts = []; nodes = [] }
@@ -38,7 +38,7 @@ empty_draft = record {
   same_joined_at = 0;
 }
 
--- the pair at hand, with more of it
+-- drafts whose current pair has more lists than before
 abbrev pub with_whole : Draft → List ℕ → Draft
 with_whole s list = record s { pair = record s.pair { whole = list } }
 
@@ -54,24 +54,24 @@ with_cut s cut = record s { pair = record s.pair { cuts = s.pair.cuts ++ cut ∷
 abbrev pub with_node : Draft → List ℕ → Draft
 with_node s node = record s { pair = record s.pair { nodes = s.pair.nodes ++ node ∷ [] } }
 
--- the pair at hand is complete
+-- the draft after its current pair is added to the table
 abbrev pub pair_ended : Draft → Draft
 pair_ended s = record s { section = record s.section { pairs = s.section.pairs ++ s.pair ∷ [] }; pair = empty_pair 0 0 }
 
--- the table at hand is complete
+-- the draft after its current table is added to the file
 abbrev pub table_ended : Draft → Draft
 table_ended s = record s { tables = s.tables ++ s.section ∷ []; section = empty_section 0 0 }
 
--- where there are rows, all cuts and nodes are there
+-- if the table has rows, the current pair has all 32 cuts and all 63 nodes
 abbrev pub HasAllNodes : Draft → Type 0
 HasAllNodes s = 0 < s.section.rows → (length s.pair.cuts ≡ 32) × (length s.pair.nodes ≡ 63)
 
--- a place of an earlier pair with such a column, or one behind all where none has it
+-- `place` is that of a pair whose column is `wanted`, or is beyond the end of `pairs` if no pair has this column
 pub record IsPlaceOf (column : Pair → ℕ) (wanted : ℕ) (pairs : List Pair) (place : ℕ) : Type 0 where
   pub found : (q : Pair) → slice_get pairs place ≡ Some q → column q ≡ wanted
   pub none : slice_get pairs place ≡ None → All (λ q. column q ≢ wanted) pairs
 
--- the pair at hand is one of these columns
+-- draft `new` is `old` with a pair of these columns begun
 pub record BeginsPair (table : Table) (old new : Draft) (filter joined : ℕ) : Type 0 where
   pub column : Column
   pub column_is : slice_get table.columns filter ≡ Some column
@@ -79,16 +79,16 @@ pub record BeginsPair (table : Table) (old new : Draft) (filter joined : ℕ) : 
   pub same_joined_at : IsPlaceOf (λ q. q.joined) joined old.section.pairs new.same_joined_at
   pub whole : new ≡ record old { pair = empty_pair filter joined; kind = column.kind; same_filter_at = new.same_filter_at; same_joined_at = new.same_joined_at }
 
--- the tables that are complete, and the pairs of the table at hand that are, ascend
+-- the complete tables ascend by their places in the schema, and the complete pairs of the current table ascend by their columns
 abbrev pub TablesAscend : Draft → Type 0
 TablesAscend s = AllPairs (λ (a b : TableStats). a.table < b.table) s.tables
 
 abbrev pub PairsAscend : Draft → Type 0
 PairsAscend s = AllPairs StandsBefore s.section.pairs
 
--- ---- what may be next
+-- ---- what may come next
 
--- the earlier pair with this filter column, if there is one
+-- q is an earlier pair with the current pair's filter column
 abbrev pub IsLike : Draft → Pair → Type 0
 IsLike s q = slice_get s.section.pairs s.same_filter_at ≡ Some q
 
@@ -98,7 +98,7 @@ IsTwin s q = slice_get s.section.pairs s.same_joined_at ≡ Some q
 abbrev pub MayBeAccuracy : ℕ → Type 0
 MayBeAccuracy k = (least_accuracy ≤ k) × (k ≤ most_accuracy)
 
--- a table of the schema with its place and its number of rows
+-- a table of the schema with its place there, and its number of rows
 pub record Place : Type 0 where
   pub table : Table
   pub place : ℕ
@@ -114,25 +114,25 @@ pub record MayBePair (table : Table) (s : Draft) (filter joined : ℕ) : Type 0 
   pub joined_is : joined < length table.columns
   pub later : All (λ q. StandsBefore q (empty_pair filter joined)) s.section.pairs
 
--- a list of all rows, and that of the earlier pair with this joined column
+-- a list may be the list of all rows: its sum is the number of rows, and an earlier pair with the same joined column has the same list
 pub record WholeFollows (s : Draft) (list : List ℕ) : Type 0 where
   pub all : sum list ≡ s.section.rows
   pub alike : (q : Pair) → IsTwin s q → q.whole ≡ list
 
--- this frequent value of the earlier pair is the same, and its list has the same total
+-- at this place pair q has the same frequent value, with a list of the same sum
 pub record IsSameValue (place : ℕ) (f : Datum × List ℕ) (q : Pair) : Type 0 where
   pub other : Datum × List ℕ
   pub there : slice_get q.frequent place ≡ Some other
   pub value : other.0 ≡ f.0
   pub total : sum other.1 ≡ sum f.1
 
--- one more frequent value, unlike those before it
+-- a value with its list may be the next frequent value
 pub record FrequentFollows (s : Draft) (f : Datum × List ℕ) : Type 0 where
   pub few : length s.pair.frequent < 32
   pub differs : All (λ (e : Datum × List ℕ). e.0 ≢ f.0) s.pair.frequent
   pub alike : (q : Pair) → IsLike s q → IsSameValue (length s.pair.frequent) f q
 
--- as many frequent values as the earlier pair has, and the same total
+-- pair q has `count` frequent values, and its list of the other values has the same sum
 pub record IsSameRest (count : ℕ) (list : List ℕ) (q : Pair) : Type 0 where
   pub count_is : length q.frequent ≡ count
   pub total : sum q.rest ≡ sum list
@@ -140,20 +140,20 @@ pub record IsSameRest (count : ℕ) (list : List ℕ) (q : Pair) : Type 0 where
 pub record RestFollows (s : Draft) (list : List ℕ) : Type 0 where
   pub alike : (q : Pair) → IsLike s q → IsSameRest (length s.pair.frequent) list q
 
--- one more cut, not below the last one
+-- a cut may be the next one
 pub record CutFollows (s : Draft) (cut : Datum) : Type 0 where
   pub some : 0 < s.section.rows
   pub few : length s.pair.cuts < 32
   pub order : (last : Datum) → slice_get s.pair.cuts (length s.pair.cuts - 1) ≡ Some last → datum_cmp last cut ≢ Greater
   pub alike : (q : Pair) → IsLike s q → slice_get q.cuts (length s.pair.cuts) ≡ Some cut
 
--- this node of the earlier pair has the same total
+-- at this place pair q has a node with the same sum
 pub record IsSameTotal (place : ℕ) (node : List ℕ) (q : Pair) : Type 0 where
   pub other : List ℕ
   pub there : slice_get q.nodes place ≡ Some other
   pub total : sum other ≡ sum node
 
--- one more node, behind all cuts
+-- a node may be the next one, after all cuts
 pub record NodeFollows (s : Draft) (node : List ℕ) : Type 0 where
   pub some : 0 < s.section.rows
   pub all_cuts : length s.pair.cuts ≡ 32
@@ -175,9 +175,9 @@ MayBeCut s cut = IsOfKind s.kind cut × CutFollows s cut
 abbrev pub MayBeNode : Draft → List ℕ → Type 0
 MayBeNode s node = IsList s.section.rows node × NodeFollows s node
 
--- ---- a step
+-- ---- a step: the words of a line are read
 
--- one of the values that may be next has these words, and was taken; or none of them has
+-- a value that may come next has these words, and was taken; or no value that may come next has them
 pub record WasTaken {X : Type 0} (text : X → List ℕ × List ℕ) (MayBe After : X → Type 0) (words : List ℕ × List ℕ) : Type 0 where
   pub value : X
   pub may : MayBe value
@@ -190,7 +190,7 @@ Takes {X} text MayBe After words (Err fault.Syntax) = ⊥
 Takes {X} text MayBe After words (Err fault.Rule) = (x : X) → MayBe x → text x ≢ words
 Takes {X} text MayBe After words (Err fault.NoMemory) = ⊤
 
--- the words of values
+-- the words of a line for each kind of value
 abbrev pub number_word : ℕ → List ℕ × List ℕ
 number_word n = (decimal n, [])
 
@@ -209,12 +209,12 @@ pair_words table columns = (hex_text (name_at table columns.0), hex_text (name_a
 abbrev pub table_words : Place → List ℕ × List ℕ
 table_words v = (hex_text v.table.name, decimal v.rows)
 
--- the place of something of this name, if there is one
+-- the place of an element with the name that `word` spells, or `None` if no element has it
 abbrev pub IsNamed : {X : Type 0} → (X → List ℕ) → List X → List ℕ → Option ℕ → Type 0
 IsNamed {X} name xs word None = All (λ x. word ≢ hex_text (name x)) xs
 IsNamed {X} name xs word (Some place) = (x : X) × (slice_get xs place ≡ Some x) × (word ≡ hex_text (name x))
 
--- totals that a machine can add
+-- lists whose sums fit into a `u64`
 pub record AreSmall (q : Pair) : Type 0 where
   pub rest : sum q.rest < 2 ^ 64
   pub frequent : All (λ (f : Datum × List ℕ). sum f.1 < 2 ^ 64) q.frequent

@@ -1,4 +1,5 @@
--- What a line does to a draft: all that may follow it, or why nothing does.
+-- What a line does to a draft. Either the draft goes on with the line, or the line is refused: no text of the grammar, or no file that keeps the
+-- rules, goes on with it.
 use Rattle.std.specs.Prelude.{ℕ, ◌≡◌, ◌<◌, ◌↔◌, ⊤, All, length, List, [], ◌∷◌, Some, slice_get, Result, Ok, Err}
 use Rattle.schema_types.specs.declared.types.Schema.{Schema}
 use Rattle.schema_types.specs.declared.types.Table.{Table}
@@ -15,17 +16,17 @@ use Rattle.stats_reading.specs.Stages.{TextLeft}
 use Rattle.stats_reading.specs.Steps.{Ends, EndsAnd, PairEnds, TableEnds}
 use Rattle.stats_reading.specs.Valid.{IsValidDraft}
 
--- a table of the schema begins, where none is open
+-- the words of a line are read as those of a new table, in a draft with neither an open pair nor an open table
 abbrev pub BeginsTable : Schema → Draft → List ℕ × List ℕ → Draft → Result (Unit {0}) Fault → Type 0
 BeginsTable schema t words m result =
     Takes table_words (MayBeTable schema m) (λ v. t ≡ record m { section = empty_section v.place v.rows }) words result
 
--- a pair of the table begins, where none is open
+-- the words of a line are read as those of a new pair, in a draft without an open pair
 abbrev pub BeginsPairOf : Schema → Draft → List ℕ × List ℕ → Draft → Result (Unit {0}) Fault → Type 0
 BeginsPairOf schema t words m result = (table : Table) → slice_get schema.tables m.section.table ≡ Some table
     → Takes (pair_words table) (λ c. MayBePair table m c.0 c.1) (λ c. BeginsPair table m t c.0 c.1) words result
 
--- what the words of a line of this kind are read with: tables or pairs that ascend, a table that is open, or totals that can be compared
+-- what must be true of a draft before words of each kind are read: tables or pairs ascend, a table is open, or sums of lists fit into a `u64`
 abbrev pub IsReadyAt : Stage → LineKind → Schema → Draft → Type 0
 IsReadyAt at kind.Table schema s = (m : Draft) → TableEnds at s m → TablesAscend m
 IsReadyAt at kind.Pair schema s = s.section.table < length schema.tables × ((m : Draft) → PairEnds at s m → PairsAscend m)
@@ -37,7 +38,7 @@ IsReadyAt at _ schema s = ⊤
 abbrev pub IsReady : LineKind → Schema → Draft → Type 0
 IsReady k schema s = IsReadyAt s.stage k schema s
 
--- the words of a line of this kind are read into a draft
+-- the words of a line of this kind are read into a draft, at each stage
 abbrev pub WordsAreRead : Stage → Schema → LineKind → Draft → Draft → List ℕ × List ℕ → Result (Unit {0}) Fault → Type 0
 WordsAreRead at schema kind.First s t words result = Takes number_word MayBeAccuracy (λ k. t ≡ record s { accuracy = k }) (words.0, []) result
 WordsAreRead at schema kind.Table s t words result = EndsAnd (TableEnds at s) (BeginsTable schema t words) result
@@ -52,13 +53,13 @@ WordsAreRead at schema kind.End s t words result = Ends (TableEnds at s) t resul
 abbrev pub LineIsRead : Schema → LineKind → Draft → Draft → List ℕ × List ℕ → Result (Unit {0}) Fault → Type 0
 LineIsRead schema k s t words result = WordsAreRead s.stage schema k s t words result
 
--- the line is taken: what may follow it is what may follow the new draft
+-- the line is taken: further lines may follow it in draft `s` exactly if they may follow in draft `t`
 pub record Goes (schema : Schema) (s t : Draft) (line : List ℕ) : Type 0 where
   pub files : (file : StatsFile) (more : List (List ℕ)) → FileLeft s.stage schema s file (line ∷ more) ↔ FileLeft t.stage schema t file more
   pub texts : (more : List (List ℕ)) → TextLeft s.stage (line ∷ more) ↔ TextLeft t.stage more
   pub valid : IsValidDraft t.stage schema t
 
--- the grammar allows the line here, but no file has it
+-- the grammar allows the line here, but no file that keeps the rules has it
 pub record Breaks (schema : Schema) (s : Draft) (line : List ℕ) : Type 0 where
   pub files : (file : StatsFile) (more : List (List ℕ)) → FileLeft s.stage schema s file (line ∷ more) → ⊥
   pub some : List (List ℕ)

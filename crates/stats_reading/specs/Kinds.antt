@@ -1,4 +1,4 @@
--- What a line is, without its end: its front, and one word behind it or two.
+-- What a line is, without its line end: a fixed first part, and after it one word or two.
 use Rattle.std.specs.Prelude.{ℕ, ◌≡◌, Bool, true, false, if◌then◌else◌, List, [], ◌++◌, Option, None, Some, codes}
 use Rattle.stats_file.specs.Grammar.{IsCutLine, IsFirstLine, IsFrequentLine, IsHexWord, IsListWord, IsNodeLine, IsNumeral, IsPairLine, IsRestLine, IsTableLine, IsValueWord, IsWholeLine}
 use Rattle.stats_reading.specs.declared.fault.Fault.{Fault}
@@ -17,7 +17,7 @@ front kind.Cut = codes "cut "
 front kind.Node = codes "node "
 front kind.End = codes "end"
 
--- the kinds with two words; the second word of the others is empty
+-- whether lines of this kind have two words; in the other kinds the second word is empty
 abbrev pub has_two : LineKind → Bool
 has_two kind.First = false
 has_two kind.Table = true
@@ -29,7 +29,7 @@ has_two kind.Cut = false
 has_two kind.Node = false
 has_two kind.End = false
 
--- words of the grammar, as a line of this kind has them
+-- the grammar allows these two words in a line of this kind
 abbrev pub AreLineParts : LineKind → List ℕ → List ℕ → Type 0
 AreLineParts kind.First first second = IsNumeral first × (second ≡ [])
 AreLineParts kind.Table first second = IsHexWord first × IsNumeral second
@@ -41,7 +41,7 @@ AreLineParts kind.Cut first second = IsValueWord first × (second ≡ [])
 AreLineParts kind.Node first second = IsListWord first × (second ≡ [])
 AreLineParts kind.End first second = (first ≡ []) × (second ≡ [])
 
--- the words, with a blank between two of them
+-- the text of the words, with a blank between two words
 abbrev pub words_text : LineKind → List ℕ → List ℕ → List ℕ
 words_text kind first second = if has_two kind then first ++ (codes " " ++ second) else first
 
@@ -50,11 +50,11 @@ pub record IsLineOf (kind : LineKind) (first second line : List ℕ) : Type 0 wh
   pub parts : AreLineParts kind first second
   pub whole : line ≡ front kind ++ words_text kind first second
 
--- if there is one word, the second one is empty
+-- if lines of this kind have one word, the second word is empty
 abbrev pub IsAlone : LineKind → List ℕ → Type 0
 IsAlone kind second = has_two kind ≡ false → second ≡ []
 
--- a line with this front and these words, which is one of the grammar only if its words are
+-- a line has this first part and these words; if the line is one of the grammar, the grammar allows these words
 pub record MayBeLineOf (kind : LineKind) (first second line : List ℕ) : Type 0 where
   pub whole : line ≡ front kind ++ words_text kind first second
   pub alone : IsAlone kind second
@@ -64,17 +64,17 @@ pub record MayBeLineOf (kind : LineKind) (first second line : List ℕ) : Type 0
 abbrev pub IsNoLine : List ℕ → Type 0
 IsNoLine line = (kind : LineKind) (first second : List ℕ) → IsLineOf kind first second line → ⊥
 
--- these words stand behind the front of a line of this kind, and no others of the grammar
+-- a text splits into these words; if any split of the text gives words of the grammar, this split does
 pub record MayStandBehind (kind : LineKind) (words first second : List ℕ) : Type 0 where
   pub whole : words ≡ words_text kind first second
   pub alone : IsAlone kind second
   pub only : (a b : List ℕ) → AreLineParts kind a b → words ≡ words_text kind a b → AreLineParts kind first second
 
--- no words of a line of this kind stand there
+-- no words of the grammar for this kind have this text
 abbrev pub HasNoLineWords : LineKind → List ℕ → Type 0
 HasNoLineWords kind words = (first second : List ℕ) → AreLineParts kind first second → words ≡ words_text kind first second → ⊥
 
--- the kinds whose words are tested before they are read; what is read of the others is in the grammar
+-- whether words of this kind are tested against the grammar before they are read; for the other kinds, words that are read are in the grammar
 abbrev pub is_tested : LineKind → Bool
 is_tested kind.First = true
 is_tested kind.Table = true
@@ -86,7 +86,7 @@ is_tested kind.Cut = false
 is_tested kind.Node = false
 is_tested kind.End = true
 
--- a rule is broken only by words of the grammar: others are no line of it
+-- the fault of a line: words that the grammar doesn't allow are a fault of syntax, not of a rule
 abbrev pub IsFaultOf : LineKind → List ℕ → List ℕ → Fault → Fault → Type 0
 IsFaultOf kind first second fault.Rule fault.Rule = AreLineParts kind first second
 IsFaultOf kind first second fault.Rule fault.Syntax = AreLineParts kind first second → ⊥
@@ -94,12 +94,12 @@ IsFaultOf kind first second fault.Rule fault.NoMemory = ⊥
 IsFaultOf kind first second fault.Syntax new = new ≡ fault.Syntax
 IsFaultOf kind first second fault.NoMemory new = new ≡ fault.NoMemory
 
--- a line has no front but that of this kind
+-- `None` if the line has the fixed first part of no kind; otherwise the only kind whose first part the line may have
 abbrev pub CanBe : List ℕ → Option LineKind → Type 0
 CanBe line None = (kind : LineKind) (rest : List ℕ) → line ≡ front kind ++ rest → ⊥
 CanBe line (Some only) = (kind : LineKind) (rest : List ℕ) → line ≡ front kind ++ rest → kind ≡ only
 
--- a line of this kind, its end included, as the grammar has it
+-- a line with its line end is one of this kind in the grammar
 abbrev pub IsOfKind : LineKind → List ℕ → Type 0
 IsOfKind kind.First line = IsFirstLine line
 IsOfKind kind.Table line = IsTableLine line

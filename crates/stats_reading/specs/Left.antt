@@ -1,4 +1,4 @@
--- The lines that a file's text has left behind those of a draft.
+-- Lines that are still to be read: a file extends the draft, and these lines of the file's text remain.
 use Rattle.std.specs.Prelude.{ℕ, ◌≡◌, List, [], ◌∷◌, ◌++◌, map, Some, slice_get, codes}
 use Rattle.std.specs.List.{flat_map}
 use Rattle.schema_types.specs.declared.types.Schema.{Schema}
@@ -27,9 +27,9 @@ histogram_lines cuts nodes = map cut_line cuts ++ map histogram_node_line nodes
 abbrev pub frequent_lines : List (Datum × List ℕ) → List ℕ → List Datum → List (List ℕ) → List (List ℕ)
 frequent_lines frequent rest cuts nodes = map value_line frequent ++ (rest_line rest ∷ histogram_lines cuts nodes)
 
--- ---- a pair that begins as the one at hand
+-- ---- a pair that extends the current one
 
--- the columns are the same, and what has been read of lists is followed by these
+-- pair p is the current pair d with more elements in each list
 pub record PairGrows (d p : Pair) (frequent : List (Datum × List ℕ)) (cuts : List Datum) (nodes : List (List ℕ)) : Type 0 where
   pub filter : p.filter ≡ d.filter
   pub joined : p.joined ≡ d.joined
@@ -65,31 +65,31 @@ CutsLeft d p lines = (cuts : List Datum) × TreeLeft d p cuts lines
 abbrev pub NodesLeft : Pair → Pair → List (List ℕ) → Type 0
 NodesLeft d p lines = TreeLeft d p [] lines
 
--- ---- a file that begins as the draft
+-- ---- a file that extends the draft
 
--- further tables, and the last line
+-- the lines of further tables, and the last line of the file
 abbrev pub tables_left : Schema → List TableStats → List (List ℕ)
 tables_left schema tables = flat_map (section_lines schema) tables ++ (end_line ∷ [])
 
--- further pairs of a table, and then tables
+-- the lines of further pairs of the current table, then those of further tables
 abbrev pub pairs_left : Schema → Table → List Pair → List TableStats → List (List ℕ)
 pairs_left schema table pairs tables = flat_map (pair_lines table) pairs ++ tables_left schema tables
 
 abbrev pub file_of_draft : Draft → List TableStats → StatsFile
 file_of_draft s tables = record { accuracy = s.accuracy; tables = s.tables ++ tables }
 
--- the table at hand, with further pairs
+-- the current table with further pairs
 abbrev pub section_of : Draft → List Pair → TableStats
 section_of s pairs = record s.section { pairs = s.section.pairs ++ pairs }
 
--- the file goes on with tables
+-- the file is the draft with further tables, and these are their lines
 pub record InFile (schema : Schema) (s : Draft) (file : StatsFile) (lines : List (List ℕ)) : Type 0 where
   pub tables : List TableStats
   pub keeps : KeepsRules schema file
   pub is : file ≡ file_of_draft s tables
   pub all : lines ≡ tables_left schema tables
 
--- the table at hand goes on with pairs
+-- the file is the draft with further pairs of the current table and with further tables
 pub record InTable (schema : Schema) (s : Draft) (file : StatsFile) (lines : List (List ℕ)) : Type 0 where
   pub table : Table
   pub exists : slice_get schema.tables s.section.table ≡ Some table
@@ -99,7 +99,7 @@ pub record InTable (schema : Schema) (s : Draft) (file : StatsFile) (lines : Lis
   pub is : file ≡ file_of_draft s (section_of s pairs ∷ tables)
   pub all : lines ≡ pairs_left schema table pairs tables
 
--- the pair at hand goes on
+-- the file is the draft with the rest of the current pair, further pairs and further tables
 pub record InPair (Left : Pair → List (List ℕ) → Type 0) (schema : Schema) (s : Draft) (file : StatsFile) (lines : List (List ℕ))
     : Type 0 where
   pub table : Table
@@ -113,7 +113,7 @@ pub record InPair (Left : Pair → List (List ℕ) → Type 0) (schema : Schema)
   pub is : file ≡ file_of_draft s (section_of s (pair ∷ pairs) ∷ tables)
   pub all : lines ≡ own ++ pairs_left schema table pairs tables
 
--- the file begins as the draft, and these lines are left of it
+-- the file extends the draft, which is at this stage, and `lines` are the remaining lines of the file's text
 abbrev pub FileLeft : Stage → Schema → Draft → StatsFile → List (List ℕ) → Type 0
 FileLeft stage.Start schema s file lines = KeepsRules schema file × (lines ≡ file_lines schema file)
 FileLeft stage.Tables schema s file lines = InFile schema s file lines

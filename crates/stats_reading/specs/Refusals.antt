@@ -1,4 +1,4 @@
--- The error that a fault at a line is.
+-- The error of a file that is refused for a fault at a line.
 use Rattle.std.specs.Prelude.{ℕ}
 use Rattle.stats_file.specs.declared.types.StatsError.{StatsError}
 use Rattle.stats_file.specs.declared.types.StatsError.TheVariants as error

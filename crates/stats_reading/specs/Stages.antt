@@ -1,4 +1,4 @@
--- Which kinds of lines may follow, and what a text of the grammar has left.
+-- Which kinds of lines may come at each stage, and which lines a text of the grammar may go on with.
 use Rattle.std.specs.Prelude.{ℕ, ◌≡◌, List, [], ◌∷◌, ◌++◌, Option, None, Some, codes}
 use Rattle.std.specs.List.{AllByRecursion, flat_map}
 use Rattle.stats_file.specs.Grammar.{ArePairLines, AreTableLines, IsCutLine, IsFrequentLine, IsNodeLine, IsRestLine, IsText, IsWholeLine}
@@ -28,7 +28,7 @@ next_stage stage.Nodes kind.Table = Some stage.Pairs
 next_stage stage.Nodes kind.End = Some stage.Done
 next_stage _ _ = None
 
--- one line of a kind, and then what may follow it
+-- the lines are one line of a kind, then lines that satisfy `Next`
 pub record One (IsKind : List ℕ → Type 0) (Next : List (List ℕ) → Type 0) (lines : List (List ℕ)) : Type 0 where
   pub line : List ℕ
   pub others : List (List ℕ)
@@ -36,7 +36,7 @@ pub record One (IsKind : List ℕ → Type 0) (Next : List (List ℕ) → Type 0
   pub next : Next others
   pub all : lines ≡ line ∷ others
 
--- any number of lines of a kind, and then what may follow them
+-- the lines are any number of lines of a kind, then lines that satisfy `Next`
 pub record Many (IsKind : List ℕ → Type 0) (Next : List (List ℕ) → Type 0) (lines : List (List ℕ)) : Type 0 where
   pub front : List (List ℕ)
   pub others : List (List ℕ)
@@ -44,7 +44,7 @@ pub record Many (IsKind : List ℕ → Type 0) (Next : List (List ℕ) → Type 
   pub next : Next others
   pub all : lines ≡ front ++ others
 
--- any number of parts of lines, and then what may follow them
+-- the lines are any number of parts (of one or more lines each), then lines that satisfy `Next`
 pub record Parts (ArePart : List (List ℕ) → Type 0) (Next : List (List ℕ) → Type 0) (lines : List (List ℕ)) : Type 0 where
   pub parts : List (List (List ℕ))
   pub others : List (List ℕ)
@@ -70,7 +70,7 @@ CutsLeft = Many IsCutLine NodesLeft
 abbrev pub FrequentLeft : List (List ℕ) → Type 0
 FrequentLeft = Many IsFrequentLine (One IsRestLine CutsLeft)
 
--- with these lines a text of the grammar may go on
+-- at this stage a text of the grammar may go on with these lines, to its end
 abbrev pub TextLeft : Stage → List (List ℕ) → Type 0
 TextLeft stage.Start lines = IsText lines
 TextLeft stage.Tables lines = TablesLeft lines

@@ -1,4 +1,4 @@
--- What a line does to a draft.
+-- How a line ends a pair or a table before its own words are read.
 use Rattle.std.specs.Prelude.{◌≡◌, ◌⊎◌, ⊤, Result, Ok, Err}
 use Rattle.stats_reading.specs.declared.draft.Draft.{Draft}
 use Rattle.stats_reading.specs.declared.fault.Fault.{Fault}
@@ -7,25 +7,25 @@ use Rattle.stats_reading.specs.declared.stages.Stage.{Stage}
 use Rattle.stats_reading.specs.declared.stages.Stage.TheVariants as stage
 use Rattle.stats_reading.specs.Drafts.{pair_ended, table_ended, HasAllNodes}
 
--- the draft without an open pair
+-- t is draft s after its open pair ends, if it has one
 abbrev pub PairEnds : Stage → Draft → Draft → Type 0
 PairEnds stage.Cuts s t = HasAllNodes s × (t ≡ pair_ended s)
 PairEnds stage.Nodes s t = HasAllNodes s × (t ≡ pair_ended s)
 PairEnds _ s t = t ≡ s
 
--- the draft without an open table
+-- t is draft s after its open table ends, if it has one
 abbrev pub TableEnds : Stage → Draft → Draft → Type 0
 TableEnds stage.Tables s t = t ≡ s
 TableEnds at s t = (m : Draft) × PairEnds at s m × (t ≡ table_ended m)
 
--- something ends, or can't
+-- the answer of a step in which something ends: it ended, or it can't end here
 abbrev pub Ends : (Draft → Type 0) → Draft → Result (Unit {0}) Fault → Type 0
 Ends MayEnd new (Ok done) = MayEnd new
 Ends MayEnd new (Err fault.Syntax) = ⊥
 Ends MayEnd new (Err fault.Rule) = (t : Draft) → MayEnd t → ⊥
 Ends MayEnd new (Err fault.NoMemory) = ⊤
 
--- first something ends, and then something is read
+-- the answer of a step in which something ends first and then words are read
 abbrev pub EndsAnd : (Draft → Type 0) → (Draft → Result (Unit {0}) Fault → Type 0) → Result (Unit {0}) Fault → Type 0
 EndsAnd MayEnd Then result = ((m : Draft) × MayEnd m × Then m result)
     ⊎ (((t : Draft) → MayEnd t → ⊥) × (result ≡ Err fault.Rule)) ⊎ (result ≡ Err fault.NoMemory)

@@ -1,4 +1,4 @@
--- What holds of a draft while it grows: some file that keeps the rules begins as it.
+-- A draft is valid at a stage if some file that keeps the rules extends it.
 use Rattle.std.specs.Prelude.{ℕ, ◌≡◌, List, [], ◌∷◌, Some, slice_get}
 use Rattle.schema_types.specs.declared.types.Column.{Column}
 use Rattle.schema_types.specs.declared.types.Schema.{Schema}
@@ -11,7 +11,7 @@ use Rattle.stats_reading.specs.declared.stages.Stage.TheVariants as stage
 use Rattle.stats_reading.specs.Drafts.{empty_draft, IsPlaceOf}
 use Rattle.stats_reading.specs.Left.{file_of_draft, section_of, CutsLeft, FrequentLeft, NodesLeft, WholeLeft}
 
--- what is known of the pair at hand
+-- the draft's `kind` and its two places are right for the current pair
 pub record IsKnown (table : Table) (s : Draft) : Type 0 where
   pub column : Column
   pub column_is : slice_get table.columns s.pair.filter ≡ Some column
@@ -19,13 +19,13 @@ pub record IsKnown (table : Table) (s : Draft) : Type 0 where
   pub same_filter_at : IsPlaceOf (λ q. q.filter) s.pair.filter s.section.pairs s.same_filter_at
   pub same_joined_at : IsPlaceOf (λ q. q.joined) s.pair.joined s.section.pairs s.same_joined_at
 
--- the table at hand keeps the rules
+-- the file with only the tables and pairs so far, the current table included, keeps the rules
 pub record IsValidTable (schema : Schema) (s : Draft) : Type 0 where
   pub table : Table
   pub exists : slice_get schema.tables s.section.table ≡ Some table
   pub keeps : KeepsRules schema (file_of_draft s (section_of s [] ∷ []))
 
--- some pair that begins as the one at hand keeps them too
+-- some pair that extends the current one keeps the rules in this table
 pub record IsValidPair (Left : Pair → List (List ℕ) → Type 0) (schema : Schema) (s : Draft) : Type 0 where
   pub table : Table
   pub exists : slice_get schema.tables s.section.table ≡ Some table

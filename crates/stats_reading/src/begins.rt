@@ -1,4 +1,4 @@
-//! Tables and pairs that begin.
+//! Lines that begin a table or a pair of columns.
 ghost use Rattle.std.specs.Prelude.{◌≡◌, ◌≢◌, ◌<◌, ◌≤◌, ◌↔◌, ℕ, List, length, slice_get, All, AllPairs, Some, IsTrue, MatchOption};
 ghost use Rattle.schema_types.specs.declared.types.Table.{Table as Declared};
 ghost use Rattle.schema_types.specs.Validity.{IsValid, IsValidTable};
@@ -49,7 +49,7 @@ fn stands_before(earlier: &Pair, filter: u32, joined: u32) -> bool
     earlier.filter < filter || (earlier.filter == filter && earlier.joined < joined)
 }
 
-// Whether a pair of these columns stands behind all pairs. The last one tells it, since pairs ascend.
+// Whether a pair of these columns comes after all pairs of `pairs`. As pairs ascend, comparing with the last pair is enough.
 fn is_later(pairs: &[Pair], filter: u32, joined: u32) -> bool
     requires { AllPairs StandsBefore pairs.now }
     ensures { IsTrue result ↔ All (λ q. StandsBefore q (empty_pair filter joined)) pairs.now }
@@ -70,7 +70,8 @@ fn is_later_table(tables: &[TableStats], place: u32) -> bool
     tables[tables.len() - 1].table < place
 }
 
-// Where a pair with this filter column stands. It is the last one, if there is one, since no pair has a later column.
+// The place of a pair with this filter column, or the length of `pairs` if there is none. As no pair has a later filter column, the last pair is the
+// only one to look at.
 fn place_of_filter(pairs: &[Pair], filter: u32) -> usize
     requires ascend { AllPairs StandsBefore pairs.now }
     requires none_later { All (λ q. q.filter ≤ filter) pairs.now }
@@ -104,7 +105,7 @@ fn begin_table(alloc: Global, draft: &mut Draft, place: u32, rows: u32)
     draft.section = new_section(alloc, place, rows);
 }
 
-/// Begins a table of the schema.
+/// Begins the table of the schema that `name` spells, with this number of rows.
 pub fn take_table(
     alloc: Global,
     schema: &Schema,
@@ -142,7 +143,7 @@ fn begin_pair(alloc: Global, table: &Table, draft: &mut Draft, filter: u32, join
     draft.pair = new_pair(alloc, filter, joined);
 }
 
-/// Begins a pair of columns of the table.
+/// Begins the pair of columns that the two words spell.
 pub fn take_pair(
     alloc: Global,
     table: &Table,

@@ -1,4 +1,4 @@
-//! Values and lists that are compared.
+//! Comparisons of values and of lists.
 ghost use Rattle.std.specs.Prelude.{◌≡◌, ◌<◌, ◌^◌, ◌↔◌, length, sum, IsTrue};
 ghost use Rattle.std.specs.Ordering.{nat_cmp};
 ghost use Rattle.std.specs.Cmp.Lexicographic.{slice_cmp};
@@ -21,7 +21,7 @@ fn compare_texts(a: &str, b: &str) -> Ordering
     compare_bytes(a.as_bytes(), b.as_bytes())
 }
 
-/// The order of values.
+/// The order of values: numbers come before texts.
 pub fn compare(a: &Datum, b: &Datum) -> Ordering
     ensures { result ≡ datum_cmp a.now b.now }
 {
@@ -69,7 +69,7 @@ fn is_text(value: &Datum, text: &str) -> bool
     }
 }
 
-/// Whether two values are the same.
+/// Whether two values are equal.
 pub fn same_value(a: &Datum, b: &Datum) -> bool
     ensures { IsTrue result ↔ (a.now ≡ b.now) }
 {
@@ -79,7 +79,7 @@ pub fn same_value(a: &Datum, b: &Datum) -> bool
     }
 }
 
-/// Whether two lists have one total.
+/// Whether two lists have the same sum.
 pub fn same_total(a: &Pieces, b: &Pieces) -> bool
     requires left { sum a.now < 2 ^ 64 }
     requires right { sum b.now < 2 ^ 64 }
@@ -114,7 +114,7 @@ fn same_pieces(a: &[Piece], b: &[Piece]) -> bool
     true
 }
 
-/// Whether two lists are the same.
+/// Whether two lists are equal.
 pub fn same_list(a: &Pieces, b: &Pieces) -> bool
     ensures { IsTrue result ↔ (a.now ≡ b.now) }
 {

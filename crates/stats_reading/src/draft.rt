@@ -1,4 +1,4 @@
-//! A file that grows line by line.
+//! The draft: the part of a statistics file that is read so far. It grows line by line.
 ghost use Rattle.std.specs.Prelude.{◌≡◌, [], zero};
 ghost use Rattle.stats_reading.specs.Drafts.{empty_draft, empty_pair, empty_section};
 
@@ -9,9 +9,9 @@ use schema_types::Kind;
 use stats_file::{Pair, TableStats};
 use std::alloc::Global;
 
-/// A file some of whose lines are read: the tables that are complete, the table at hand without the pair at hand, and
-/// this pair. Of the pair it is known of which kind its values are, and where pairs stand in the table that have its
-/// filter column and its joined column; if there is none, the place is behind all.
+/// The part of a file that is read so far: the complete tables, the table that is being read (without the pair that is being read), and this pair.
+/// Besides, `kind` is the kind of the values in the pair's filter column. `same_filter_at` and `same_joined_at` are the places of earlier pairs of the
+/// table that have the pair's filter column and its joined column. If there is no such pair, the place is the number of earlier pairs.
 #[derive(Debug, Drop)]
 pub struct Draft {
     pub stage: Stage,
@@ -51,7 +51,7 @@ pub fn new_section(alloc: Global, table: u32, rows: u32) -> TableStats
 }
 
 impl Draft {
-    /// Nothing is read.
+    /// A draft before the first line.
     pub fn new(alloc: Global) -> Draft
         ensures { result ≡ empty_draft }
     {

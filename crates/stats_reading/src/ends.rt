@@ -1,4 +1,4 @@
-//! Pairs and tables that are complete.
+//! Lines that end a pair or a table: what was read of it must be complete.
 ghost use Rattle.std.specs.Prelude.{◌≡◌, ◌↔◌, IsTrue, OnOk};
 ghost use Rattle.stats_reading.specs.Drafts.{pair_ended, table_ended, HasAllNodes};
 ghost use Rattle.stats_reading.specs.declared.draft.Draft.{Draft as State};
@@ -40,7 +40,7 @@ fn end_open_pair(alloc: Global, draft: &mut Draft) -> Result<(), Fault>
     Ok(())
 }
 
-/// The pair at hand is complete, if there is one.
+/// If a pair is being read, adds it to the table, or refuses the line if the pair isn't complete.
 pub fn end_pair(alloc: Global, draft: &mut Draft) -> Result<(), Fault>
     ensures { Ends (PairEnds draft.old.stage draft.old) draft.new result }
 {
@@ -58,7 +58,7 @@ fn end_open_table(alloc: Global, draft: &mut Draft) -> Result<(), Fault>
     Ok(())
 }
 
-/// The table at hand is complete, if there is one.
+/// If a table is being read, adds it to the file, or refuses the line if its last pair isn't complete.
 pub fn end_table(alloc: Global, draft: &mut Draft) -> Result<(), Fault>
     ensures { Ends (TableEnds draft.old.stage draft.old) draft.new result }
 {

@@ -1,15 +1,15 @@
-//! Why a line isn't taken.
+//! The faults for which a line is refused.
 ghost use Rattle.std.specs.Prelude.{◌≡◌};
 ghost use Rattle.stats_reading.specs.declared.fault.Fault.TheVariants as fault;
 
 use base_io::NoMemory;
 
-/// Why a line isn't taken.
+/// Why a line is refused.
 #[derive(Clone, Copy, Debug, PartialEq, Eq)]
 pub enum Fault {
-    /// No text of the grammar goes on so.
+    /// No text of the grammar begins with the lines up to this one.
     Syntax,
-    /// Some text of the grammar goes on so, but no file's text.
+    /// Some text of the grammar begins with the lines up to this one, but no text of a file that keeps the rules does.
     Rule,
     NoMemory,
 }

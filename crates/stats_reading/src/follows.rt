@@ -1,4 +1,4 @@
-//! Whether values may be next in a draft.
+//! Tests whether a value may come next in a draft.
 ghost use Rattle.std.specs.Prelude.{◌≡◌, ◌≢◌, ◌-◌, ◌<◌, ◌^◌, ◌↔◌, ℕ, length, sum, slice_get, All, None, Some, IsTrue, MatchOption};
 ghost use Rattle.std.specs.declared.cmp.Ordering.TheVariants.{Greater};
 ghost use Rattle.stats_file.specs.declared.types.Datum.{Datum as Value};
@@ -12,7 +12,7 @@ use piece_math::Pieces;
 use stats_file::{Datum, Pair};
 use std::cmp::Ordering;
 
-// The pair of the table at this place, if there is one.
+// The table's pair at this place, if there is one.
 fn pair_at(draft: &Draft, place: usize) -> Option<&Pair>
     ensures { MatchOption result (slice_get draft.now.section.pairs place ≡ None)
         (λ q. slice_get draft.now.section.pairs place ≡ Some q.now) }
@@ -33,7 +33,7 @@ fn is_whole_of_twin(draft: &Draft, list: &Pieces) -> bool
     }
 }
 
-/// Whether a list may be that of all rows.
+/// Whether `list` may be the list of all rows.
 pub fn whole_follows(draft: &Draft, list: &Pieces) -> bool
     requires { sum list.now < 2 ^ 64 }
     ensures { IsTrue result ↔ WholeFollows draft.now list.now }
@@ -41,7 +41,7 @@ pub fn whole_follows(draft: &Draft, list: &Pieces) -> bool
     list.total() == u128::from(draft.section.rows) && is_whole_of_twin(draft, list)
 }
 
-// Whether a value isn't frequent.
+// Whether `value` isn't among the frequent values so far.
 fn is_new(frequent: &[(Datum, Pieces)], value: &Datum) -> bool
     ensures { IsTrue result ↔ All (λ e. e.0 ≢ value.now) frequent.now }
 {
@@ -61,7 +61,7 @@ fn is_same_value(earlier: &(Datum, Pieces), value: &Datum, list: &Pieces) -> boo
     same_value(&earlier.0, value) && same_total(&earlier.1, list)
 }
 
-// Whether an earlier pair has this frequent value at this place, with a list of this total.
+// Whether `pair`, an earlier pair, has this frequent value at this place, with a list of the same sum.
 fn has_value(pair: &Pair, place: usize, value: &Datum, list: &Pieces) -> bool
     requires left { AreSmall pair.now }
     requires right { sum list.now < 2 ^ 64 }
@@ -85,7 +85,7 @@ fn is_alike_frequent(draft: &Draft, value: &Datum, list: &Pieces) -> bool
     }
 }
 
-/// Whether a value with its list may be the next frequent one.
+/// Whether a value with its list may be the next frequent value.
 pub fn frequent_follows(draft: &Draft, value: &Datum, list: &Pieces) -> bool
     requires small { All AreSmall draft.now.section.pairs }
     requires right { sum list.now < 2 ^ 64 }
@@ -104,7 +104,7 @@ fn has_rest(pair: &Pair, count: usize, list: &Pieces) -> bool
     pair.frequent.len() == count && same_total(&pair.rest, list)
 }
 
-/// Whether a list may be that of the other values.
+/// Whether a list may be the list of the other values (those that aren't frequent).
 pub fn rest_follows(draft: &Draft, list: &Pieces) -> bool
     requires small { All AreSmall draft.now.section.pairs }
     requires right { sum list.now < 2 ^ 64 }
@@ -116,7 +116,7 @@ pub fn rest_follows(draft: &Draft, list: &Pieces) -> bool
     }
 }
 
-// Whether a value isn't below the last cut.
+// Whether `value` isn't below the last cut.
 fn is_in_order(cuts: &[Datum], value: &Datum) -> bool
     ensures { IsTrue result
         ↔ ((last : Value) → slice_get cuts.now (length cuts.now - 1) ≡ Some last → datum_cmp last value.now ≢ Greater) }

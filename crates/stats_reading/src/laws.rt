@@ -1,4 +1,4 @@
-//! What holds of every file and its text.
+//! Laws of every file and its text.
 ghost use Rattle.std.specs.Prelude.{◌≡◌, ◌⊎◌, Result, Ok, Err};
 ghost use Rattle.schema_types.specs.declared.types.Schema.{Schema};
 ghost use Rattle.schema_types.specs.Validity.{IsValid};
@@ -10,14 +10,14 @@ ghost use Rattle.stats_file.specs.FileText.{file_text};
 ghost use Rattle.stats_file.specs.Rules.{KeepsRules};
 ghost use Rattle.stats_reading.specs.Names.{HasByteColumns};
 
-/// A text is that of at most one file.
+/// Two files with the same text are equal.
 pub fn a_text_spells_one_file()
     ensures { (schema : Schema) (a b : StatsFile) → IsValid schema → KeepsRules schema a → KeepsRules schema b
         → file_text schema a ≡ file_text schema b → a ≡ b }
 {}
 
-/// The text of a file is answered by that file, or by want of memory, and by no refusal. Of the schema it is asked beside
-/// that names of columns consist of bytes; the rest of names and values follows.
+/// If the text of a file is read, the answer is this file, or that memory is lacking; the text is never refused. The law asks that the schema's column
+/// names consist of bytes. By the rules, the other names and the values consist of bytes too.
 pub fn a_written_file_is_read()
     ensures { (schema : Schema) (file : StatsFile) (answer : Result StatsFile StatsError)
         → IsValid schema → HasByteColumns schema → KeepsRules schema file

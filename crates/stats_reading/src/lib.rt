@@ -1,7 +1,7 @@
 //! Texts of statistics files: from the bytes to the file that they spell, or the first line that is refused.
 //!
-//! In: a schema and the bytes of a file. Out: the one file whose text the bytes are; or the first line at which they stop being the text of any
-//! file, with the cause. Callers cite `LineAnswers` of stats_file (in `specs/LineAnswers.antt`).
+//! In: a schema and the bytes of a file. Out: the one file whose text the bytes are; or the first line at which they stop being the text of any file,
+//! with the cause. Callers cite `Answers` of stats_file (in `specs/Answers.antt`).
 //!
 //! ```text
 //! let file = read_stats(alloc, &schema, bytes)?;

@@ -1,11 +1,11 @@
-//! What a line is.
+//! The kinds of lines, and the words of a line.
 ghost use Rattle.std.specs.Prelude.{◌≡◌, ◌≢◌, ◌↔◌, ◌++◌, [], ℕ, List, true, false, Some, IsTrue, MatchOption};
 ghost use Rattle.stats_reading.specs.Kinds.{front, has_two, is_tested as tested, AreLineParts, CanBe, HasNoLineWords, IsFaultOf, IsNoLine, MayBeLineOf, MayStandBehind};
 
 use crate::fault::Fault;
 use stats_words::{is_hex_word, is_list_word, is_numeral, is_value_word, split_at_byte};
 
-/// What a line says, by its first word.
+/// The kind of a line, which its first word tells.
 #[derive(Clone, Copy, Debug, PartialEq, Eq)]
 pub enum LineKind {
     First,
@@ -19,7 +19,7 @@ pub enum LineKind {
     End,
 }
 
-/// A line without its end: its kind, and the words behind its front. Where there is one word, the second one is empty.
+/// A line without its line end: its kind, and the words after its fixed first part. If there is one word, `second` is empty.
 #[derive(Clone, Copy)]
 pub struct Line<'a> {
     pub kind: LineKind,
@@ -27,7 +27,7 @@ pub struct Line<'a> {
     pub second: &'a [u8],
 }
 
-/// The only kind that a line may have.
+/// The only kind that this line may be of, by its first byte.
 pub fn kind_of(line: &[u8]) -> Option<LineKind>
     ensures { CanBe line.now result }
 {
@@ -63,14 +63,14 @@ const NODE: &[u8] = b"node ";
 
 const END: &[u8] = b"end";
 
-// What stands behind the front of a line.
+// What comes after `front` in a line.
 fn behind<'a>(line: &'a [u8], front: &[u8]) -> Option<&'a [u8]>
     ensures { MatchOption result ((rest : List ℕ) → line.now ≢ front.now ++ rest) (λ rest. line.now ≡ front.now ++ rest.now) }
 {
     line.strip_prefix(front)
 }
 
-// What stands behind the front of a line of this kind.
+// What comes after the fixed first part that lines of this kind have.
 fn behind_front(kind: LineKind, line: &[u8]) -> Option<&[u8]>
     ensures { MatchOption result ((rest : List ℕ) → line.now ≢ front kind ++ rest) (λ rest. line.now ≡ front kind ++ rest.now) }
 {
@@ -87,7 +87,7 @@ fn behind_front(kind: LineKind, line: &[u8]) -> Option<&[u8]>
     }
 }
 
-// Whether a word is that of a line of this kind, which has one.
+// Whether `word` may be the word of a line of this kind. Lines of this kind have one word.
 fn is_part(kind: LineKind, word: &[u8]) -> bool
     requires { has_two kind ≡ false }
     ensures { IsTrue result ↔ AreLineParts kind word.now [] }
@@ -100,7 +100,7 @@ fn is_part(kind: LineKind, word: &[u8]) -> bool
     }
 }
 
-// Whether two words are those of a line of this kind, which has two.
+// Whether two words may be those of a line of this kind. Lines of this kind have two words.
 fn are_parts(kind: LineKind, first: &[u8], second: &[u8]) -> bool
     requires { has_two kind ≡ true }
     ensures { IsTrue result ↔ AreLineParts kind first.now second.now }
@@ -128,7 +128,7 @@ fn two(kind: LineKind, words: &[u8]) -> Option<(&[u8], &[u8])>
     }
 }
 
-// The words of a line of this kind, which stand behind its front.
+// The words of a line of this kind. `words` is the line after its fixed first part.
 fn words_of(kind: LineKind, words: &[u8]) -> Option<(&[u8], &[u8])>
     ensures { MatchOption result (HasNoLineWords kind words.now) (λ w. MayStandBehind kind words.now w.0.now w.1.now) }
 {
@@ -140,7 +140,7 @@ fn words_of(kind: LineKind, words: &[u8]) -> Option<(&[u8], &[u8])>
     }
 }
 
-/// The words of a line without its end, if it may be one of the grammar. They aren't tested.
+/// Splits a line without its line end into its words, if the line may be one of the grammar. The words themselves aren't tested.
 pub fn words_in(kind: LineKind, line: &[u8]) -> Option<(&[u8], &[u8])>
     requires { CanBe line.now (Some kind) }
     ensures { MatchOption result (IsNoLine line.now) (λ w. MayBeLineOf kind w.0.now w.1.now line.now) }
@@ -149,7 +149,7 @@ pub fn words_in(kind: LineKind, line: &[u8]) -> Option<(&[u8], &[u8])>
     words_of(kind, words)
 }
 
-// Whether these are the words of a line of this kind, which has one: the second is empty.
+// Whether `word` may be the word of a line of this kind and `second` is empty. Lines of this kind have one word.
 fn is_part_alone(kind: LineKind, word: &[u8], second: &[u8]) -> bool
     requires { has_two kind ≡ false }
     ensures { IsTrue result ↔ AreLineParts kind word.now second.now }
@@ -157,7 +157,7 @@ fn is_part_alone(kind: LineKind, word: &[u8], second: &[u8]) -> bool
     second.is_empty() && is_part(kind, word)
 }
 
-// Whether the words of a line are those of the grammar.
+// Whether the grammar allows the words of a line.
 fn are_words(line: Line) -> bool
     ensures { IsTrue result ↔ AreLineParts line.entry.kind line.entry.first.now line.entry.second.now }
 {
@@ -177,14 +177,15 @@ fn is_tested(kind: LineKind) -> bool
     )
 }
 
-/// Whether the words of a line are known to be of the grammar, where its kind is one whose words are tested.
+/// Whether the words of a line may be read without breaking the grammar: either lines of this kind aren't tested beforehand, or the grammar allows the
+/// words.
 pub fn may_be_read(line: Line) -> bool
     ensures { IsTrue result ↔ (tested line.entry.kind ≡ true → AreLineParts line.entry.kind line.entry.first.now line.entry.second.now) }
 {
     !is_tested(line.kind) || are_words(line)
 }
 
-/// The fault of a line whose words aren't taken, which may be words that the grammar doesn't have.
+/// The fault of a line whose words were refused. Words that the grammar doesn't allow are a fault of syntax, not of a rule.
 pub fn fault_of(line: Line, fault: Fault) -> Fault
     ensures { IsFaultOf line.entry.kind line.entry.first.now line.entry.second.now fault result }
 {

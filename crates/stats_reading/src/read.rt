@@ -1,4 +1,4 @@
-//! The file that bytes spell.
+//! Reads a statistics file from its bytes.
 ghost use Rattle.std.specs.Prelude.{◌≡◌, ◌≤◌, ◌↔◌, ◌++◌, [], codes, length, IsTrue};
 ghost use Rattle.limits.specs.Profile.{most_file};
 ghost use Rattle.schema_types.specs.Validity.{IsValid};
@@ -29,8 +29,8 @@ fn refusal(fault: Fault, line: u32) -> StatsError
     }
 }
 
-// Takes a line without its end. The words of lists and values are gone through once: only where they aren't taken, it is
-// asked whether the grammar has them. Kind and words come apart, since an `Option` of both is slow to copy.
+// Takes a line without its line end. The words of lists and values are gone through once: only if they are refused, they are tested against the
+// grammar. Kind and words are found by two calls, since an `Option` of both is slow to copy.
 fn take_line(alloc: Global, schema: &Schema, draft: &mut Draft, text: &[u8]) -> Result<(), Fault>
     requires schema { IsValid schema.now }
     requires valid { IsValidDraft draft.old.stage schema.now draft.old }
@@ -84,8 +84,8 @@ fn finish(draft: Draft) -> StatsFile
     StatsFile { accuracy, tables }
 }
 
-/// Reads the text of a file over a schema: the file, or the first line at which no text of the grammar (Syntax) or no
-/// file's text (Rule) goes on, counted from 1. A text that ends too early is Syntax at the line after its last one.
+/// Reads the text of a file over a schema. Out: the file, or the first line, counted from 1, that no text of the grammar can have here (Syntax), or no
+/// text of a file that keeps the rules (Rule). For a text that ends too early the answer is Syntax, at the line after its last line.
 pub fn read_stats(alloc: Global, schema: &Schema, bytes: &[u8]) -> Result<StatsFile, StatsError>
     requires schema { IsValid schema.now }
     requires length { length bytes.now ≤ most_file }

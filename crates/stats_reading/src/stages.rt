@@ -1,4 +1,4 @@
-//! Which lines may come next, as the grammar has it.
+//! Which kinds of lines the grammar allows next.
 ghost use Rattle.std.specs.Prelude.{◌≡◌};
 ghost use Rattle.stats_reading.specs.declared.stages.Stage.TheVariants as stages;
 ghost use Rattle.stats_reading.specs.Stages.{next_stage};
@@ -100,7 +100,7 @@ fn after_pair_line(kind: LineKind) -> Option<Stage>
     }
 }
 
-/// The stage behind a line of this kind, where the grammar knows one here.
+/// The stage after a line of this kind, if the grammar allows such a line at this stage.
 pub fn stage_after(stage: Stage, kind: LineKind) -> Option<Stage>
     ensures { result ≡ next_stage stage kind }
 {

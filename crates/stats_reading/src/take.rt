@@ -1,4 +1,4 @@
-//! A line that is taken into a draft.
+//! Takes one line into a draft.
 ghost use Rattle.std.specs.Prelude.{◌≡◌, ◌<◌, ◌++◌, ℕ, List, false, codes, length, OnOk};
 ghost use Rattle.schema_types.specs.Validity.{IsValid};
 ghost use Rattle.stats_reading.specs.declared.draft.Draft.{Draft as State};
@@ -18,7 +18,7 @@ use crate::takes::{take_accuracy, take_cut, take_frequent, take_node, take_rest,
 use schema_types::Schema;
 use std::alloc::Global;
 
-// The table at hand is complete, and another one begins.
+// Ends the table that is being read, and begins another table.
 fn take_table_line(
     alloc: Global,
     schema: &Schema,
@@ -36,7 +36,7 @@ fn take_table_line(
     }
 }
 
-// The pair at hand is complete, and another one begins.
+// Ends the pair that is being read, and begins another pair.
 fn take_pair_line(
     alloc: Global,
     schema: &Schema,
@@ -58,7 +58,7 @@ fn take_pair_line(
     }
 }
 
-// The words of a line whose kind may come here.
+// Reads the words of a line whose kind may come next.
 fn take_words(alloc: Global, schema: &Schema, draft: &mut Draft, line: Line) -> Result<(), Fault>
     requires schema { IsValid schema.now }
     requires ready { IsReady line.kind schema.now draft.old }
@@ -77,8 +77,8 @@ fn take_words(alloc: Global, schema: &Schema, draft: &mut Draft, line: Line) -> 
     }
 }
 
-/// Takes a line, if one of its kind may come here and its words may. It is answered as a line of the grammar; where its
-/// words aren't tested before, they are of the grammar if they are taken.
+/// Takes a line, if its kind and its words may come next. The answer is that of a line of the grammar. If the words of this kind of lines aren't
+/// tested beforehand, taking them shows that the grammar allows them.
 pub fn take(alloc: Global, schema: &Schema, draft: &mut Draft, line: Line) -> Result<(), Fault>
     requires schema { IsValid schema.now }
     requires valid { IsValidDraft draft.old.stage schema.now draft.old }

@@ -1,4 +1,4 @@
-//! Words that are read into a draft.
+//! Reads the words of a line into a draft.
 ghost use Rattle.std.specs.Prelude.{◌≡◌, [], All, length, ◌∷◌};
 ghost use Rattle.schema_types.specs.declared.types.Schema.{Schema as Tables};
 ghost use Rattle.stats_reading.specs.Drafts.{frequent_words, list_word, number_word, value_word, with_cut, with_frequent, with_node, with_rest, with_whole, AreSmall, MayBeAccuracy, MayBeCut, MayBeFrequent, MayBeNode, MayBeRest, MayBeWhole, Takes};
@@ -60,7 +60,7 @@ pub fn take_frequent(
     Ok(())
 }
 
-/// Reads the list of the other values.
+/// Reads the list of the other values (those that aren't frequent).
 pub fn take_rest(alloc: Global, draft: &mut Draft, word: &[u8]) -> Result<(), Fault>
     requires { All AreSmall draft.old.section.pairs }
     ensures { Takes list_word (MayBeRest draft.old) (λ l. draft.new ≡ with_rest draft.old l) (word.now, []) result }

@@ -1,4 +1,4 @@
-//! What one text is answered.
+//! The answer to one text.
 ghost use Rattle.stats_file.specs.Rules.{KeepsRules};
 
 use base_io::{MemSink, Seq};
@@ -8,7 +8,8 @@ use stats_file::{StatsError, StatsFile, write_stats};
 use stats_reading::read_stats;
 use std::alloc::Global;
 
-/// What a text over a schema is answered.
+/// The answer to a text over a schema: the text is read, and either written again as the same bytes or as others (`Changed`); or it is refused at a
+/// line.
 #[derive(Clone, Copy, Debug)]
 pub enum Verdict {
     Read,
@@ -18,7 +19,7 @@ pub enum Verdict {
     Other,
 }
 
-// Whether a file is written as these bytes.
+// Whether `file`, written as a text, gives `bytes`.
 fn is_written(alloc: Global, file: &StatsFile, schema: &Schema, bytes: &[u8]) -> bool
     requires { KeepsRules schema.now file.now }
 {
@@ -28,7 +29,7 @@ fn is_written(alloc: Global, file: &StatsFile, schema: &Schema, bytes: &[u8]) ->
     write_stats(file, schema, &mut sink).is_ok() && sink.written() == bytes
 }
 
-/// The answer to a text over a schema, or `Other` if there is none.
+/// The answer to a text over a schema. It is `Other` if a text is too long, the schema can't be read or memory is lacking.
 pub fn answer(alloc: Global, schema: &str, bytes: &[u8]) -> Verdict {
     if bytes.len() > MOST_FILE as usize || schema.len() > MOST_TEXT as usize {
         return Verdict::Other;

@@ -1,8 +1,9 @@
-//! What files of statistics are answered: texts come from standard input, and a line goes out for each.
+//! Tells how statistics files are answered: texts come from standard input, and one line is written for each text.
 //!
-//! A line of input is a word and, behind a space, a text in which each bar stands for a line end. `schema` has the schema of the texts below it,
-//! `head` what they begin with, `more N` what follows that N times; `text` has the rest of one, which is read and answered: `Read` where
-//! the file that was read is written as the same bytes again, else `Changed`, or what it is refused for with the number of its line.
+//! A line of input is a word, a space and a text in which each `|` stands for a line end. After `schema` comes the schema for the texts that follow.
+//! After `head` comes what these texts begin with, and `more N` appends its text N times to this head. After `text` comes the rest of one text, which
+//! is then read and answered. The answer is `Read` if the file that was read is written as the same bytes again, and `Changed` if it is written as
+//! others. If the text is refused, the answer is the cause with the number of the line.
 #![tactic(auto)]
 
 mod answering;
@@ -11,7 +12,7 @@ use answering::answer;
 use std::alloc::AllocError;
 use std::io;
 
-// The schema and the head of the texts that follow.
+// The schema of the texts that follow, and what these texts begin with.
 #[derive(Drop)]
 struct Asked {
     schema: String,
@@ -29,7 +30,7 @@ fn push_text(out: &mut String, text: &str) -> Result<(), AllocError> {
     Ok(())
 }
 
-// A number, and behind a space a text that is added so many times.
+// Appends a text several times. `counted` is the number of times, a space and the text.
 fn push_times(out: &mut String, counted: &str) -> io::Result<()> {
     let Some((count, text)) = counted.split_once(' ') else {
         return Err(invalid_data());

@@ -1,4 +1,4 @@
--- Pairs of hexadecimal digits.
+-- The lemmas are about words of hexadecimal digits, in which each byte has a pair of digits.
 use Rattle.std.proofs.Common.{[], ◌≡◌, ℕ, zero, suc, ◌+◌, ◌*◌, ◌/◌, ◌%◌, ◌<◌, Bool, true, false, ◌&&◌, ◌==◌, List, ◌∷◌, length, get_or, refl, ap, sym, ◌∙◌, arith}
 use Rattle.std.proofs.lemmas.Bool.{eqb-true}
 use Rattle.std.specs.List.{flat_map, list_all}
@@ -19,7 +19,6 @@ shuffled false false b all = refl
 two_more : (n : ℕ) → (suc (suc n) % 2 == 0) ≡ (n % 2 == 0)
 two_more n = let e : suc (suc n) % 2 ≡ n % 2 = omega arith in ap (λ m. m == 0) e
 
--- pairs of digits are an even number of digits
 pub pairs_test : (ds : List ℕ) → (length ds % 2 == 0 && list_all is_hex_digit ds) ≡ are_hex_pairs ds
 pairs_test [] = refl
 pairs_test (a ∷ []) = refl
@@ -61,7 +60,6 @@ is_even ds are =
 abbrev pub PairsAre : List ℕ → List ℕ → ℕ → Type 0
 PairsAre ds bytes n = (k : ℕ) → k < n → (get_or ds (2 * k) 0 ≡ hex_digit (get_or bytes k 0 / 16)) × (get_or ds (2 * k + 1) 0 ≡ hex_digit (get_or bytes k 0 % 16))
 
--- digits that are the pairs of bytes, place by place
 pub same_pairs : (ds bytes : List ℕ) → length ds ≡ 2 * length bytes → PairsAre ds bytes (length bytes) → ds ≡ flat_map hex_byte bytes
 same_pairs [] [] len are = refl
 same_pairs (a ∷ ds) [] len are = absurd (omega arith)

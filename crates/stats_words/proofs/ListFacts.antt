@@ -1,4 +1,4 @@
--- A list that is read run by run.
+-- A list is read run by run. A run is a value and a count, for equal neighbours.
 use Rattle.std.proofs.Common.{[], ◌≡◌, ◌≢◌, ℕ, zero, suc, ◌+◌, ◌*◌, ◌-◌, ◌^◌, ◌<◌, ◌≤◌, List, ◌∷◌, ◌++◌, replicate, length, length-append, refl, ap, sym, subst, ◌∙◌, arith, append_assoc, append-nil, None, Some}
 use Rattle.std.specs.Prelude.{All, codes, sum}
 use Rattle.std.specs.List.{AllByRecursion, flat_map}
@@ -19,7 +19,7 @@ use Rattle.stats_words.specs.Words.{Spells}
 use Rattle.stats_words.proofs.RunTexts.{at_least_both, ended, expanded_runs, no_blank_in, runs_fall, small_runs, stripped, Stripped, sum_of_runs, texts_joined}
 use Rattle.stats_words.proofs.SplitFacts.{not_without, split_same}
 
--- the value of the last run, or what stands before them
+-- b is the value before the first run
 abbrev pub lowest : ℕ → List Piece → ℕ
 lowest b [] = b
 lowest b (r ∷ rs) = lowest r.value rs
@@ -49,7 +49,8 @@ elements_above a (r ∷ rs) all = front r.count (elements_above a rs all.1)
     front zero rest = rest
     front (suc n) rest = (omega (arith, all.0), front n rest)
 
--- so much of a word is read, and this list of runs is made of it
+-- this is the state of the loop: `word` is the text of `runs`, each with a blank after it, and then `rest`; `list` is the list of these runs. The next value
+-- must be below `below`, and the remaining elements sum to at most `left`
 pub record Listed (rows : ℕ) (word rest list : List ℕ) (below left : ℕ) : Type 0 where
   pub runs : List Piece
   pub front : word ≡ flat_map ended runs ++ rest
@@ -60,7 +61,6 @@ pub record Listed (rows : ℕ) (word rest list : List ℕ) (below left : ℕ) : 
   pub total : sum list + left ≡ rows
   pub few : length list + left ≤ rows
 
--- the next run may be appended
 pub may_push : (rows : ℕ) (word rest list : List ℕ) (below left : ℕ) (run : Piece) → Listed rows word rest list below left → RunMayFollow below left run → All (λ x. run.value ≤ x) list
 may_push rows word rest list below left run h may =
     subst (λ (l : List ℕ). All (λ x. run.value ≤ x) l) (sym h.list_is)
@@ -87,7 +87,6 @@ pushed rows word rest list new below left run h may is =
       total = ap sum same ∙ sum-expanded-push h.runs run;
     }
 
--- one more run is read, and a blank behind it
 pub listed_more : (rows : ℕ) (word rest first others list new : List ℕ) (below left : ℕ) (run : Piece) → Listed rows word rest list below left → IsSplitAt 32 rest first others
     → Spells run_text (RunMayFollow below left) first (Some run) → new ≡ list ++ replicate run.count run.value → Listed rows word others new run.value (left - run.count * run.value)
 listed_more rows word rest first others list new below left run h split (may, text) is =
@@ -108,7 +107,6 @@ listed_more rows word rest first others list new below left run h split (may, te
       few = omega (arith, len, length-replicate run.count run.value, both.1, h.few);
     }
 
--- the last run is read
 pub listed_last : (rows : ℕ) (word rest list new : List ℕ) (below left : ℕ) (run : Piece) → rows < 2 ^ 32 → Listed rows word rest list below left
     → Spells run_text (RunMayFollow below left) rest (Some run) → new ≡ list ++ replicate run.count run.value → Spells list_text (IsList rows) word (Some new)
 listed_last rows word rest list new below left run fits h (may, text) is =
@@ -127,7 +125,6 @@ listed_last rows word rest list new below left run fits h (may, text) is =
       ap runs_text runs_are ∙ sym (texts_joined h.runs run) ∙ ap (λ (w : List ℕ). flat_map ended h.runs ++ w) text ∙ sym h.front,
     )
 
--- what the runs of another list with this text would be
 others_text : (rows : ℕ) (word rest list : List ℕ) (below left : ℕ) → rows < 2 ^ 32 → word ≢ codes "-" → (h : Listed rows word rest list below left)
     → (l : List ℕ) → IsList rows l → list_text l ≡ word → Stripped h.runs (runs_of l) rest
 others_text rows word rest list below left fits dash h l is e =
@@ -149,7 +146,6 @@ runs_at : (rs : List Piece) (m : Piece) (ms : List Piece) → AreRuns (rs ++ (m 
 runs_at [] m ms runs = runs
 runs_at (r ∷ rs) m ms runs = runs_at rs m ms runs.2
 
--- such another run may follow
 may_be_next : (rows : ℕ) (word rest list : List ℕ) (below left : ℕ) (h : Listed rows word rest list below left) (l : List ℕ) → IsList rows l
     → (s : Stripped h.runs (runs_of l) rest) → RunMayFollow below left s.run
 may_be_next rows word rest list below left h l is s =
@@ -167,7 +163,6 @@ may_be_next rows word rest list below left h l is s =
       within = omega (arith, h.total, ap sum h.list_is);
     }
 
--- where the next run is none that may follow, no list has this text
 pub listed_none : (rows : ℕ) (word rest first others list : List ℕ) (below left : ℕ) → rows < 2 ^ 32 → word ≢ codes "-" → Listed rows word rest list below left
     → IsSplitAt 32 rest first others → Spells run_text (RunMayFollow below left) first None → Spells list_text (IsList rows) word None
 listed_none rows word rest first others list below left fits dash h split no' l is e =
@@ -195,7 +190,6 @@ listed_none_last rows word rest list below left fits dash h none no' l is e =
     first_run m [] text may = no' m may (sym (append-nil (run_text m)) ∙ text)
     first_run m (n ∷ ms) text may = not_without 32 (run_text m) (runs_text (n ∷ ms)) (subst (λ (w : List ℕ). Without 32 w) (sym text) none)
 
--- a dash spells the list of nothing
 pub no_runs : (rows : ℕ) (word list : List ℕ) → list ≡ [] → word ≡ codes "-" → Spells list_text (IsList rows) word (Some list)
 unfolding runs_of
 no_runs rows word list none is =

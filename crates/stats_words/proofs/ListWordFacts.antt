@@ -1,4 +1,4 @@
--- Runs with blanks between them.
+-- A word may be one run (a value, a star and a count), or runs with blanks between them. The lemmas say when it is.
 use Rattle.std.proofs.Common.{[], ◌≡◌, ℕ, zero, suc, ◌<◌, ◌↔◌, List, ◌∷◌, ◌++◌, ap, sym, subst, ◌∙◌, arith, append-nil}
 use Rattle.std.specs.Prelude.{codes}
 use Rattle.std.specs.List.{AllByRecursion, flat_map}
@@ -14,18 +14,16 @@ one_star : Without 32 (42 ∷ [])
 one_star zero d lt = λ e. omega (arith, e)
 one_star (suc k) d lt = absurd (omega arith)
 
--- a run has no blank
 pub run_without : (word : List ℕ) → IsRunWord word → Without 32 word
 run_without word is =
     subst (λ (w : List ℕ). Without 32 w) (sym is.whole)
     (both_without 32 is.value (42 ∷ is.count) (numeral_without 32 (omega arith) is.value is.value_is)
     (both_without 32 (42 ∷ []) is.count one_star (numeral_without 32 (omega arith) is.count is.count_is)))
 
--- a word without a star is no run
+-- 42 is the byte of the star
 pub no_star : (word : List ℕ) → Without 42 word → IsRunWord word → ⊥
 no_star word none is = not_without 42 is.value is.count (subst (λ (w : List ℕ). Without 42 w) is.whole none)
 
--- a word with a star is a run exactly where numerals stand around it
 pub run_is : (word value count : List ℕ) → IsSplitAt 42 word value count → IsRunWord word ↔ (IsNumeral value × IsNumeral count)
 run_is word value count split = (to, from)
   where
@@ -50,7 +48,7 @@ run_first rest run others first (o ∷ os) split first_is more_are whole =
       record { first = o; others = os; first_is = more_are.0; others_are = more_are.1; whole = sym same.1 },
     )
 
--- runs with a blank among them are a first run, and then further ones
+-- 32 is the byte of the blank
 pub run_more : (rest run others : List ℕ) → IsSplitAt 32 rest run others → AreRunWords rest ↔ (IsRunWord run × AreRunWords others)
 run_more rest run others split = (to, from)
   where
@@ -70,7 +68,6 @@ lone : (rest first : List ℕ) (more : List (List ℕ)) → Without 32 rest → 
 lone rest first [] none first_is whole = subst (λ (w : List ℕ). IsRunWord w) (sym (append-nil first) ∙ sym whole) first_is
 lone rest first (o ∷ os) none first_is whole = absurd (not_without 32 first (o ++ flat_map next os) (subst (λ (w : List ℕ). Without 32 w) whole none))
 
--- runs without a blank are one run
 pub last_run : (rest : List ℕ) → Without 32 rest → AreRunWords rest ↔ IsRunWord rest
 last_run rest none = (
   λ are. lone rest are.first are.others none are.first_is are.whole,

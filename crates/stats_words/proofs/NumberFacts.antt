@@ -1,4 +1,4 @@
--- Numerals and their values.
+-- A numeral spells a number. The lemmas are for the code that reads numbers from words.
 use Rattle.std.proofs.Common.{[], ◌≡◌, ◌≢◌, ℕ, suc, ◌+◌, ◌*◌, ◌-◌, ◌^◌, ◌<◌, ◌≤◌, true, false, ◌||◌, ◌&&◌, ◌==◌, List, ◌∷◌, length, get_or, drop, refl, ap, sym, subst, ◌∙◌, arith, Bool, Option, None, Some}
 use Rattle.std.specs.Prelude.{ℤ, pos, negsuc, decimal, FitsSigned, nat_lt}
 use Rattle.std.specs.Char.{digit_value, is_ascii_digit}
@@ -21,25 +21,22 @@ pub at_least : (n : ℕ) (ds : List ℕ) → n ≤ digits_value_after 10 n ds
 at_least n [] = omega arith
 at_least n (c ∷ cs) = let h = at_least (n * 10 + digit_value c) cs in omega arith
 
--- a digit's value
 digit_is : (c : ℕ) → is_ascii_digit c ≡ true → digit_value c ≡ c - 48
 digit_is c is =
     let range = digit_at (c ∷ []) 0 (own.to (c ∷ []) (rw is refl)) (omega arith) in
     omega (arith, digit_value_digit c range)
 
--- one more digit is read
 pub next_value : (ds : List ℕ) (i v : ℕ) → i < length ds → is_ascii_digit (get_or ds i 0) ≡ true
     → digits_value_after 10 v (drop i ds) ≡ digits_value_after 10 (10 * v + (get_or ds i 0 - 48)) (drop (i + 1) ds)
 next_value ds i v lt is =
     let e : v * 10 + digit_value (get_or ds i 0) ≡ 10 * v + (get_or ds i 0 - 48) = omega (arith, digit_is (get_or ds i 0) is) in
     at_drop_more (digits_value_after 10 v) ds i 0 lt ∙ ap (λ n. digits_value_after 10 n (drop (i + 1) ds)) e
 
--- a value so far, the byte at i, and those behind it
+-- this is the state of the loop: v is the value of the digits before place i, and all of these are digits
 pub record Reads (ds : List ℕ) (i v : ℕ) : Type 0 where
   pub value : digits_value_after 10 v (drop i ds) ≡ digits_value 10 ds
   pub digits : list_all is_ascii_digit (drop i ds) ≡ list_all is_ascii_digit ds
 
--- a byte that is no digit, or a value that is too large: so it is with the whole
 pub read_none : (ds : List ℕ) (i v most : ℕ) → i < length ds
     → ((is_ascii_digit (get_or ds i 0) ≡ true) × (10 * v + (get_or ds i 0 - 48) ≤ most) → ⊥) → Reads ds i v
     → (list_all is_ascii_digit ds ≡ true) × (digits_value 10 ds ≤ most) → ⊥
@@ -51,7 +48,6 @@ read_none ds i v most lt stops h (all, le) =
     let whole = next_value ds i v lt is in
     stops (is, omega (arith, more, whole, h.value))
 
--- a numeral has digits alone, at least one, and a zero in front only where nothing follows it
 parts_of : (d : ℕ) (ds : List ℕ) → is_numeral (d ∷ ds) ≡ true
     → (is_ascii_digit d ≡ true) × (list_all is_ascii_digit ds ≡ true) × ((nat_lt 48 d || (length ds == 0)) ≡ true)
 parts_of d ds is =
@@ -74,7 +70,6 @@ lone_zero : (word : List ℕ) → is_numeral word ≡ true → get_or word 0 0 �
 lone_zero [] is first = absurd (cc)
 lone_zero (d ∷ ds) is first = no_front d (length ds) (parts_of d ds is).2 first
 
--- what is read of a numeral's digits is the number that the numeral spells
 pub spelled : (word : List ℕ) (most : ℕ) (r : Option ℕ) → most < 2 ^ 64 → is_numeral word ≡ true → SomeIff r (digits_value 10 word ≤ most) (digits_value 10 word)
     → Spells decimal (λ n. n ≤ most) word r
 spelled word most None small is not_so = λ n le e.
@@ -85,13 +80,12 @@ spelled word most (Some n) small is (le, at') =
     let lt : digits_value 10 word < 2 ^ 64 = omega arith in
     (omega arith, ap decimal at' ∙ decimal-digits_value own word (are_digits word is) (some_digit word is) (lone_zero word is) lt)
 
--- a word that is no numeral spells no number
 pub not_spelled : (word : List ℕ) (most : ℕ) → most < 2 ^ 64 → is_numeral word ≡ false → (n : ℕ) → n ≤ most → decimal n ≢ word
 not_spelled word most small not_so n le e =
     let is : is_numeral word ≡ true = subst (λ (w : List ℕ). is_numeral w ≡ true) e (numeral n (omega arith)) in
     absurd (cc)
 
--- what is read of a word that may be a numeral
+-- `lead` says whether the word has a digit that may come first
 pub number_read : (word : List ℕ) (most : ℕ) (lead : Bool) (r : Option ℕ) → most < 2 ^ 64 → is_numeral word ≡ (list_all is_ascii_digit word && lead) → lead ≡ true
     → SomeIff r ((list_all is_ascii_digit word ≡ true) × (digits_value 10 word ≤ most)) (digits_value 10 word) → Spells decimal (λ n. n ≤ most) word r
 number_read word most lead None small whole leads stops = λ n le e.
@@ -113,7 +107,7 @@ no_dash n rest small e =
 behind : (a b : List ℕ) → 45 ∷ a ≡ 45 ∷ b → a ≡ b
 behind a b e = cc
 
--- behind a dash: no number, zero, or another one
+-- ---- a number after a dash: the digits may spell no number, zero, or another number
 pub negative_none : (digits : List ℕ) → Spells decimal (λ n. n ≤ 2 ^ 63) digits None → Spells signed_decimal (FitsSigned w64) (45 ∷ digits) None
 negative_none digits h = none
   where

@@ -1,4 +1,4 @@
--- The texts of runs, and the runs of a list.
+-- A run (a value and a count) has a text, and a list has runs. The text of a list of runs determines these runs.
 use Rattle.std.proofs.Common.{[], ◌≡◌, ◌≢◌, ℕ, zero, suc, ◌+◌, ◌*◌, ◌-◌, ◌^◌, ◌<◌, ◌≤◌, ◌==◌, true, false, List, ◌∷◌, ◌++◌, replicate, length, get_or, refl, ap, sym, subst, ◌∙◌, arith, append_assoc, append-nil, if◌then◌else◌, None, Some}
 use Rattle.std.specs.Prelude.{All, codes, decimal, sum}
 use Rattle.std.specs.List.{AllByRecursion, flat_map}
@@ -19,7 +19,6 @@ use Rattle.stats_words.specs.Words.{Spells}
 use Rattle.stats_words.proofs.ListWordFacts.{numeral_without, run_without}
 use Rattle.stats_words.proofs.SplitFacts.{not_without, split_same}
 
--- a run of small numbers
 abbrev pub IsSmall : ℕ → Piece → Type 0
 IsSmall most run = (run.value ≤ most) × (run.count ≤ most)
 
@@ -105,11 +104,10 @@ some_run below left value count v c hv hc may word split = (
   ap (λ (x : List ℕ). x ++ (42 ∷ decimal c)) hv.1 ∙ ap (λ (x : List ℕ). value ++ (42 ∷ x)) hc.1 ∙ sym split.whole,
 )
 
--- a word without a star spells no run
 pub starless : (below left : ℕ) (word : List ℕ) → Without 42 word → Spells run_text (RunMayFollow below left) word None
 starless below left word none run may e = not_without 42 (decimal run.value) (decimal run.count) (subst (λ (w : List ℕ). Without 42 w) (sym e) none)
 
--- runs that are followed by others
+-- a blank stands after a run that another run follows
 abbrev pub ended : Piece → List ℕ
 ended run = run_text run ++ codes " "
 
@@ -132,7 +130,6 @@ pub record Stripped (runs all : List Piece) (rest : List ℕ) : Type 0 where
   pub whole : all ≡ runs ++ (run ∷ more)
   pub text : runs_text (run ∷ more) ≡ rest
 
--- a text that begins with these runs is that of these runs and of further ones
 pub stripped : (most : ℕ) (runs all : List Piece) (rest : List ℕ) → most < 2 ^ 64 → AllByRecursion (IsSmall most) runs → AllByRecursion (IsSmall most) all → 0 < length all
     → runs_text all ≡ flat_map ended runs ++ rest → Stripped runs all rest
 stripped most runs [] rest fits small all_small some e = absurd (omega arith)

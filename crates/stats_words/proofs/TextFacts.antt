@@ -1,4 +1,4 @@
--- Texts as values.
+-- A word spells a text by the hexadecimal digits of the text's bytes.
 use Rattle.std.proofs.Common.{[], ◌≡◌, ◌≢◌, ℕ, ◌+◌, ◌/◌, ◌%◌, ◌<◌, ltb, Bool, true, false, cond, inl, inr, List, ◌∷◌, ◌++◌, get_or, drop, refl, ap, sym, subst, ◌∙◌, arith, None, Some, Option}
 use Rattle.std.specs.Prelude.{FitsSigned, IsUtf8, MatchOption}
 use Rattle.std.specs.Fmt.{signed_decimal}
@@ -54,7 +54,6 @@ same_byte a b high low =
     let back : a % 16 ≡ b % 16 = same_digit (a % 16) (b % 16) low in
     omega arith
 
--- different bytes have different digits
 pub same_bytes : (a b : List ℕ) → flat_map hex_byte a ≡ flat_map hex_byte b → a ≡ b
 same_bytes [] [] e = refl
 same_bytes [] (y ∷ b) e = absurd (cc)
@@ -70,7 +69,6 @@ same_bytes (x ∷ a) (y ∷ b) e =
 pub same_hex : (a b : List ℕ) → hex_text a ≡ hex_text b → a ≡ b
 same_hex a b e = same_bytes a b (ap (λ (w : List ℕ). drop 1 w) e)
 
--- a word that isn't hexadecimal spells no text
 pub no_hex : (most : ℕ) (word : List ℕ) → (IsHexWord word → ⊥) → Spells datum_text (IsOfKind (kinds.Text most)) word None
 no_hex most word other = none
   where
@@ -78,7 +76,6 @@ no_hex most word other = none
     none (datums.Int n) never e = never
     none (datums.Text bytes) utf8 e = other (subst (λ (w : List ℕ). IsHexWord w) e (hex_word bytes (utf8_bytes bytes utf8)))
 
--- what bytes are as a text is what their word spells
 pub text_spelled : (most : ℕ) (word bytes : List ℕ) (r : Option Datum) → hex_text bytes ≡ word
     → MatchOption r (IsUtf8 bytes → ⊥) (λ d. IsUtf8 bytes × (d ≡ datums.Text bytes)) → Spells datum_text (IsOfKind (kinds.Text most)) word r
 text_spelled most word bytes None is other = none

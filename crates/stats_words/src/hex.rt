@@ -1,4 +1,4 @@
-//! Names and texts, in hexadecimal digits.
+//! Names and texts as words of hexadecimal digits.
 ghost use Rattle.std.specs.Prelude.{◌≡◌, ◌*◌, ◌/◌, ◌%◌, ◌<◌, ◌↔◌, ◌∷◌, [], true, IfOk, IsTrue};
 ghost use Rattle.std.specs.List.{flat_map, list_all};
 ghost use Rattle.stats_file.specs.Grammar.{are_hex_pairs, is_hex_digit as hex_test, IsHexWord};
@@ -28,7 +28,7 @@ fn are_pairs(digits: &[u8]) -> bool
     are_hex_digits(digits)
 }
 
-/// Whether a word is x and pairs of hexadecimal digits in lower case.
+/// Whether a word is the letter x and then pairs of hexadecimal digits in lower case.
 pub fn is_hex_word(word: &[u8]) -> bool
     ensures { IsTrue result ↔ IsHexWord word.now }
 {
@@ -45,7 +45,7 @@ fn hex_digit(n: u8) -> u8
     if n < 10 { b'0' + n } else { b'a' - 10 + n }
 }
 
-// Whether so many digits are two for each of so many bytes.
+// Whether `digits` is twice `bytes`.
 fn are_twice(digits: usize, bytes: usize) -> bool
     ensures { IsTrue result ↔ (digits ≡ 2 * bytes) }
 {
@@ -72,7 +72,7 @@ fn are_pairs_of(digits: &[u8], bytes: &[u8]) -> bool
     true
 }
 
-/// Whether a word is that of these bytes.
+/// Whether a word spells these bytes.
 pub fn is_hex_of(word: &[u8], bytes: &[u8]) -> bool
     ensures { IsTrue result ↔ (word.now ≡ hex_text bytes.now) }
 {

@@ -1,6 +1,6 @@
 //! The words of a statistics file, one by one: which of them the grammar knows, and which values they spell.
 //!
-//! In: a word without the blanks around it. Out: whether the grammar has such a word, or the one value that it spells.
+//! In: a word, without the blanks before and after it. Out: whether the grammar has such a word, or the one value that the word spells.
 //!
 //! Callers cite `Spells` (in `specs/Words.antt`) and the words of stats_file's `specs/Grammar.antt`.
 //!

@@ -1,4 +1,4 @@
-//! Lists of degrees, as runs of equal numbers.
+//! Degree lists, written as runs of equal numbers.
 ghost use Rattle.std.specs.Prelude.{◌≡◌, ◌≢◌, ◌*◌, ◌^◌, ◌<◌, ◌≤◌, ◌↔◌, ℕ, List, IfOk, IsTrue, codes};
 ghost use Rattle.stats_file.specs.Grammar.{AreRunWords, IsListWord, IsNumeral, IsRunWord};
 ghost use Rattle.stats_file.specs.Lines.{run_text};
@@ -57,7 +57,7 @@ pub fn is_list_word(word: &[u8]) -> bool
     are_run_words(word)
 }
 
-// Whether a run may follow a run of this value, where so much is left.
+// Whether a run may follow in a list. `below` is the value of the run before it, and the run's sum is at most `left`.
 fn may_follow(value: u64, count: u64, below: u64, left: u64) -> bool
     requires small { value < 2 ^ 32 }
     requires few { count < 2 ^ 32 }
@@ -66,7 +66,7 @@ fn may_follow(value: u64, count: u64, below: u64, left: u64) -> bool
     value > 0 && count > 0 && value < below && count * value <= left
 }
 
-// The run of a value and a count, where it may follow a run of this value and so much is left.
+// The run with this value and count, if it may follow: its value is below `below`, and its sum is at most `left`.
 fn run_of_words(value: &[u8], count: &[u8], below: u64, left: u64) -> Option<Piece>
     requires { left < 2 ^ 32 }
     ensures { (word : List ℕ) → IsSplitAt 42 word value.now count.now → Spells run_text (RunMayFollow below left) word result }
@@ -81,7 +81,7 @@ fn run_of_words(value: &[u8], count: &[u8], below: u64, left: u64) -> Option<Pie
     }
 }
 
-// The run that a word spells, where it may follow a run of this value and so much is left.
+// The run that a word spells, if it may follow: its value is below `below`, and its sum is at most `left`.
 fn next_run(word: &[u8], below: u64, left: u64) -> Option<Piece>
     requires { left < 2 ^ 32 }
     ensures { Spells run_text (RunMayFollow below left) word.now result }
@@ -115,7 +115,7 @@ fn runs(alloc: Global, word: &[u8], rows: u32) -> Result<Option<Pieces>, NoMemor
     Ok(Some(list))
 }
 
-/// The list of degrees of at most so many rows that a word spells.
+/// The degree list with a sum of at most `rows` that a word spells.
 pub fn list(alloc: Global, word: &[u8], rows: u32) -> Result<Option<Pieces>, NoMemory>
     ensures { IfOk result (λ list. Spells list_text (IsList rows) word.now list) }
 {

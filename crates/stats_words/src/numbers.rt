@@ -1,4 +1,4 @@
-//! Numbers, with a sign and without.
+//! Words that are numbers, with a sign or without.
 ghost use Rattle.std.specs.Prelude.{◌≡◌, ◌≢◌, ◌+◌, ◌*◌, ◌-◌, ◌<◌, ◌≤◌, ◌&&◌, ◌||◌, ◌==◌, ◌↔◌, ◌∷◌, nat_lt, true, length, codes, decimal, slice_index, FitsSigned, IsTrue};
 ghost use Rattle.std.specs.Char.{is_ascii_digit as digit_test};
 ghost use Rattle.std.specs.Fmt.{signed_decimal};
@@ -15,14 +15,14 @@ fn are_digits(bytes: &[u8]) -> bool
     bytes.iter().all(|byte| byte.is_ascii_digit())
 }
 
-// Whether a word of this first byte and these others is a numeral.
+// Whether the word with this first byte and these other bytes is a numeral.
 fn begins_numeral(first: u8, others: &[u8]) -> bool
     ensures { result ≡ (digit_test first && list_all digit_test others.now && (nat_lt 48 first || length others.now == 0)) }
 {
     first.is_ascii_digit() && are_digits(others) && (first > b'0' || others.is_empty())
 }
 
-/// Whether a word is a numeral: decimal digits, with no zero in front of others.
+/// Whether a word is a numeral: decimal digits, and zero comes first only if it is the only digit.
 pub fn is_numeral(word: &[u8]) -> bool
     ensures { result ≡ numeral_test word.now }
 {
@@ -32,7 +32,7 @@ pub fn is_numeral(word: &[u8]) -> bool
     }
 }
 
-// Whether a word that consists of digits is a numeral: one digit at least, and no zero in front of others.
+// Whether a word that consists of digits is a numeral: it has at least one digit, and zero comes first only if it is the only digit.
 fn may_lead(word: &[u8]) -> bool
     ensures { numeral_test word.now ≡ (list_all digit_test word.now && result) }
 {
@@ -42,7 +42,7 @@ fn may_lead(word: &[u8]) -> bool
     }
 }
 
-// A value with one more digit, where the byte is one and this is at most so much.
+// The value after one more digit, if the byte is a digit and the new value is at most `most`.
 fn next_value(value: u64, byte: u8, most: u64) -> Option<u64>
     ensures { SomeIff result ((digit_test byte ≡ true) × (10 * value + (byte - 48) ≤ most)) (10 * value + (byte - 48)) }
 {
@@ -57,7 +57,7 @@ fn next_value(value: u64, byte: u8, most: u64) -> Option<u64>
     }
 }
 
-// The number that a word's digits spell, where it has nothing else and the number is at most so much.
+// The number that a word's digits spell, if the word has only digits and the number is at most `most`.
 fn value_within(word: &[u8], most: u64) -> Option<u64>
     ensures { SomeIff result ((list_all digit_test word.now ≡ true) × (digits_value 10 word.now ≤ most)) (digits_value 10 word.now) }
 {
@@ -71,7 +71,7 @@ fn value_within(word: &[u8], most: u64) -> Option<u64>
     Some(value)
 }
 
-/// The number that a numeral spells, where it is at most so much.
+/// The number that a numeral spells, if it is at most `most`.
 pub fn number(word: &[u8], most: u64) -> Option<u64>
     ensures { Spells decimal (λ n. n ≤ most) word.now result }
 {
@@ -81,7 +81,7 @@ pub fn number(word: &[u8], most: u64) -> Option<u64>
     value_within(word, most)
 }
 
-// The number below zero that these digits spell behind a dash.
+// The negative number that these digits spell after a dash.
 fn negative(digits: &[u8]) -> Option<i64>
     ensures { Spells signed_decimal (FitsSigned w64) (45 ∷ digits.now) result }
 {
@@ -103,7 +103,7 @@ fn natural(word: &[u8]) -> Option<i64>
     }
 }
 
-/// The signed number of 64 bits that a word spells: a numeral, or a dash and one that isn't zero.
+/// The signed number of 64 bits that a word spells. The word is a numeral, or a dash and a numeral other than zero.
 pub fn signed_number(word: &[u8]) -> Option<i64>
     ensures { Spells signed_decimal (FitsSigned w64) word.now result }
 {
@@ -113,7 +113,7 @@ pub fn signed_number(word: &[u8]) -> Option<i64>
     }
 }
 
-/// Whether a word is a numeral, or a dash and one that isn't zero.
+/// Whether a word is a numeral, or a dash and a numeral other than zero.
 pub fn is_signed_numeral(word: &[u8]) -> bool
     ensures { IsTrue result ↔ IsSignedNumeral word.now }
 {
@@ -123,7 +123,7 @@ pub fn is_signed_numeral(word: &[u8]) -> bool
     }
 }
 
-// Whether digits are a numeral, but not that of zero.
+// Whether digits are a numeral other than zero.
 fn is_size(digits: &[u8]) -> bool
     ensures { IsTrue result ↔ (IsNumeral digits.now × (digits.now ≢ codes "0")) }
 {

@@ -1,8 +1,8 @@
-//! Texts that are split at a byte.
+//! Splits a text at the first place of a byte.
 ghost use Rattle.std.specs.Prelude.{MatchOption};
 ghost use Rattle.stats_words.specs.Splits.{IsSplitAt, Without};
 
-/// What stands before the first such byte of a text, and what stands behind it.
+/// The parts of `text` before the first `byte` and after it.
 pub fn split_at_byte(text: &[u8], byte: u8) -> Option<(&[u8], &[u8])>
     ensures { MatchOption result (Without byte text.now) (λ parts. IsSplitAt byte text.now parts.0.now parts.1.now) }
 {

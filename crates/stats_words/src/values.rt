@@ -1,4 +1,4 @@
-//! Values of columns.
+//! Words that are values of columns.
 ghost use Rattle.std.specs.Prelude.{◌≡◌, ◌↔◌, ℕ, IfOk, IsTrue, IsUtf8, MatchOption};
 ghost use Rattle.schema_types.specs.declared.types.Kind.TheVariants as kinds;
 ghost use Rattle.stats_file.specs.declared.types.Datum.TheVariants as datums;
@@ -14,7 +14,7 @@ use schema_types::Kind;
 use stats_file::Datum;
 use std::alloc::Global;
 
-/// Whether a word is a value: a numeral, perhaps with a dash, or hexadecimal digits.
+/// Whether a word is a value: a numeral, perhaps with a dash before it, or hexadecimal digits.
 pub fn is_value_word(word: &[u8]) -> bool
     ensures { IsTrue result ↔ IsValueWord word.now }
 {
@@ -31,7 +31,7 @@ fn number_datum(word: &[u8]) -> Option<Datum>
     }
 }
 
-// A text of these bytes, where they are UTF-8.
+// The text of these bytes, if they are UTF-8.
 fn text_of(alloc: Global, bytes: &[u8]) -> Result<Option<Datum>, NoMemory>
     ensures { IfOk result
         (λ datum. MatchOption datum (IsUtf8 bytes.now → ⊥) (λ d. IsUtf8 bytes.now × (d ≡ datums.Text bytes.now))) }

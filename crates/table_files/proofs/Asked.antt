@@ -1,4 +1,4 @@
--- A query of a schema can be asked of the database of its tables.
+-- A query over a schema can be evaluated on the database of its tables.
 use Rattle.std.proofs.Common.{◌≡◌, ℕ, ◌<◌, ◌≤◌, Bool, List, [], ◌∷◌, length, map, Option, Some, option_map, get_or, refl, ap, sym, ◌∙◌, subst, arith}
 use Rattle.std.specs.List.{All, AllByRecursion, slice_get}
 use Rattle.std.proofs.lemmas.List as list
@@ -32,7 +32,7 @@ use Rattle.table_files.proofs.FewRows.{HasFewRows, tables_are_few}
 use Rattle.table_files.proofs.EntryRows.{db, each_long, each_sound, has_cells, place_low, slot_is}
 use Rattle.table_files.proofs.PlaceFacts.{different_all, different_short}
 
--- ---- what holds of each comparison holds of each condition
+-- ---- if a property of each comparison implies another one, so it is for each condition
 
 module _ (Q R : Cond-F Cond → Type 0) (and : (all : List Cond) → R (layer.And all)) (or : (any : List Cond) → R (layer.Or any)) (not' : (inner : Cond) → R (layer.Not inner))
     (one : (op : Op) (left right : Operand) → Q (layer.Compare op left right) → R (layer.Compare op left right)) where
@@ -66,7 +66,6 @@ module _ (Q R : Cond-F Cond → Type 0) (and : (all : List Cond) → R (layer.An
 -- ---- columns
 
 module _ (schema : Schema) (query : Query) (d : Database) (has : HasCells schema query.from d) (long : length d.slots ≡ length query.from) where
-  -- a column that the query finds is one of its entry's table
   declared_at : (ref' : ColumnRef) (column : Column) → valid.FindsColumn schema query.from ref' column
       → slice_get (table_at schema (get_or (numbers_of query.from) ref'.from 0)).columns ref'.column ≡ Some column
   declared_at ref' column f =
@@ -105,7 +104,7 @@ module _ (schema : Schema) (query : Query) (d : Database) (has : HasCells schema
   pub output_of : (ref' : ColumnRef) (column : Column) → valid.FindsColumn schema query.from ref' column → asked.IsColumnOf d ref'
   output_of = column_of
 
--- ---- the database
+-- ---- the database can be asked the query
 
 module _ (schema : Schema) (query : Query) (texts : List (List ℕ)) (cells : List Cells) (is_of : valid.IsOf schema query)
     (are : AreCellsOfEach schema texts (tables_of_query query.from) cells) (few : All HasFewRows cells) where
@@ -137,7 +136,7 @@ module _ (schema : Schema) (query : Query) (texts : List (List ℕ)) (cells : Li
         output_of schema query d (has_cells schema query.from texts cells are) long_slots (get_or query.select i e).column out.column out.finds;
   }
 
--- ---- the tables of a query
+-- ---- which tables a query names
 
 pub numbers_low : (schema : Schema) (query : Query) → valid.IsOf schema query → All (λ number. number < length schema.tables) (tables_of_query query.from)
 numbers_low schema query is_of = All-from_recursion (λ number. number < length schema.tables) (tables_of_query query.from)

@@ -1,4 +1,4 @@
--- Tables that are read one after the other.
+-- The tables of a query are read one after another.
 use Rattle.std.proofs.Common.{◌≡◌, ℕ, zero, suc, ◌+◌, ◌*◌, ◌<◌, ◌≤◌, List, [], ◌∷◌, ◌++◌, length, take, drop, get_or, Option, Some, Result, Ok, Err, refl, ap, sym, ◌∙◌, subst, arith}
 use Rattle.std.specs.Prelude.{IsOk, ⊤}
 use Rattle.std.proofs.lemmas.List.{drop_more, take-append-drop, take_more}
@@ -26,7 +26,7 @@ use Rattle.table_files.specs.TableFile.{file_rows, rows_in}
 abbrev AllRows : Type 0
 AllRows = Result (List (List Row)) Refusal
 
--- ---- the stage of a list of tables, parted at one of them
+-- ---- reading all tables is reading those before table n, then table n, then those after it
 
 second_part : (a : List Row) (e : AllRows) (u : Result (List Row) Refusal) (w : AllRows)
     → ((e >>= (λ rs. u >>= (λ r. w >>= (λ others. Ok (rs ++ (r ∷ others)))))) >>= (λ rest. Ok (a ∷ rest)))
@@ -43,7 +43,6 @@ first_part : (t : Result (List Row) Refusal) (e e' : AllRows) (u : Result (List 
 first_part (Err x) e e' u w h = refl
 first_part (Ok a) e e' u w h = ap (λ (v : AllRows). v >>= (λ rest. Ok (a ∷ rest))) h ∙ second_part a e u w
 
--- the table, and those after it, behind the rows of those before
 abbrev onward : Schema → ℕ → List ℕ → List (List Row) → Files → AllRows
 onward schema n after rs files = table_rows schema n files >>= (λ r. rows_of_each schema after files >>= (λ others. Ok (rs ++ (r ∷ others))))
 
@@ -54,9 +53,9 @@ parted schema (m ∷ before) n after files =
     first_part (table_rows schema m files) (rows_of_each schema before files) (rows_of_each schema (before ++ (n ∷ after)) files) (table_rows schema n files) (rows_of_each schema after files)
     (parted schema before n after files)
 
--- ---- readings
+-- ---- what the store was asked for
 
--- a reading that gives a value comes to no file that it tells of
+-- every file satisfies this condition; it serves for readings that succeed
 abbrev pub Anywhere : Files → FileId → Type 0
 Anywhere files id = ⊤
 
@@ -74,13 +73,11 @@ module _ (schema : Schema) (first second : Reading) (meets : Meets first second)
       (then_reads (rows_of_each schema before) (onward schema n after) first second Anywhere AtThis (IsReached schema numbers) rs (Err e) meets
       (λ files id is at. record { before = before; number = n; after = after; order = order; file = at; sound = rw is refl }) h k)
 
-  -- the table's own ending is that of all
   pub each_stops : (after numbers : List ℕ) (e : Ending) → before ++ (n ∷ after) ≡ numbers → Reads second (table_rows schema n) AtThis (Err e)
       → Reads (joined first second) (rows_of_each schema numbers) (IsReached schema numbers) (Err e)
   each_stops after numbers e order k = ends_there after numbers e order
       (then_stops (table_rows schema n) (λ r files. rows_of_each schema after files >>= (λ others. Ok (rs ++ (r ∷ others)))) second AtThis AtThis e (λ files id at. at) k)
 
-  -- one more table
   each_more : (r : List Row) → Reads second (table_rows schema n) AtThis (Ok r)
       → Reads (joined first second) (rows_of_each schema (before ++ n ∷ [])) Anywhere (Ok (rs ++ r ∷ []))
   each_more r k =
@@ -89,7 +86,7 @@ module _ (schema : Schema) (first second : Reading) (meets : Meets first second)
       (then_reads (rows_of_each schema before) (onward schema n []) first second Anywhere AtThis Anywhere rs (Ok (rs ++ r ∷ [])) meets (λ files id is at. tt) h
       (then_gives second (table_rows schema n) (λ r. Ok (rs ++ r ∷ [])) AtThis AtThis r (rs ++ r ∷ []) refl k))
 
--- ---- cells over a pool that grows
+-- ---- cells keep their meaning when texts are added to the pool
 
 module _ (schema : Schema) (a b : List (List ℕ)) (begins : PoolBeginsWith a b) where
   each-grown : (numbers : List ℕ) (found : List Cells) → AreCellsOfEach schema a numbers found → AreCellsOfEach schema b numbers found
@@ -127,7 +124,7 @@ files-push schema (m ∷ ms) (s ∷ rows) n r h k = (h.0, files-push schema ms r
 
 -- ---- the loop over the tables
 
--- the tables before place i are read
+-- this is the state of the loop: the tables before place i are read
 pub record SoFar (schema : Schema) (numbers : List ℕ) (store : Reading) (i : ℕ) (texts : List (List ℕ)) (found : List Cells) : Type 0 where
   pub cells : AreCellsOfEach schema texts (take i numbers) found
   pub reads : Reads store (rows_of_each schema (take i numbers)) Anywhere (Ok (rows_of_tables texts found))
@@ -139,7 +136,6 @@ parts_at numbers i n lt is =
     ap (λ (m : ℕ). take i numbers ++ (m ∷ drop (i + 1) numbers)) is
     ∙ ap (λ (l : List ℕ). take i numbers ++ l) (sym (drop_more numbers i 0 lt)) ∙ take-append-drop i numbers
 
--- the table that the schema has at this number
 module _ (schema : Schema) (n : ℕ) (t : Table) (declared : slice_get schema.tables n ≡ Some t) where
   same_table : t ≡ table_at schema n
   same_table = sym (get_or_from_slice_get schema.tables n t no_table declared)
@@ -148,7 +144,6 @@ module _ (schema : Schema) (n : ℕ) (t : Table) (declared : slice_get schema.ta
       → Reads store (table_rows schema n) (AtFile (file.Table n)) answer
   named_rows store answer k = subst (λ (u : Table). Reads store (file_rows n u) (AtFile (file.Table n)) answer) same_table k
 
-  -- its rows in a file of another name
   pub rows_named : (name : List ℕ) (store : Reading) (answer : Result (List Row) Ending) → Reads store (rows_in n t name) (AtFile (file.Table n)) answer
       → Reads store (rows_in n (table_at schema n) name) (AtFile (file.Table n)) answer
   rows_named name store answer k = subst (λ (u : Table). Reads store (rows_in n u name) (AtFile (file.Table n)) answer) same_table k

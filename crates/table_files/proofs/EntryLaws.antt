@@ -1,4 +1,4 @@
--- Each entry has the rows of its own table's file.
+-- Each FROM entry has the rows of its own table's file.
 use Rattle.std.proofs.Common.{◌≡◌, ℕ, zero, suc, ◌<◌, Bool, true, cond, not, eqb, List, [], ◌∷◌, length, get_or, map, Result, Ok, Err, refl, ap, sym, ◌∙◌, arith}
 use Rattle.std.proofs.lemmas.Bool.{eq-eqb}
 use Rattle.std.proofs.lemmas.List as list
@@ -12,7 +12,6 @@ use Rattle.outcomes.specs.declared.refusal.Refusal.{Refusal}
 use Rattle.table_files.specs.Stage.{numbers_of, place_of, rows_by_entry, rows_of_each, table_rows, tables_of_query, tables_stage}
 use Rattle.table_files.proofs.PlaceFacts.{at_place, has_different, has_each, has_place}
 
--- a value of two steps is a value of the first, and then of the second
 pub two_steps : {A B : Type 0} (r : Result A Refusal) (f : A → Result B Refusal) (y : B) → (r >>= f) ≡ Ok y → (x : A) × (r ≡ Ok x) × (f x ≡ Ok y)
 two_steps (Ok x) f y h = (x, refl, h)
 two_steps (Err e) f y h = cc
@@ -50,7 +49,6 @@ module _ (schema : Schema) (from : List Source) (files : Files) (rows : List (Li
       ap (λ (n : ℕ). table_rows schema n files) (sym (at_place Numbers number place)) ∙ there
       ∙ ap (λ (r : List Row). Ok r) (sym (list.get_or-map (λ n. get_or read.0 (place_of Numbers n) []) (numbers_of from) entry 0 [] low) ∙ ap (λ (l : List (List Row)). get_or l entry []) picked)
 
--- the place of the one number there is
 only_place : (n : ℕ) → place_of (n ∷ []) n ≡ 0
 only_place n = rw (eq-eqb n n refl) refl
 

@@ -1,4 +1,4 @@
--- The entries of a database, by the places of their tables.
+-- The FROM entries of a database find their tables by place.
 use Rattle.std.proofs.Common.{◌≡◌, ℕ, zero, suc, ◌+◌, ◌<◌, List, [], ◌∷◌, length, get_or, map, refl, ap, sym, ◌∙◌, subst, arith}
 use Rattle.std.specs.List.{AllByRecursion, range_with_len}
 use Rattle.std.proofs.lemmas.List as list
@@ -22,14 +22,13 @@ map_same : {A B : Type 0} (f g : A → B) → ((x : A) → f x ≡ g x) → (xs 
 map_same f g e [] = refl
 map_same f g e (x ∷ xs) = ap (λ y. y ∷ map f xs) (e x) ∙ ap (λ ys. g x ∷ ys) (map_same f g e xs)
 
--- what is made of each place of a list is made of its numbers
 each_place : {B : Type 0} (g : ℕ → B) (xs : List ℕ) → map (λ i. g (get_or xs i 0)) (range_with_len 0 (length xs)) ≡ map g xs
 each_place g xs = same_lists (map (λ i. g (get_or xs i 0)) (range_with_len 0 (length xs))) (map g xs)
     (length-map-range_with_len (λ i. g (get_or xs i 0)) 0 (length xs) ∙ sym (length-map xs g))
     (λ k d low. let within : k < length xs = omega (arith, length-map-range_with_len (λ i. g (get_or xs i 0)) 0 (length xs)) in
     get_or-map-range_with_len (λ i. g (get_or xs i 0)) 0 (length xs) k k d within (omega arith) ∙ sym (list.get_or-map g xs k 0 d within))
 
--- ---- the cells of tables, by their places
+-- ---- the cells of tables by place
 
 pub each_long : (schema : Schema) (texts : List (List ℕ)) (numbers : List ℕ) (cells : List Cells) → AreCellsOfEach schema texts numbers cells → length cells ≡ length numbers
 each_long schema texts [] [] h = refl
@@ -72,7 +71,6 @@ module _ (schema : Schema) (from : List Source) (texts : List (List ℕ)) (cells
   pub slot_is : (entry : ℕ) → entry < length from → get_or db.slots entry 0 ≡ place_of Numbers (get_or (numbers_of from) entry 0)
   slot_is entry lt = list.get_or-map (place_of Numbers) (numbers_of from) entry 0 0 (entry_low entry lt)
 
-  -- each entry's table has a place
   pub place_low : (entry : ℕ) → entry < length from → place_of Numbers (get_or (numbers_of from) entry 0) < length Numbers
   place_low entry lt = has_place Numbers (get_or (numbers_of from) entry 0)
       (has_different (numbers_of from) (get_or (numbers_of from) entry 0) (has_each (numbers_of from) entry (entry_low entry lt)))
@@ -86,7 +84,6 @@ module _ (schema : Schema) (from : List Source) (texts : List (List ℕ)) (cells
       subst (λ (m : ℕ). AreCellsOf (table_at schema m) texts (get_or cells (place_of Numbers number) no_cells)) (at_place Numbers number (place_low entry lt)) here in
       subst (λ (slot : ℕ). AreCellsOf (table_at schema number) texts (get_or cells slot no_cells)) (sym (slot_is entry lt)) named
 
-  -- each entry has the rows of its table
   pub rows_by_place : rows_by_entry from (rows_of_tables texts cells) ≡ entry_rows db
   rows_by_place =
       let rows_at : ℕ → List Row = λ slot. rows_of_cells texts (get_or cells slot no_cells) in
@@ -94,7 +91,6 @@ module _ (schema : Schema) (from : List Source) (texts : List (List ℕ)) (cells
       (λ number. listn.get_or-map (rows_of_cells texts) cells (place_of Numbers number) no_cells) (numbers_of from)
       ∙ sym (map-map rows_at (place_of Numbers) (numbers_of from)) ∙ sym (each_place rows_at db.slots)
 
-  -- each entry has the rows of a file of its table
   pub has_files : AreOfFilesEach schema Numbers (rows_of_tables texts cells) → AreOfFiles schema from (tables_of db)
   has_files are entry lt =
       let number : ℕ = get_or (numbers_of from) entry 0 in

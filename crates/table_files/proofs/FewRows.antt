@@ -1,4 +1,4 @@
--- A table that is read has at most as many rows as a file may have.
+-- A table that was read has at most 4,000,000 rows.
 use Rattle.std.proofs.Common.{◌≡◌, ℕ, ◌+◌, ◌≤◌, Bool, true, false, nat_eq, nat_lt, List, [], ◌∷◌, length, get_or, None, Some, Result, Ok, Err, refl, ap, sym, inl, inr, not, arith}
 use Rattle.std.specs.Prelude.{All}
 use Rattle.std.proofs.lemmas.Bool.{cases_lt, ltb-false}
@@ -22,7 +22,7 @@ use Rattle.csv_tables.specs.Steps.{◌>>=◌, refuse_if, then_all}
 use Rattle.sql_meaning.specs.Tables.{cells_of, no_cells, row_counts, tables_of}
 use Rattle.csv_tables.proofs.KeyFacts.{rows-length}
 
--- ---- the records are numbered, and none past the limit is read
+-- ---- records are numbered from the first, and a record with a number past the limit is refused
 
 one_more : (number : ℕ) (past : Bool) (e : TableError) (row : Result Row TableError) (rest : Result (List Row) TableError) (rows : List Row) → past ≡ nat_lt 4000000 number
     → ((others : List Row) → number + 1 ≤ 4000001 → rest ≡ Ok others → length others + (number + 1) ≤ 4000001)
@@ -45,7 +45,7 @@ few_records columns places width number (fields ∷ records) rows low is =
     (rows_of_records columns places width (number + 1) records) rows refl
     (λ others low' rest. few_records columns places width (number + 1) records others low' rest) is
 
--- ---- the steps of a file
+-- ---- the steps of reading a file
 
 pub then_ok : {A B : Type 0} (r : Result A TableError) (f : A → Result B TableError) (y : B) → (r >>= f) ≡ Ok y → (x : A) × (r ≡ Ok x) × (f x ≡ Ok y)
 then_ok (Ok x) f y is = (x, refl, is)
@@ -78,7 +78,7 @@ file_is_few table bytes rows is =
     let same : read.0 ≡ rows = with_keys table.keys read.0 rows read.2 in
     omega (arith, ap (λ (s : List Row). length s) same, under_header table.columns records read.0 read.1)
 
--- ---- cells of a table, and tables of a database
+-- ---- the limit for cells of a table, and for the tables of a database
 
 abbrev pub HasFewRows : Cells → Type 0
 HasFewRows cells = cells.rows ≤ 4000000

@@ -1,4 +1,4 @@
--- The rows in a file of a table: their texts are UTF-8, and no two of them have one value in a column that alone is a key.
+-- Rows that were read from a table's file: their texts are UTF-8, and no two rows have the same value in a column that is a key by itself.
 use Rattle.std.proofs.Common.{◌≡◌, ℕ, ℤ, zero, suc, ◌+◌, ◌<◌, ◌≤◌, Bool, true, false, nat_eq, nat_lt, List, [], ◌∷◌, ◌++◌, length, map, get_or, pos, Option, None, Some, Result, Ok, Err, refl, ap, sym, ◌∙◌, subst, inl, inr, not, arith, length-append, append_assoc}
 use Rattle.std.specs.Prelude.{IsUtf8, encode_utf8_all, position, if◌then◌else◌, option_map, nat_le, ⊤}
 use Rattle.std.specs.Cmp.Lexicographic.{slice_cmp}
@@ -82,7 +82,6 @@ refused_or : {A : Type 0} (e : TableError) (o : Option A) (x : A) → or_refuse 
 refused_or e None x is = absurd cc
 refused_or e (Some y) x is = let same : y ≡ x = cc in ap (λ z. Some z) same
 
--- an item and those of a list
 both_ok : {A : Type 0} (first : Result A TableError) (rest : Result (List A) TableError) (all : List A) → then_all first rest ≡ Ok all
     → (x : A) × (xs : List A) × (first ≡ Ok x) × (rest ≡ Ok xs) × (x ∷ xs ≡ all)
 both_ok (Ok x) (Ok xs) all is = (x, xs, refl, refl, cc)
@@ -118,7 +117,7 @@ under_header columns records rows texts is =
     let read = then_ok (column_places 0 columns (header_of records)) (λ places. rows_of_records columns places (length (header_of records)) 1 (after_header records)) rows is in
     rows_readable columns read.0 (length (header_of records)) 1 (after_header records) rows (behind_header records texts) read.2
 
--- ---- no values of a key are repeated
+-- ---- no key has the same values twice
 
 keys_kept : (keys : List (List ℕ)) (rows found : List Row) → rows_with_keys keys rows ≡ Ok found → AllByRecursion (λ key. first_repeat key rows ≡ None) keys
 keys_kept [] rows found is = tt
@@ -146,7 +145,6 @@ both_none seen x rest is =
       | Some place ↦ λ none. absurd cc
     ]) is
 
--- where nothing is repeated, no values are those before them
 none_before : (seen rest : List (List Value)) → repeat_after seen rest ≡ None → (i j : ℕ) → i < j → length seen ≤ j → j < length seen + length rest
     → are_same (get_or (seen ++ rest) j []) (get_or (seen ++ rest) i []) ≡ false
 none_before seen [] none i j less from' low = absurd (omega arith)
@@ -164,7 +162,7 @@ none_before seen (x ∷ rest) none i j less from' low =
           ∙ none_before (seen ++ x ∷ []) rest parts.0 i j less (omega (arith, long, from', past)) (omega (arith, long, low))
     ]
 
--- ---- equal values are the same
+-- ---- values that compare as equal are equal
 
 equal_values : (a b : Value) → IsReadable a → IsReadable b → is_eq (value_cmp a b) ≡ true → a ≡ b
 equal_values (Int a) (Int b) p q h = ap Int (exact_signed a b ((Equal-is (int_cmp a b)).0 h))
@@ -232,7 +230,6 @@ module _ (rows : List Row) (readable : AllByRecursion (AllByRecursion IsReadable
       let both : are_same (value_in j ∷ []) (value_in i ∷ []) ≡ true = rw alike refl in
       false≢true (sym keys_apart ∙ both)
 
-  -- no two rows have one value in the column
   pub rows_apart : (i j : ℕ) → i < length rows → j < length rows → is_eq (value_cmp (value_in i) (value_in j)) ≡ true → i ≡ j
   rows_apart i j low high h =
       let same : value_in i ≡ value_in j =

@@ -1,4 +1,4 @@
--- A file that is read, as the stage of its bytes.
+-- Reading a file from a store gives what `read` of the specification says of the file's bytes.
 use Rattle.std.proofs.Common.{◌≡◌, ◌≢◌, ℕ, ◌+◌, ◌<◌, ◌≤◌, Bool, true, false, List, length, Option, None, Some, Result, Ok, Err, refl, ap, sym, ◌∙◌, subst, arith}
 use Rattle.std.specs.Prelude.{nat_lt, if◌then◌else◌}
 use Rattle.std.proofs.lemmas.Bool.Decides.{nat_tests}
@@ -73,7 +73,6 @@ module _ (store : Reading) (id : FileId) (most : ℕ) (name : List ℕ) (later :
   pub load_fault : Rose store.faults_before store.faults_after → store.misses_after ≡ store.misses_before → Reads store (read id most name) (AtFile id) (Err (ending.Fault id))
   load_fault rose misses = record { gives = (rose, (λ files told'. refl)); misses = λ files told' missed. misses; later = later; same = same }
 
--- want of memory may end each step
 pub wanting : {A : Type 0} (store : Reading) (stage : Files → Result A Refusal) (C : Files → FileId → Type 0) → store.misses_after ≡ store.misses_before
     → store.faults_before ≤ store.faults_after → store.files_after ≡ store.files → Reads store stage C (Err ending.NoMemory)
 wanting store stage C misses later same = record { gives = tt; misses = λ files told missed. misses; later = later; same = same }

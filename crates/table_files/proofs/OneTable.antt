@@ -1,4 +1,4 @@
--- The rows of a table from its file's bytes, step by step.
+-- The rows of a table are made from its file's bytes, step by step.
 use Rattle.std.proofs.Common.{◌≡◌, ℕ, List, Result, Ok, Err, ap, sym, ◌∙◌, subst}
 use Rattle.base_io.specs.Files.{Files}
 use Rattle.csv_tables.specs.Files.{rows_of_file}
@@ -17,7 +17,6 @@ use Rattle.outcomes.proofs.ReadFacts.{then_gives, then_stops, then_tells}
 use Rattle.table_files.specs.FileNames.{file_name}
 use Rattle.table_files.specs.TableFile.{file_rows, read, rows_in, rows_of_bytes}
 
--- a reader's error, as the ending that tells it
 table_tells : (number : ℕ) (answer : Result (List Row) TableError) (e : TableError) → Refuses answer e → StopsBy (told (table_refusal number) answer) (table_ending number e)
 table_tells number answer table.NoMemory h = tt
 table_tells number answer (table.Utf8 at) h = (ap (told (table_refusal number)) h, (λ file e. cc), (λ e. cc))
@@ -47,7 +46,6 @@ module _ {store : Reading} (number : ℕ) (t : Table) (name : List ℕ) where
       then_tells store (read (file.Table number) 67108864 name) (rows_of_bytes number t) (AtTable number) (AtTable number) bytes (table_ending number error)
       (subst (λ (text : List ℕ). StopsBy (rows_of_bytes number t text) (table_ending number error)) same (table_tells number (rows_of_file t slice) error refuses)) h
 
-  -- the table's own file
   pub own_rows : {answer : Result (List Row) Ending} → name ≡ file_name t → Reads store (rows_in number t name) (AtTable number) answer → Reads store (file_rows number t) (AtTable number) answer
   unfolding file_rows
   own_rows {answer} named h = subst (λ (n : List ℕ). Reads store (rows_in number t n) (AtTable number) answer) named h

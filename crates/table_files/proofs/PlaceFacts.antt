@@ -1,4 +1,4 @@
--- Numbers, each once, and their places.
+-- `different` keeps each number of a list once. The lemmas are about this list, and about the places of numbers in it.
 use Rattle.std.proofs.Common.{◌≡◌, ℕ, zero, suc, ◌+◌, ◌<◌, ◌≤◌, ◌||◌, Bool, true, false, cond, not, eqb, inl, inr, List, [], ◌∷◌, ◌++◌, length, get_or, take, refl, sym, ap, ◌∙◌, arith, append-nil}
 use Rattle.std.proofs.lemmas.Bool.{cases_Bool, eq-eqb, eqb-false, eqb-true, false≢true}
 use Rattle.std.proofs.lemmas.List.{map-append, take_more}
@@ -37,11 +37,9 @@ no_place (x ∷ xs) n h = elim (cases_Bool (eqb n x)) [
 pub place_within : (xs : List ℕ) (n : ℕ) → place_of xs n ≤ length xs
 place_within xs n = prefix_len-le-length (λ x. not (eqb n x)) xs
 
--- at its place stands the number
 pub at_place : (xs : List ℕ) (n : ℕ) → place_of xs n < length xs → get_or xs (place_of xs n) 0 ≡ n
 at_place xs n lt = sym (eqb-true n (get_or xs (place_of xs n) 0) (passes_at_first (eqb n) xs 0 lt))
 
--- each number of a list is there
 pub has_each : (xs : List ℕ) (i : ℕ) → i < length xs → has xs (get_or xs i 0) ≡ true
 has_each [] i lt = absurd (omega arith)
 has_each (x ∷ xs) zero lt = rw (eq-eqb x x refl) refl
@@ -50,7 +48,7 @@ has_each (x ∷ xs) (suc i) lt = elim (cases_Bool (eqb (get_or xs i 0) x)) [
   | inr e ↦ rw e (has_each xs i (omega arith))
 ]
 
--- ---- each once
+-- ---- `different` keeps each number once
 
 has_kept : (m n : ℕ) (xs : List ℕ) → eqb n m ≡ false → has (without m xs) n ≡ has xs n
 has_kept m n [] d = refl
@@ -63,7 +61,6 @@ has_kept m n (x ∷ xs) d = elim (cases_Bool (eqb x m)) [
       ap (λ (l : List ℕ). has l n) left ∙ ap (λ (b : Bool). eqb n x || b) (has_kept m n xs d))
 ]
 
--- no number is lost
 pub has_different : (ns : List ℕ) (n : ℕ) → has ns n ≡ true → has (different ns) n ≡ true
 has_different [] n h = h
 has_different (m ∷ ns) n h = elim (cases_Bool (eqb n m)) [
@@ -73,7 +70,6 @@ has_different (m ∷ ns) n h = elim (cases_Bool (eqb n m)) [
       here ∙ has_kept m n (different ns) e ∙ has_different ns n (sym rest ∙ h))
 ]
 
--- one more number: a new one goes last
 new_last : (ns : List ℕ) (n : ℕ) → has (different ns) n ≡ false → different (ns ++ n ∷ []) ≡ different ns ++ n ∷ []
 new_last [] n h = refl
 new_last (m ∷ ns) n h = elim (cases_Bool (eqb n m)) [
@@ -100,7 +96,6 @@ old_none (m ∷ ns) n h = elim (cases_Bool (eqb n m)) [
       ap (λ (l : List ℕ). m ∷ without m l) (old_none ns n there))
 ]
 
--- the same by the number's place
 pub different_new : (ns : List ℕ) (n : ℕ) → place_of (different ns) n ≡ length (different ns) → different (ns ++ n ∷ []) ≡ different ns ++ n ∷ []
 different_new ns n past = elim (cases_Bool (has (different ns) n)) [
   | inl there ↦ absurd (omega (arith, has_place (different ns) n there))
@@ -113,7 +108,7 @@ different_old ns n lt = elim (cases_Bool (has (different ns) n)) [
   | inr fresh ↦ absurd (omega (arith, no_place (different ns) n fresh))
 ]
 
--- ---- what stays of a list
+-- ---- `different` isn't longer than the list, and a property of all numbers of the list is one of its numbers
 
 kept_short : (m : ℕ) (xs : List ℕ) → length (without m xs) ≤ length xs
 kept_short m [] = omega arith
@@ -137,9 +132,8 @@ pub different_all : (P : ℕ → Type 0) (ns : List ℕ) → AllByRecursion P ns
 different_all P [] h = tt
 different_all P (n ∷ ns) h = (h.0, kept_all P n (different ns) (different_all P ns h.1))
 
--- ---- what the loops do
+-- ---- the loops that build the list
 
--- no number before place i is n
 abbrev pub IsPassed : List ℕ → ℕ → ℕ → Type 0
 IsPassed xs n i = (k : ℕ) → k < i → eqb n (get_or xs k 0) ≡ false
 
@@ -149,7 +143,6 @@ found_at xs n i lt here h = sym (position_or_len_is (eqb n) xs i 0 (omega arith)
 pub found_nowhere : (xs : List ℕ) (n i : ℕ) → i ≡ length xs → IsPassed xs n i → i ≡ place_of xs n
 found_nowhere xs n i all h = sym (position_or_len_is (eqb n) xs i 0 (omega arith) h (λ low. absurd (omega arith)))
 
--- one more entry of FROM
 numbers_more : (from : List Source) (i : ℕ) (s : Source) → i < length from → s ≡ get_or from i s → numbers_of (take (i + 1) from) ≡ numbers_of (take i from) ++ s.table ∷ []
 numbers_more from i s lt is =
     ap numbers_of (take_more from i s lt) ∙ map-append (λ (source : Source). source.table) (take i from) (get_or from i s ∷ [])

@@ -1,4 +1,4 @@
--- The tables of a database are those of its entries' rows.
+-- The tables of a database are those made of its entries' rows.
 use Rattle.std.proofs.Common.{◌≡◌, ℕ, zero, suc, ◌+◌, ◌<◌, ◌≤◌, inl, inr, List, [], ◌∷◌, length, get_or, map, refl, ap, sym, ◌∙◌, arith}
 use Rattle.std.specs.Prelude.{nat_lt}
 use Rattle.std.specs.List.{range_with_len}
@@ -15,7 +15,6 @@ use Rattle.sql_meaning.specs.Tables.{no_cells, tables_of}
 use Rattle.table_files.specs.EntryTables.{entry_rows, tables_in}
 use Rattle.table_files.specs.Stage.{numbers_of, place_of, tables_of_query}
 
--- FROM's first table is the first of its tables
 pub first_place : (from : List Source) → get_or (map (place_of (tables_of_query from)) (numbers_of from)) 0 0 ≡ 0
 first_place [] = refl
 first_place (source ∷ sources) = rw (eq-eqb source.table source.table refl) refl

@@ -1,4 +1,4 @@
--- The stage of a query's tables, from the reading of each.
+-- One stage of a run reads a query's tables. Its result follows from the reading of each table.
 use Rattle.std.proofs.Common.{◌≡◌, ℕ, List, map, Result, Ok, Err, ap, sym, ◌∙◌, subst}
 use Rattle.std.specs.Prelude.{All}
 use Rattle.base_io.specs.Files.{Files}
@@ -23,7 +23,6 @@ use Rattle.table_files.proofs.FewRows.{HasFewRows}
 use Rattle.table_files.proofs.Asked.{database_is}
 use Rattle.table_files.proofs.EntryRows.{db, has_cells, has_files, rows_by_place}
 
--- a database by its parts
 abbrev pub made : List (List ℕ) → List Cells → List ℕ → Database
 made texts cells slots = record { pool = texts; cells = cells; slots = slots }
 

@@ -1,4 +1,4 @@
--- What the stage of a query's tables gives, in the words of files.
+-- If the stage that reads a query's tables succeeds, its rows are those of the files in the store.
 use Rattle.std.proofs.Common.{◌≡◌, ℕ, ◌+◌, ◌<◌, Bool, true, false, List, [], length, get_or, Option, None, Some, Result, Ok, Err, ap, sym, ◌∙◌, subst, arith}
 use Rattle.std.specs.Prelude.{if◌then◌else◌, nat_lt}
 use Rattle.std.proofs.lemmas.List.{length-map}
@@ -30,7 +30,6 @@ limited_ok : {A : Type 0} (long : Bool) (r : Refusal) (y x : A) → (if long the
 limited_ok true r y x e = cc
 limited_ok false r y x e = cc
 
--- what was read is the whole file
 pub read_ok : (id : FileId) (most : ℕ) (name : List ℕ) (files : Files) (bytes : List ℕ) → read id most name files ≡ Ok bytes → file_of files name ≡ Some bytes
 read_ok id most name files bytes e = of_bytes (file_of files name) e where
   of_bytes : (o : Option (List ℕ)) → bytes_of id most o ≡ Ok bytes → o ≡ Some bytes
@@ -38,7 +37,6 @@ read_ok id most name files bytes e = of_bytes (file_of files name) e where
   of_bytes (Some all) h =
       ap Some (limited_ok (nat_lt most (length all)) (refusal.Limit limit.FileBytes id (most + 1)) all bytes h)
 
--- the rows of a table's file
 pub table_ok : (number : ℕ) (table : Table) (files : Files) (rows : List Row) → file_rows number table files ≡ Ok rows
     → (bytes : List ℕ) × (file_of files (file_name table) ≡ Some bytes) × (rows_of_file table bytes ≡ Ok rows)
 unfolding file_rows
@@ -59,7 +57,6 @@ module _ (schema : Schema) (from : List Source) (files : Files) (rows : List (Li
       ∙ length-map (numbers_of from) (λ number. get_or steps.0 (place_of (tables_of_query from) number) [])
       ∙ length-map from (λ (source : Source). source.table)
 
-  -- no entry is past the last one
   tables_are : (entry : ℕ) → entry < length from → get_or rows entry [] ≡ tables_in rows entry
   tables_are entry low =
       let there : entry < length rows = omega (arith, one_each) in
@@ -67,7 +64,6 @@ module _ (schema : Schema) (from : List Source) (files : Files) (rows : List (Li
       sym (slice_get-get_or rows entry [] there) ∙ slice_get-get_or rows entry (get_or rows 0 []) there in
       cc
 
-  -- each entry has the rows of its table
   pub entries_are : (entry : ℕ) → entry < length from → table_rows schema (get_or (numbers_of from) entry 0) files ≡ Ok (tables_in rows entry)
   entries_are entry low = entries_have schema from files rows staged entry low ∙ ap (λ (r : List Row). Ok r) (tables_are entry low)
 

@@ -1,4 +1,4 @@
--- Which rows the cells of tables stand for, and whether rows can have come from files.
+-- The rows for which the cells of tables stand, and whether rows can come from files.
 use Rattle.std.specs.Prelude.{ℕ, ◌≡◌, ◌<◌, List, [], ◌∷◌, length, map, slice_index, slice_index_or, Ok, ⊤}
 use Rattle.std.specs.List.{range_with_len}
 use Rattle.schema_types.specs.declared.types.Schema.{Schema}
@@ -17,7 +17,7 @@ use Rattle.table_files.specs.declared.rows.TableRows.{TableRows}
 abbrev pub entry_rows : Database → List (List Row)
 entry_rows db = map (tables_of db) (range_with_len 0 (length db.slots))
 
--- the rows of each entry as `Tables`. Past the last entry, where no query asks, it gives the first entry's rows, or no rows
+-- the rows of each entry as `Tables`; past the last entry, where no query asks, they are the first entry's rows, or no rows
 abbrev pub tables_in : List (List Row) → Tables
 tables_in rows entry = slice_index_or rows entry (slice_index_or rows 0 [])
 
@@ -34,17 +34,17 @@ AreCellsOfEach schema texts (number ∷ numbers) [] = ⊥
 AreCellsOfEach schema texts (number ∷ numbers) (cells ∷ others) =
     AreCellsOf (table_at schema number) texts cells × AreCellsOfEach schema texts numbers others
 
--- the rows of each table, from its cells
+-- the rows of each table, made from its cells
 abbrev pub rows_of_tables : List (List ℕ) → List Cells → List (List Row)
 rows_of_tables texts tables = map (rows_of_cells texts) tables
 
--- the rows of one table, from what was read of it
+-- the rows of one table, made from what was read of it
 abbrev pub rows_of_read : TableRows → List Row
 rows_of_read read = rows_of_cells read.pool read.cells
 
 -- ---- files
 
--- there are bytes that, as the table's file, have just these rows
+-- some bytes, read as the table's file, give these rows
 abbrev pub AreOfAFile : Table → List Row → Type 0
 AreOfAFile table rows = (bytes : List ℕ) × (rows_of_file table bytes ≡ Ok rows)
 

@@ -1,4 +1,4 @@
--- The tables of a query, from their files.
+-- The stage of a run that reads the tables of a query from their files.
 use Rattle.std.specs.Prelude.{ℕ, ◌≡◌, ◌==◌, nat_eq, not, List, [], ◌∷◌, ◌++◌, map, slice_index_or, Result, Ok, IsOk}
 use Rattle.std.specs.List.{filter, position_or_len}
 use Rattle.base_io.specs.Files.{Files}
@@ -12,7 +12,7 @@ use Rattle.outcomes.specs.declared.names.FileId.TheVariants as file
 use Rattle.outcomes.specs.declared.refusal.Refusal.{Refusal}
 use Rattle.table_files.specs.TableFile.{file_rows}
 
--- each number once, in its first place
+-- each number is kept once, at its first place
 abbrev pub different : List ℕ → List ℕ
 different [] = []
 different (number ∷ numbers) = number ∷ filter (λ other. not (other == number)) (different numbers)
@@ -29,7 +29,7 @@ numbers_of from = map (λ source. source.table) from
 abbrev pub tables_of_query : List Source → List ℕ
 tables_of_query from = different (numbers_of from)
 
--- no number of a query of the schema is past its tables
+-- `numbers` of a query of the schema are below the schema's number of tables, so `no_table` is never used
 abbrev pub no_table : Table
 no_table = record { name = []; columns = []; keys = []; references = [] }
 
@@ -40,7 +40,7 @@ table_at schema number = slice_index_or schema.tables number no_table
 abbrev pub table_rows : Schema → ℕ → Files → Result (List Row) Refusal
 table_rows schema number files = file_rows number (table_at schema number) files
 
--- the rows of tables that are read one after the other: the first refusal stands
+-- the rows of tables that are read one after another, or the first refusal
 abbrev pub rows_of_each : Schema → List ℕ → Files → Result (List (List Row)) Refusal
 rows_of_each schema [] files = Ok []
 rows_of_each schema (number ∷ numbers) files = do
@@ -58,7 +58,7 @@ tables_stage schema from files = do
   rows ← rows_of_each schema (tables_of_query from) files
   Ok (rows_by_entry from rows)
 
--- the reading of tables comes to this file: it is one's, and no table before it is refused
+-- the reading of tables reaches the file `id`: it is that of one of the tables, and no table before this one is refused
 pub record IsReached (schema : Schema) (numbers : List ℕ) (files : Files) (id : FileId) : Type 0 where
   pub before : List ℕ
   pub number : ℕ

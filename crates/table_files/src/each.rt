@@ -1,4 +1,4 @@
-//! Tables, one after the other.
+//! Reads tables one after another.
 ghost use Rattle.std.specs.Prelude.{◌≡◌, ◌≤◌, ◌<◌, [], All, length, IfOk};
 ghost use Rattle.limits.specs.Profile.{most_rows};
 ghost use Rattle.base_io.specs.Devices.{reading};

@@ -1,4 +1,4 @@
-//! The stage at small queries: theorems by computation.
+//! Examples of the stage, as theorems that are proved by computation.
 ghost use Rattle.std.specs.Prelude.{◌≡◌, ◌∷◌, [], codes, Err};
 ghost use Rattle.outcomes.specs.declared.names.FileId.TheVariants as file;
 ghost use Rattle.outcomes.specs.declared.refusal.Refusal.TheVariants as refusal;
@@ -6,7 +6,7 @@ ghost use Rattle.table_files.specs.Examples.{numbers_table, only_r, s_r_s, two_t
 ghost use Rattle.table_files.specs.Stage.{different, rows_by_entry, tables_of_query, tables_stage};
 ghost use Rattle.table_files.specs.FileNames.{file_name};
 
-/// FROM S, R, S reads S and then R, and the third entry has the rows of the first.
+/// For FROM S, R, S the stage reads S and then R, and the third entry has the rows of the first.
 pub fn orders()
     ensures name { file_name (numbers_table (codes "Big_R")) ≡ codes "big_r.csv" }
     ensures once { tables_of_query s_r_s ≡ 1 ∷ 0 ∷ [] }
@@ -15,7 +15,7 @@ pub fn orders()
 {}
 
 #[tactic(auto, unfolding(crate::specs::TableFile::file_rows, crate::specs::Stage::tables_stage))]
-/// Of two absent files that of FROM's first table is missing, whatever the schema's order.
+/// If the files of two tables are absent, the one of FROM's first table is reported, whatever the order of the schema is.
 pub fn absences()
     ensures none { tables_stage two_tables s_r_s [] ≡ Err (refusal.Missing (file.Table 1)) }
     ensures first { tables_stage two_tables s_r_s only_r ≡ Err (refusal.Missing (file.Table 1)) }

@@ -1,4 +1,4 @@
-//! What the stage says of each entry.
+//! Laws on what the stage gives each entry.
 ghost use Rattle.std.specs.Prelude.{◌≡◌, ◌<◌, ℕ, List, [], ◌∷◌, length, slice_index, slice_index_or, Err, Ok};
 ghost use Rattle.base_io.specs.Files.{Files};
 ghost use Rattle.csv_tables.specs.Rows.{Row};
@@ -8,8 +8,8 @@ ghost use Rattle.schema_types.specs.declared.types.Schema.{Schema};
 ghost use Rattle.table_files.specs.EntryTables.{AreOfFiles, tables_in};
 ghost use Rattle.table_files.specs.Stage.{numbers_of, table_rows, tables_stage};
 
-/// Where no file is refused, each entry has the rows of its own table's file, also as a table of a query. A query of one
-/// entry has the rows of its table, or its refusal. It does nothing.
+/// If no file is refused, each entry has the rows of its own table's file, both in the rows of the stage and as `Tables` of a query. A query of one
+/// entry has the rows of its table, or the refusal of its table. The function does nothing.
 pub fn entries_have_their_rows()
     ensures each { (schema : Schema) (from : List Source) (files : Files) (rows : List (List Row))
         → tables_stage schema from files ≡ Ok rows

@@ -1,4 +1,4 @@
-//! The tables of a query, from their files: the stage of a run after the query is read.
+//! Reads the tables of a query from their files: the stage of a run after the query is read.
 //!
 //! A query has from one to twelve FROM entries. Each table that they name is read once, in the order in
 //! which FROM first names it, from the file that has its name in lower case and `.csv`. Entries of one table

@@ -1,4 +1,4 @@
-//! A file of a run.
+//! Reads a file of a run.
 ghost use Rattle.std.specs.Prelude.{◌≡◌, ◌≤◌, length, IfOk};
 ghost use Rattle.limits.specs.Profile.{most_file};
 ghost use Rattle.base_io.specs.Devices.{reading};

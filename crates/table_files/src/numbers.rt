@@ -1,4 +1,4 @@
-//! The tables that FROM names, and each entry's place among them.
+//! The tables that FROM names, and the place of each entry's table among them.
 ghost use Rattle.std.specs.Prelude.{◌≡◌, ◌<◌, ◌^◌, ◌==◌, [], ◌∷◌, ◌++◌, if◌then◌else◌, length, map, IfOk, OnOk};
 ghost use Rattle.table_files.specs.Stage.{numbers_of, place_of as place_in, tables_of_query};
 
@@ -6,7 +6,7 @@ use base_io::{NoMemory, Seq};
 use query_types::Source;
 use std::alloc::Global;
 
-// The place of a number, or the list's length. The list has one number a table of a query, at most twelve.
+// The place of a number, or the list's length if the number isn't there. The list has one number for each table of a query, so at most twelve.
 fn place_of(numbers: &[u32], number: u32) -> usize
     ensures { result ≡ place_in numbers.now number }
 {
@@ -18,7 +18,7 @@ fn place_of(numbers: &[u32], number: u32) -> usize
     numbers.len()
 }
 
-// Puts a number at the end of a list, where it isn't there yet.
+// Appends a number to a list, unless the list has it already.
 fn put(numbers: &mut Seq<u32>, number: u32) -> Result<(), NoMemory>
     ensures { OnOk result (numbers.new
         ≡ (if place_in numbers.old number == length numbers.old then numbers.old ++ number ∷ [] else numbers.old)) }
@@ -29,7 +29,7 @@ fn put(numbers: &mut Seq<u32>, number: u32) -> Result<(), NoMemory>
     numbers.push(number)
 }
 
-/// The tables that FROM names, each once, in the order in which it first names them.
+/// The tables that FROM names, each once, in the order in which FROM first names them.
 pub(crate) fn table_numbers(alloc: Global, from: &[Source]) -> Result<Seq<u32>, NoMemory>
     ensures { IfOk result (λ numbers. numbers ≡ tables_of_query from.now) }
 {

@@ -1,4 +1,4 @@
-//! Rows of one table, from a file that is named.
+//! Reads the rows of one table from a file with a given name.
 ghost use Rattle.std.specs.Prelude.{◌≡◌, ◌<◌, ◌≤◌, All, IfOk, IsUtf8, length};
 ghost use Rattle.limits.specs.Profile.{most_rows};
 ghost use Rattle.base_io.specs.Devices.{reading};
@@ -24,8 +24,8 @@ pub struct TableRows {
     pub cells: Cells,
 }
 
-/// Reads rows of the table with this number in the schema from the file of this name, with all refusals of a table's file. Keys are
-/// looked at among these rows alone.
+/// Reads rows of the table with this number in the schema from the file of this name, and refuses what a table's file may not have. A key is tested
+/// among these rows alone.
 pub fn read_rows<S: Store>(
     alloc: Global,
     store: &mut S,
@@ -38,18 +38,18 @@ pub fn read_rows<S: Store>(
     ensures cells { IfOk result (λ read. AreCellsOf (table_at schema.now number) read.pool read.cells) }
     ensures few_rows { IfOk result (λ read. read.cells.rows ≤ most_rows) }
 
-    // Its texts are UTF-8, and no two are equal.
+    // The texts of the pool are UTF-8, and no two are equal.
     ensures texts { IfOk result (λ read. All IsUtf8 read.pool) }
     ensures different { IfOk result (λ read. TextsAreDifferent read.pool) }
 
-    // Its rows are those of the file, or the ending has its cause.
+    // The rows are those of the file, or the ending has the cause.
     ensures reads { Reads (reading S.files S.faults S.misses store.old store.new) (rows_in number (table_at schema.now number) name.now)
         (AtFile (FileId.Table number)) (seen rows_of_read result) }
 {
     let mut pool = Pool::new(alloc);
     let table = schema.tables.get(number as usize);
     let cells = load_rows(alloc, store, number, table, name, &mut pool)?;
-    // A pool tells of its texts where it is asked for their number.
+    // The contract of `len` says that the pool's texts are UTF-8 and different.
     let _texts = pool.len();
     Ok(TableRows { pool, cells })
 }

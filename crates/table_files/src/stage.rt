@@ -1,4 +1,4 @@
-//! The tables of a query.
+//! Reads the tables of a query.
 ghost use Rattle.std.specs.Prelude.{◌≡◌, ◌<◌, All, IfOk, IsUtf8, length};
 ghost use Rattle.csv_tables.specs.Pools.{TextsAreDifferent};
 ghost use Rattle.base_io.specs.Devices.{reading};
@@ -22,8 +22,8 @@ use std::alloc::Global;
 /// Reads the tables of a query of the schema, each once, in the order in which FROM first names them. Entries
 /// of one table share one place in `cells`.
 ///
-/// Ends with the first refusal of a file: it is absent, has more than 67,108,864 bytes, or its rows are
-/// refused. A failed read ends it as a counted fault, and want of memory may end it anywhere.
+/// The first refusal of a file ends the reading: the file is absent, has more than 67,108,864 bytes, or its rows are refused. A failed read ends it
+/// too, and is counted as a fault. A lack of memory may end it anywhere.
 pub fn read_tables<S: Store>(
     alloc: Global,
     store: &mut S,
@@ -33,24 +33,24 @@ pub fn read_tables<S: Store>(
     requires schema { IsValid schema.now }
     requires query { IsOf schema.now query.now }
 
-    // The database can be asked the query, and has for each entry the cells of its table.
+    // The database can be asked the query, and has the cells of each entry's table.
     ensures database { IfOk result (IsDatabaseOf query.now) }
     ensures cells { IfOk result (HasCells schema.now query.now.from) }
 
     // Each table of the query has one place.
     ensures once { IfOk result (λ db. length db.cells ≡ length (tables_of_query query.now.from)) }
 
-    // Its texts are UTF-8, and no two are equal.
+    // The texts of the pool are UTF-8, and no two are equal.
     ensures texts { IfOk result (λ db. All IsUtf8 db.pool) }
     ensures different { IfOk result (λ db. TextsAreDifferent db.pool) }
 
-    // Its tables are those in some files, whose columns and keys were found to be as the schema declares.
+    // Each table has the rows of some file, in which columns and keys are as the schema declares.
     ensures files { IfOk result (λ db. AreOfFiles schema.now query.now.from (tables_of db)) }
 
-    // Its tables are those of its rows.
+    // The tables made of the entries' rows are those of the database.
     ensures tables { IfOk result (λ db. tables_in (entry_rows db) ≡ tables_of db) }
 
-    // Its rows are those of the stage, or the ending has its cause.
+    // The entries' rows are those of the stage, or the ending has the cause.
     ensures reads { Reads (reading S.files S.faults S.misses store.old store.new) (tables_stage schema.now query.now.from)
         (IsReached schema.now (tables_of_query query.now.from)) (seen entry_rows result) }
 {
@@ -63,7 +63,7 @@ pub fn read_tables<S: Store>(
     };
     let mut pool = Pool::new(alloc);
     let cells = read_each(alloc, store, schema, numbers.as_slice(), &mut pool)?;
-    // A pool tells of its texts where it is asked for their number.
+    // The contract of `len` says that the pool's texts are UTF-8 and different.
     let _texts = pool.len();
     Ok(Database { pool, cells, slots })
 }

@@ -1,4 +1,4 @@
-//! A table, from its file.
+//! Reads a table from its file.
 ghost use Rattle.std.specs.Prelude.{◌≡◌, ◌≤◌, ◌+◌, length, IfOk, string_bytes};
 ghost use Rattle.limits.specs.Profile.{most_rows};
 ghost use Rattle.csv_tables.specs.Cells.{AreCellsOf, rows_of_cells};
@@ -18,7 +18,7 @@ use outcomes::{Ending, FileId, table_ending};
 use schema_types::Table;
 use std::alloc::Global;
 
-// The name of a table's file: the table's in lower case, and `.csv`.
+// The name of a table's file: the table's name in lower case, and `.csv`.
 fn table_file_name(alloc: Global, table: &Table) -> Result<String, NoMemory>
     ensures { IfOk result (λ name. string_bytes name ≡ file_name table.now) }
 {
@@ -27,7 +27,7 @@ fn table_file_name(alloc: Global, table: &Table) -> Result<String, NoMemory>
     Ok(name)
 }
 
-/// Reads rows of the table with this number in the schema from the file of this name. Its bytes are let go once its cells stand.
+/// Reads rows of the table with this number in the schema from the file of this name. The bytes are freed once the table's cells are made.
 pub(crate) fn load_rows<S: Store>(
     alloc: Global,
     store: &mut S,

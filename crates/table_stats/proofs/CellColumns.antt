@@ -1,4 +1,4 @@
--- A column of cells as values: one number for each cell, and cells that compare as their values do.
+-- A column of cells has the same lists as the column of their values: each cell has one number, and cells compare as their values do.
 use Rattle.std.proofs.Common.{◌≡◌, ℕ, ◌<◌, true, List, [], ◌∷◌, length, map, get_or, pos, Option, None, Some, refl, ap, sym, ◌∙◌, subst, arith, inl, inr}
 use Rattle.std.specs.Prelude.{option_map}
 use Rattle.std.specs.List.{All, Contains, zip}
@@ -32,7 +32,7 @@ module _ (texts : List (List ℕ)) (differ : HaveDifferentCharacters texts) (kin
   abbrev pub cell_values : List Value
   cell_values = map of_cell cells
 
-  -- the number of a cell: the first row that has its value
+  -- the first row that has a cell's value stands for the cell
   abbrev pub number_of : ℕ → ℕ
   number_of cell = first_row cell_values (of_cell cell)
 
@@ -63,7 +63,6 @@ module _ (texts : List (List ℕ)) (differ : HaveDifferentCharacters texts) (kin
   pub pass_alike : (value : Value) → PassAlike (λ cut. value_le (of_cell cut) value) (λ cut. value_le (value_of_row cell_values cut) value) number_of cells
   pass_alike value a has = alike_le (value_of_row cell_values (number_of a)) (of_cell a) value value (first_is a has) (equal_itself value)
 
-  -- the leaf of an end
   leaf_of_end : (value : Value) → leaf_of_value cell_values value ≡ leaf_in_cells texts kind cells value
   leaf_of_end value =
       ap (λ (s : List ℕ). leaf_above (row_le cell_values) s (λ cut. value_le (value_of_row cell_values cut) value)) numbers_of_cells
@@ -74,19 +73,16 @@ module _ (texts : List (List ℕ)) (differ : HaveDifferentCharacters texts) (kin
   ends_are None = refl
   ends_are (Some value) = ap Some (leaf_of_end value)
 
-  -- a number in the column is that of a cell
   from_numbers : (number : ℕ) → Contains (map number_of cells) number → (cell : ℕ) × Contains cells cell × (number ≡ number_of cell)
   from_numbers number has =
       let low : has.0 < length cells = omega (arith, has.1, length-map cells number_of) in
       (get_or cells has.0 0, Contains-get_or cells has.0 0 low, sym has.2 ∙ get_or-map number_of cells has.0 0 number low)
 
-  -- where a value has a number in the column, some cell has the value
   from_value : (value : Value) → Contains (map number_of cells) (first_row cell_values value) → (cell : ℕ) × Contains cells cell × (is_equal (of_cell cell) value ≡ true)
   from_value value has =
       let found = from_numbers (first_row cell_values value) has in
       (found.0, found.1, equal_firsts cell_values (of_cell found.0) value (has_row found.0 found.1) (sym found.2))
 
-  -- nothing that stands for a value is in the column where its number isn't, nor the other way round
   pub both_missing : (value : Value) (cell : Option ℕ) → IsCellFor texts kind value cell → IsMissing cells cell → IsMissing (map number_of cells) (Some (first_row cell_values value))
   both_missing value None stands missing has =
       let found = from_value value has in

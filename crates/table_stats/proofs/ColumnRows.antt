@@ -1,4 +1,4 @@
--- The columns of an entry's table, row by row.
+-- The columns of an entry's table are lists with one value for each row.
 use Rattle.std.proofs.Common.{◌≡◌, ◌↔◌, ℕ, ◌<◌, true, List, length, map, get_or, pos, refl, ap, sym, ◌∙◌, subst, arith}
 use Rattle.std.specs.List.{range_with_len, zip}
 use Rattle.std.proofs.lemmas.List.FromFn.{fill_by_all, get_or-map-range_with_len, length-map-range_with_len}
@@ -17,7 +17,7 @@ use Rattle.table_stats.proofs.FirstRows.{first_has, first_there, same_first}
 -- ---- a list of values, one for each row
 
 module _ (values : List Value) where
-  -- the number of a row's value
+  -- the first row that has a value stands for the value
   abbrev pub listed_number : ℕ → ℕ
   listed_number row = first_row values (value_of_row values row)
 
@@ -26,7 +26,6 @@ module _ (values : List Value) where
       ap (map (first_row values)) (fill_by_all (value_of_row values) values (length values) (Int (pos 0)) refl (λ row low. refl))
       ∙ map_both (first_row values) (value_of_row values) listed_number (λ row. refl) (range_with_len 0 (length values))
 
-  -- a row's value has a first row
   pub listed_below : (row : ℕ) → row < length values → listed_number row < length values
   listed_below row low = first_there values (value_of_row values row) row (Int (pos 0)) low (equal_itself (value_of_row values row))
 
@@ -46,7 +45,7 @@ module _ (tables : Tables) (entry : ℕ) where
     abbrev pub values : List Value
     values = column_values tables entry column
 
-    -- the number of a row's value
+    -- the first row that has a value stands for the value
     abbrev pub number_at : ℕ → ℕ
     number_at row = first_row values (value_at row)
 
@@ -64,18 +63,16 @@ module _ (tables : Tables) (entry : ℕ) where
         ap (λ (v : Value). is_equal v (value_at row)) (get_or-map-range_with_len value_at 0 row_count row row (Int (pos 0)) low (omega arith))
         ∙ equal_itself (value_at row)
 
-    -- a row's value has a first row, which has that value
     pub number_below : (row : ℕ) → row < row_count → number_at row < length values
     number_below row low = first_there values (value_at row) row (Int (pos 0)) (omega (arith, height)) (here row low)
 
     pub number_has : (row : ℕ) → row < row_count → is_equal (value_of_row values (number_at row)) (value_at row) ≡ true
     number_has row low = first_has values (value_at row) (number_below row low)
 
-    -- rows have one number where their values are equal
     pub same_number : (row other : ℕ) → is_equal (value_at row) (value_at other) ≡ true → number_at row ≡ number_at other
     same_number row other h = same_first values (value_at row) (value_at other) h
 
-  -- with a list of values beside them, one for each row
+  -- ---- the table has the list `joined` beside it, with one value for each row
   module _ (joined : List Value) (long : length joined ≡ row_count) where
     pub listed_numbers_are : numbered joined ≡ map (listed_number joined) rows
     listed_numbers_are = listed_numbers joined ∙ ap (λ (n : ℕ). map (listed_number joined) (range_with_len 0 n)) long
@@ -96,7 +93,6 @@ module _ (tables : Tables) (entry : ℕ) where
           long,
         ))).0
 
-  -- keys that tell the values of a column tell those of its list
   pub listed_tell : (column : ℕ) (key : ℕ → ℕ) → TellsValues tables entry column key → TellsListed (values column) key
   listed_tell column key tells row other low also =
       let below : row < row_count = omega (arith, low, height column) in

@@ -1,4 +1,4 @@
--- The lists of a database's columns of cells.
+-- The columns of cells of a database have the lists of their values.
 use Rattle.std.proofs.Common.{◌≡◌, ℕ, ◌<◌, List, [], length, map, get_or, pos, Option, ap, sym, ◌∙◌, subst, arith}
 use Rattle.std.specs.Prelude.{slice_index}
 use Rattle.std.specs.List.{zip}
@@ -43,7 +43,6 @@ module _ (db : Database) (are : AreTables db) (differ : HaveDifferentCharacters 
   pub column_is : (column : ℕ) → Exists column → IsColumn db.pool cells.rows (kind_at column) (column_at_all column)
   column_is column exists = column_at db.pool cells.rows cells.kinds cells.columns cells_are column kind.Int [] exists
 
-  -- the values of a column are those of its cells
   pub values_are : (column : ℕ) → Exists column → map (value_of_cell db.pool (kind_at column)) (column_at_all column) ≡ column_values (tables_of db) entry column
   values_are column exists =
       let of_cell : ℕ → Value = value_of_cell db.pool (kind_at column) in
@@ -80,7 +79,7 @@ module _ (db : Database) (are : AreTables db) (differ : HaveDifferentCharacters 
           ∙ ap (λ (s : List Value). list_between accuracy s (map (value_of_cell db.pool (kind_at joined)) (column_at_all joined)) low high) (values_are filter has_filter)
           ∙ ap (λ (s : List Value). list_between accuracy (column_values (tables_of db) entry filter) s low high) (values_are joined has_joined)
 
--- ---- columns by their references
+-- ---- columns that a query names
 
 pub cells_whole : (db : Database) (joined : ColumnRef) (accuracy : ℕ) → AreTables db → HaveDifferentCharacters db.pool → IsColumnOf db joined
     → compressed_degrees accuracy (get_or (cells_of db joined.from).columns joined.column []) ≡ (column_lists (tables_of db) accuracy joined.from joined.column).whole

@@ -1,4 +1,4 @@
--- The lists of a joined column dominate its keys, over the rows that they stand for.
+-- Each list of a joined column dominates the keys of this column, over the rows for which the list stands.
 use Rattle.std.proofs.Common.{◌≡◌, ◌↔◌, ℕ, ◌+◌, ◌<◌, ◌≤◌, Bool, true, eqb, List, length, map, Option, None, Some, refl, ap, sym, ◌∙◌, subst, arith}
 use Rattle.std.specs.Prelude.{unwrap_or}
 use Rattle.std.specs.List.{filter}
@@ -30,7 +30,7 @@ use Rattle.table_stats.proofs.EqualValues.{alike_le, equal_itself, is_equal, le_
 use Rattle.table_stats.proofs.FirstRows.{equal_firsts, same_first}
 use Rattle.table_stats.proofs.FewerRows.{PassesBoth, all_in_range, fewer_dominated}
 
--- ---- ends of ranges
+-- ---- the leaves of a range's ends
 
 module _ (filter : List Value) where
   abbrev pub first_leaf : Option Value → ℕ
@@ -39,7 +39,6 @@ module _ (filter : List Value) where
   abbrev pub last_leaf : Option Value → ℕ
   last_leaf high = unwrap_or (end_leaf filter high) 31
 
-  -- the leaf of a row, by its number
   abbrev pub leaf_at : ℕ → ℕ
   leaf_at number = leaf_of (row_le filter) (numbered filter) number
 
@@ -66,16 +65,15 @@ module _ (filter : List Value) where
         (alike_le (value_of_row filter number) value high high has (equal_itself high) ∙ h))
         (cuts (row_le filter) (numbered filter))
 
-    -- a value between the ends lies in a leaf of their node
     pub in_their_node : (low high : Option Value) → is_from low value ≡ true → is_up_to high value ≡ true
         → in_node (node_size (first_leaf low) (last_leaf high)) (first_leaf low) (leaf_at number) ≡ true
     in_their_node low high from to =
         node_between (first_leaf low) (last_leaf high) (leaf_at number) (first-small low) (last-small high) (from_first low from) (up_to_last high to)
 
--- ---- an entry's table, and a list of joined values, one for each of its rows
+-- ---- an entry's table with a list of joined values, one for each row of the table
 
 module _ (tables : Tables) (accuracy entry : ℕ) (joined : List Value) (long : length joined ≡ row_count tables entry) where
-  -- the rows of which a list speaks, by the numbers of the joined column
+  -- the lists speak of these rows
   abbrev pub joined_rows : (ℕ → Bool) → List ℕ
   joined_rows test = map (listed_number joined) (filter test (rows tables entry))
 
@@ -118,7 +116,7 @@ module _ (tables : Tables) (accuracy entry : ℕ) (joined : List Value) (long : 
       (filter_numbers tables entry joined long column))
       (compressed_dominates accuracy (keys_where (passes (filter_values pairs)) pairs))
 
-  -- ---- any keys that are equal where the numbers of the joined column are
+  -- ---- any keys that are equal exactly where the joined column's numbers are
 
   module _ (key : ℕ → ℕ) (alike : (row other : ℕ) → row < row_count tables entry → other < row_count tables entry
       → (listed_number joined row ≡ listed_number joined other) ↔ (key row ≡ key other)) where
@@ -161,9 +159,8 @@ module _ (tables : Tables) (accuracy entry : ℕ) (joined : List Value) (long : 
         range.low range.high parts.0 parts.1)
         (leaves_dominate range.column first last)
 
--- ---- keys that tell values
+-- ---- keys that tell which values are equal
 
--- equal numbers of the joined values are equal values, and so are equal keys
 keys_tell : (joined : List Value) (key : ℕ → ℕ) → TellsListed joined key
     → (row other : ℕ) → row < length joined → other < length joined → (listed_number joined row ≡ listed_number joined other) ↔ (key row ≡ key other)
 keys_tell joined key tells row other low also = (

@@ -1,4 +1,4 @@
--- Of rows of which fewer pass, fewer have picked keys.
+-- If each row that passes test p passes test q, any given keys have at most as many rows that pass p as rows that pass q.
 use Rattle.std.proofs.Common.{◌≡◌, ℕ, zero, suc, ◌+◌, ◌<◌, ◌≤◌, Bool, true, cond, List, [], ◌∷◌, map, arith, inl, inr}
 use Rattle.std.specs.List.{AllByRecursion, count_by, filter, range_with_len}
 use Rattle.std.proofs.lemmas.Bool.{cases_Bool}
@@ -7,7 +7,6 @@ use Rattle.degree_sequences.specs.Domination.{DominatesKeys}
 use Rattle.degree_sequences.proofs.Counting.{is_in}
 
 module _ (key : ℕ → ℕ) (p q : ℕ → Bool) where
-  -- a row that passes the one test passes the other
   abbrev pub PassesBoth : ℕ → Type 0
   PassesBoth row = p row ≡ true → q row ≡ true
 
@@ -29,7 +28,6 @@ module _ (key : ℕ → ℕ) (p q : ℕ → Bool) where
   pub fewer_dominated : (s rows : List ℕ) → AllByRecursion PassesBoth rows → DominatesKeys s (map key (filter q rows)) → DominatesKeys s (map key (filter p rows))
   fewer_dominated s rows all dominates picked apart = omega (arith, fewer (is_in picked) rows all, dominates picked apart)
 
--- what holds of each number of a range holds along it
 pub all_in_range : (Q : ℕ → Type 0) (first count : ℕ) → ((x : ℕ) → x < first + count → Q x) → AllByRecursion Q (range_with_len first count)
 all_in_range Q first zero h = tt
 all_in_range Q first (suc count) h = (h first (omega arith), all_in_range Q (first + 1) count (λ x low. h x (omega arith)))

@@ -1,4 +1,4 @@
--- The first row that has a value.
+-- The first row that has a value stands for the value as its number.
 use Rattle.std.proofs.Common.{◌≡◌, ℕ, ◌+◌, ◌<◌, true, cond, not, List, [], ◌∷◌, length, get_or, pos, refl, ap, sym, ◌∙◌, arith, inl, inr}
 use Rattle.std.specs.Ordering.{is_eq}
 use Rattle.std.specs.declared.cmp.Ordering.{Ordering}
@@ -8,14 +8,12 @@ use Rattle.csv_tables.specs.Values.{Value, Int}
 use Rattle.table_stats.specs.Columns.{first_row, value_of_row}
 use Rattle.table_stats.proofs.EqualValues.{alike_on_right, equal_back, equal_chain, is_equal}
 
--- equal values have one first row
 pub same_first : (values : List Value) (a b : Value) → is_equal a b ≡ true → first_row values a ≡ first_row values b
 same_first [] a b h = refl
 same_first (v ∷ values) a b h =
     ap (λ (o : Ordering). cond (not (is_eq o)) (1 + first_row values a) 0) (alike_on_right a b h v)
     ∙ ap (λ (n : ℕ). cond (not (is_equal v b)) (1 + n) 0) (same_first values a b h)
 
--- a value that some row has, has a first row
 pub first_there : (values : List Value) (value : Value) (row : ℕ) (d : Value) → row < length values → is_equal (get_or values row d) value ≡ true
     → first_row values value < length values
 first_there values value row d low h = elim (cases_lt (first_row values value) (length values)) [
@@ -23,11 +21,9 @@ first_there values value row d low h = elim (cases_lt (first_row values value) (
   | inr past ↦ absurd (true≢false (sym h ∙ fails_before_first (λ other. is_equal other value) values row d (omega arith)))
 ]
 
--- and its first row has it
 pub first_has : (values : List Value) (value : Value) → first_row values value < length values → is_equal (value_of_row values (first_row values value)) value ≡ true
 first_has values value there = passes_at_first (λ other. is_equal other value) values (Int (pos 0)) there
 
--- values that some rows have are equal where their first rows are
 pub equal_firsts : (values : List Value) (a b : Value) → first_row values a < length values → first_row values a ≡ first_row values b → is_equal a b ≡ true
 equal_firsts values a b there same =
     let at_a : is_equal (value_of_row values (first_row values a)) a ≡ true = first_has values a there in

@@ -1,4 +1,4 @@
--- What the lists sum to, and that they fall.
+-- The lists of statistics fall, and each sums to its number of rows.
 use Rattle.std.proofs.Common.{◌≡◌, ℕ, ◌≤◌, Bool, cond, eqb, List, map, length, sum, Some, ap, sym, ◌∙◌, subst, arith}
 use Rattle.std.specs.List.{count_by, list_any}
 use Rattle.std.proofs.lemmas.Bool.{cond_both}
@@ -57,7 +57,7 @@ module _ (tables : Tables) (accuracy entry : ℕ) (joined : List Value) where
         (first_leaf (values tables entry range.column) range.low);
   }
 
-  -- ---- lists sum to numbers of rows
+  -- ---- each list sums to a number of rows
 
   abbrev remaining_count : List ℕ → ℕ
   remaining_count numbers = greatest (map (degree numbers) (remaining numbers))
@@ -89,7 +89,7 @@ module _ (tables : Tables) (accuracy entry : ℕ) (joined : List Value) where
       range = range_sum;
     }
 
--- ---- of an entry's columns
+-- ---- the lists of an entry's columns
 
 pub lists_fall : (tables : Tables) (accuracy entry joined : ℕ) → ListsFall (column_lists tables accuracy entry joined)
 lists_fall tables accuracy entry joined = listed_fall tables accuracy entry (values tables entry joined)
@@ -97,10 +97,10 @@ lists_fall tables accuracy entry joined = listed_fall tables accuracy entry (val
 pub lists_sum : (tables : Tables) (accuracy entry joined : ℕ) → SumTo (column_lists tables accuracy entry joined) (entry_counts tables entry)
 lists_sum tables accuracy entry joined = listed_sum tables accuracy entry (values tables entry joined) (height tables entry joined)
 
--- ---- numbers of rows are enough
+-- ---- the counts are at least the numbers of rows that pass
 
 module _ (tables : Tables) (entry : ℕ) where
-  -- the rows in question, by the numbers of any column
+  -- rows are counted here by the numbers of column 0; any column would do
   abbrev first_column : List Value
   first_column = values tables entry 0
 

@@ -1,4 +1,4 @@
--- A number for each value, the same for equal values alone.
+-- Each value has a number of its own: two values have the same number exactly if they are equal.
 use Rattle.std.proofs.Common.{◌≡◌, ℕ, ℤ, zero, suc, pos, ◌+◌, ◌*◌, ◌<◌, true, List, [], ◌∷◌, refl, ap, sym, ◌∙◌, arith}
 use Rattle.std.specs.Prelude.{negsuc}
 use Rattle.std.specs.Cmp.Lexicographic.{slice_cmp}
@@ -16,7 +16,7 @@ use Rattle.table_stats.proofs.EqualValues.{equal_order, is_equal}
 
 -- ---- a number for a list of numbers
 
--- the odd number 2 * n + 1, doubled so many times
+-- this is the odd number 2n + 1, doubled `times` times
 doubled : ℕ → ℕ → ℕ
 doubled zero n = 2 * n + 1
 doubled (suc times) n = 2 * doubled times n
@@ -60,7 +60,6 @@ int-apart (pos a) (negsuc b) same = absurd (omega (arith, same))
 int-apart (negsuc a) (pos b) same = absurd (omega (arith, same))
 int-apart (negsuc a) (negsuc b) same = ap negsuc (omega (arith, same))
 
--- even for numbers, odd for texts
 pub number_of_value : Value → ℕ
 number_of_value (Int number) = 2 * number_of_int number
 number_of_value (Text text) = 2 * number_of_list (chars text) + 1
@@ -85,7 +84,6 @@ one_number_equal_values (Text a) (Text b) same =
 -- ---- keys of tables
 
 module _ (tables : Tables) where
-  -- the number of a row's value
   value_key : Keys
   value_key entry column row = number_of_value (value_at tables entry column row)
 

@@ -1,4 +1,4 @@
--- The values of a column as numbers: a value is the first row that has it, so that equal values are one number.
+-- The values of a column as numbers. The number of a value is the first row that has it, so equal values have equal numbers.
 use Rattle.std.specs.Prelude.{ℕ, Bool, List, map, pos, slice_index_or}
 use Rattle.std.specs.List.{position_or_len, range_with_len, zip}
 use Rattle.std.specs.Ordering.{is_eq}
@@ -12,11 +12,11 @@ use Rattle.sql_meaning.specs.Tables.{Tables, row_counts}
 abbrev pub column_values : Tables → ℕ → ℕ → List Value
 column_values tables entry column = map (value_in_row tables entry column) (range_with_len 0 (row_counts tables entry))
 
--- the first row that has a value, or the number of rows where none has it
+-- the first row that has a value, or the number of rows if no row has it
 abbrev pub first_row : List Value → Value → ℕ
 first_row values value = position_or_len (λ other. is_eq (value_cmp other value)) values
 
--- a column as numbers, row by row
+-- the column as the numbers of its values, row by row
 abbrev pub numbered : List Value → List ℕ
 numbered values = map (first_row values) values
 
@@ -28,10 +28,10 @@ value_of_row values row = slice_index_or values row (Int (pos 0))
 abbrev pub row_le : List Value → ℕ → ℕ → Bool
 row_le values row other = value_le (value_of_row values row) (value_of_row values other)
 
--- the leaf of a value in a column, which need not have it: the last whose cut is at most the value, and 0 where none is
+-- the leaf of any value, also of one that no row has: the last leaf whose cut is at most the value, or leaf 0 if there is none
 abbrev pub leaf_of_value : List Value → Value → ℕ
 leaf_of_value values value = leaf_above (row_le values) (numbered values) (λ cut. value_le (value_of_row values cut) value)
 
--- the rows of a filter column and of a joined column, each row as its two numbers
+-- the numbers of a filter column and a joined column, as one pair for each row
 abbrev pub paired : List Value → List Value → List (ℕ × ℕ)
 paired filter joined = zip (numbered filter) (numbered joined)

@@ -1,4 +1,4 @@
--- A table of worked examples: one column, X, of 1, 1, 1, 2, 2, 3.
+-- A table for examples: its one column X has the values 1, 1, 1, 2, 2, 3.
 use Rattle.std.specs.Prelude.{ℕ, List, [], ◌∷◌, map}
 use Rattle.csv_tables.specs.Rows.{Row}
 use Rattle.csv_tables.specs.Values.{Value}

@@ -6,12 +6,12 @@ use Rattle.filtered_lists.specs.Standing.{value_in_row}
 use Rattle.sql_meaning.specs.Tables.{Tables, row_counts}
 use Rattle.table_stats.specs.Columns.{value_of_row}
 
--- two rows of an entry's table have one key exactly where their values in the column are equal
+-- two rows of an entry's table have the same key exactly if their values in the column are equal
 abbrev pub TellsValues : Tables → ℕ → ℕ → (ℕ → ℕ) → Type 0
 TellsValues tables entry column key = (row other : ℕ) → row < row_counts tables entry → other < row_counts tables entry
     → (key row ≡ key other) ↔ (is_eq (value_cmp (value_in_row tables entry column row) (value_in_row tables entry column other)) ≡ true)
 
--- the same of a list of values, row by row
+-- two rows have the same key exactly if the elements of the list at these rows are equal
 abbrev pub TellsListed : List Value → (ℕ → ℕ) → Type 0
 TellsListed values key = (row other : ℕ) → row < length values → other < length values
     → (key row ≡ key other) ↔ (is_eq (value_cmp (value_of_row values row) (value_of_row values other)) ≡ true)

@@ -1,4 +1,4 @@
--- What the statistics of a table know of its columns: the lists of a joined column, and the numbers of rows.
+-- The statistics of a table's columns: the lists of each joined column, and numbers of rows.
 use Rattle.std.specs.Prelude.{ℕ, ◌==◌, if◌then◌else◌, List, map, Option, Some, option_map, unwrap_or}
 use Rattle.std.specs.List.{count_by, list_any}
 use Rattle.csv_tables.specs.Values.{Value}
@@ -10,23 +10,23 @@ use Rattle.filtered_lists.specs.Lists.{ColumnLists, RowCounts}
 use Rattle.sql_meaning.specs.Tables.{Tables, row_counts}
 use Rattle.table_stats.specs.Columns.{column_values, first_row, leaf_of_value, numbered, paired, row_le}
 
--- the leaf of an end of a range, if there is one
+-- the leaf of a value that ends a range, if the range has an end on this side
 abbrev pub end_leaf : List Value → Option Value → Option ℕ
 end_leaf values end = option_map (leaf_of_value values) end
 
 -- ---- lists
 
--- the list of a joined column for a value of a filter column: that of its rows where it is frequent, else the rest list
+-- the list of a joined column for a value of a filter column: if the value is frequent, that of the value's rows, otherwise the rest list
 abbrev pub list_with : ℕ → List Value → List Value → Value → List ℕ
 list_with accuracy filter joined value = list_of_value accuracy (paired filter joined) (Some (first_row filter value))
 
--- and for two ends of a range, either of which may be missing: that of the rows in the least node that holds the leaves of both. The
--- ends may be crossed
+-- the list of a joined column for a range of a filter column, either of whose ends may be missing. It is the list of the rows in the least node that
+-- has the leaves of both ends. The low end may be above the high end.
 abbrev pub list_between : ℕ → List Value → List Value → Option Value → Option Value → List ℕ
 list_between accuracy filter joined low high =
     list_of_range (row_le filter) accuracy (paired filter joined) (end_leaf filter low) (end_leaf filter high)
 
--- what is known of a joined column, at an accuracy, where these are the values of each filter column in the same rows
+-- the lists of a joined column at an accuracy. `filters` gives the values of each filter column in the same rows
 abbrev pub lists_over : ℕ → (ℕ → List Value) → List Value → ColumnLists
 lists_over accuracy filters joined = record {
   whole = compressed_degrees accuracy (numbered joined);
@@ -34,29 +34,29 @@ lists_over accuracy filters joined = record {
   range = λ range. list_between accuracy (filters range.column) joined range.low range.high;
 }
 
--- of a joined column of an entry
+-- the lists of a joined column of an entry
 abbrev pub column_lists : Tables → ℕ → ℕ → ℕ → ColumnLists
 column_lists tables accuracy entry joined = lists_over accuracy (column_values tables entry) (column_values tables entry joined)
 
 -- ---- numbers of rows
 
--- the rows of a value where it is frequent, else those of the most frequent value that remains
+-- the number of rows with this value if the value is frequent, otherwise the number of rows of the most frequent value among the others
 abbrev pub count_with : List Value → Value → ℕ
 count_with filter value =
     if list_any (λ other. other == first_row filter value) (frequent (numbered filter))
     then degree (numbered filter) (first_row filter value)
     else greatest (map (degree (numbered filter)) (remaining (numbered filter)))
 
--- the rows whose leaf lies in the least node that holds two leaves
+-- the number of rows whose leaf is in the least node that has the leaves `first` and `last`
 abbrev pub count_in_node : List Value → ℕ → ℕ → ℕ
 count_in_node filter first last =
     count_by (λ number. in_node (node_size first last) first (leaf_of (row_le filter) (numbered filter) number)) (numbered filter)
 
--- the rows in the node of a range: without a low end it begins in leaf 0, without a high end it ends in leaf 31
+-- the number of rows in the node of a range: without a low end the range begins in leaf 0, without a high end it ends in leaf 31
 abbrev pub count_between : List Value → Option Value → Option Value → ℕ
 count_between filter low high = count_in_node filter (unwrap_or (end_leaf filter low) 0) (unwrap_or (end_leaf filter high) 31)
 
--- what is known of the number of an entry's rows
+-- the numbers of an entry's rows: of all rows, of those with a value, and of those in a range
 abbrev pub entry_counts : Tables → ℕ → RowCounts
 entry_counts tables entry = record {
   whole = row_counts tables entry;

@@ -1,18 +1,18 @@
-//! The statistics of a small table: theorems by computation.
+//! The statistics of a small table, as theorems that are proved by computation.
 ghost use Rattle.std.specs.Prelude.{◌≡◌, ◌∷◌, [], map, None, Some};
 ghost use Rattle.filtered_lists.specs.Examples.{range_x, six_rows, value};
 ghost use Rattle.table_stats.specs.Columns.{leaf_of_value, numbered};
 ghost use Rattle.table_stats.specs.Examples.{column_of_six, table_of_none, table_of_six};
 ghost use Rattle.table_stats.specs.Statistics.{column_lists, entry_counts};
 
-/// A column X of 1, 1, 1, 2, 2, 3: each value is the first row that has it. 0 lies below each cut and has leaf 0.
+/// The numbers and the leaves of a column X with the values 1, 1, 1, 2, 2, 3. The value 0 is below each cut and has leaf 0.
 pub fn columns()
     ensures numbers { numbered column_of_six ≡ 0 ∷ 0 ∷ 0 ∷ 3 ∷ 3 ∷ 5 ∷ [] }
     ensures leaves { map (leaf_of_value column_of_six) (value 1 ∷ value 2 ∷ value 3 ∷ []) ≡ 15 ∷ 26 ∷ 31 ∷ [] }
     ensures others { map (leaf_of_value column_of_six) (value 0 ∷ value 9 ∷ []) ≡ 0 ∷ 31 ∷ [] }
 {}
 
-/// Its lists where it is the joined column and the filter column. A value that no row has has the rest list, and here none remains.
+/// The lists of column X, which is both the joined column and the filter column. A value that no row has is given the rest list, which is empty here.
 pub fn lists()
     ensures whole { (column_lists table_of_six 1 0 0).whole ≡ six_rows.whole }
     ensures equal { map ((column_lists table_of_six 1 0 0).equal 0) (value 1 ∷ value 2 ∷ value 3 ∷ [])
@@ -28,7 +28,7 @@ pub fn lists()
         none.whole ∷ none.equal 0 (value 1) ∷ none.range (range_x (Some (value 1)) None) ∷ [] ≡ [] ∷ [] ∷ [] ∷ [] }
 {}
 
-/// Its numbers of rows, which the lists sum to.
+/// The numbers of rows of column X. Each is the sum of the list for the same condition.
 pub fn counts()
     ensures whole { (entry_counts table_of_six 0).whole ≡ 6 }
     ensures equal { map ((entry_counts table_of_six 0).equal 0) (value 1 ∷ value 2 ∷ value 3 ∷ value 7 ∷ []) ≡ 3 ∷ 2 ∷ 1 ∷ 0 ∷ [] }

@@ -1,4 +1,4 @@
-//! What holds of the statistics of tables: no law computes anything, and the contract is the law.
+//! Laws of the statistics of tables. No law computes anything: its contract is the theorem.
 ghost use Rattle.std.specs.Prelude.{◌≡◌, ℕ, List, Option, length};
 ghost use Rattle.std.specs.List.{zip};
 ghost use Rattle.berge_tree.specs.declared.edges.Edge.{Edge};
@@ -16,18 +16,18 @@ ghost use Rattle.table_stats.specs.Columns.{column_values};
 ghost use Rattle.table_stats.specs.Keys.{TellsListed, TellsValues};
 ghost use Rattle.table_stats.specs.Statistics.{column_lists, entry_counts, lists_over};
 
-/// The lists and the numbers of rows stand for the tables, over any keys that tell the joined column's values.
+/// The lists and the numbers of rows stand for the tables. This is so for any keys that tell which values of the joined column are equal.
 pub fn statistics_stand_for_tables()
     ensures lists { (tables : Tables) (accuracy entry column : ℕ) (key : ℕ → ℕ) → TellsValues tables entry column key
         → ListsStandFor (column_lists tables accuracy entry column) tables entry key }
     ensures counts { (tables : Tables) (entry : ℕ) → CountsStandFor (entry_counts tables entry) tables entry }
-    // the same where the joined values are not of the table, but stand beside its rows
+    // the joined values may also be ones that aren't of the table, but stand beside its rows
     ensures beside { (tables : Tables) (accuracy entry : ℕ) (joined : List Value) (key : ℕ → ℕ)
         → length joined ≡ row_counts tables entry → TellsListed joined key
         → ListsStandFor (lists_over accuracy (column_values tables entry) joined) tables entry key }
 {}
 
-/// Each list falls and sums to its number of rows, which is the same for every joined column.
+/// Each list falls, and sums to the number of rows for the same condition. So all joined columns have the same sums.
 pub fn lists_sum_to_counts()
     ensures sums { (tables : Tables) (accuracy entry column : ℕ)
         → SumTo (column_lists tables accuracy entry column) (entry_counts tables entry) }
@@ -38,13 +38,13 @@ pub fn lists_sum_to_counts()
         → ListsFall (lists_over accuracy (column_values tables entry) joined) }
 {}
 
-/// Values have keys: numbers for the rows of all tables in all columns, that are equal exactly where the values are.
+/// Keys exist: a number for each row of each table in each column, and two keys are equal exactly if the values are.
 pub fn tables_have_keys()
     ensures { (tables : Tables) → (key : Keys) × ((entry column : ℕ) → TellsValues tables entry column (key entry column))
         × ((es : List Edge) → AreKeys tables key es) }
 {}
 
-/// Columns of cells have the same lists as the values that they stand for, where no two texts of the pool have the same characters.
+/// Columns of cells have the same lists as the values for which the cells stand, if no two texts of the pool have the same characters.
 pub fn cells_have_the_same_lists()
     ensures whole { (db : Database) (joined : ColumnRef) (accuracy : ℕ)
         → AreTables db → HaveDifferentCharacters db.pool → IsColumnOf db joined

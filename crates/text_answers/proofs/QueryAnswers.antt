@@ -1,4 +1,4 @@
--- The answer that is computed of a query text is the one that the relation allows.
+-- The computed answer to a query text is the only one that the contract of `read_query` allows, apart from a lack of memory.
 use Rattle.std.proofs.Common.{◌≡◌, ◌≢◌, ◌⊎◌, inl, inr, ℕ, ◌≤◌, Bool, true, false, cond, nat_lt, List, [], ◌∷◌, ◌++◌, length, Result, Ok, Err, refl, subst}
 use Rattle.std.proofs.lemmas.Bool.{ltb-true, ltb-false}
 use Rattle.std.specs.Bool.{⊤}
@@ -34,7 +34,7 @@ trees_told : (text_len : ℕ) (tokens : List Lexeme) → IsSpelling QuerySpecifi
 unfolding syntax_tree_of
 trees_told text_len tokens = is_spelling reads_queries tokens text_len
 
--- ---- the answer is allowed
+-- ---- the computed answer is allowed
 
 module _ (schema : Schema) (text : List ℕ) where
   spelled_allowed : (tokens : List Token) (tree : Result QueryNode ℕ) → IsLexed text tokens → nesting (lexemes_of text tokens) ≤ most_nesting → IsSpelling QuerySpecification (lexemes_of text tokens) (length text) tree
@@ -59,9 +59,8 @@ module _ (schema : Schema) (text : List ℕ) where
   unfolding query_answer
   allowed = lexed_allowed (tokens_of text) (are_told text)
 
--- ---- it is no want of memory
+-- ---- the computed answer isn't a lack of memory
 
--- the first refusal of a list, where there is one, is none
 abbrev BeginsWell : List QueryError → Type 0
 BeginsWell [] = ⊤
 BeginsWell (wrong ∷ rest) = wrong ≢ error.NoMemory
@@ -137,7 +136,7 @@ module _ (schema : Schema) (text : List ℕ) where
   unfolding query_answer
   never_memory = lexed_not_memory (tokens_of text)
 
--- ---- and the only one
+-- ---- no other answer is allowed
 
 pub only : (schema : Schema) (text : List ℕ) (answer : Result Query QueryError) → IsAnswer schema text answer → (answer ≡ Err error.NoMemory) ⊎ (answer ≡ query_answer schema text)
 only schema text answer is = by (one_answer schema text answer (query_answer schema text) is (allowed schema text)) where

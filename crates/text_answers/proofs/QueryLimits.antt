@@ -1,4 +1,4 @@
--- A query that a text is answered with keeps the limits.
+-- If a query text is answered by a query, the query keeps the limits.
 use Rattle.std.proofs.Common.{◌≡◌, inl, inr, ℕ, ◌≤◌, List, [], ◌∷◌, ◌++◌, length, Ok, Err, subst}
 use Rattle.limits.specs.Profile.{most_conjuncts, most_entries, most_outputs}
 use Rattle.query_grammar.specs.declared.tree.QueryNode.{QueryNode}
@@ -17,7 +17,7 @@ use Rattle.sql_parse.proofs.BindFacts.{not_over}
 use Rattle.text_answers.specs.QueryTexts.{query_answer}
 use Rattle.text_answers.proofs.QueryAnswers.{allowed}
 
--- ---- of what is wrong with a query of a tree nothing is
+-- ---- a query that is made from a syntax tree keeps the limits, since the tree has no offence against them
 
 pub record KeepsLimits (query : Query) : Type 0 where
   pub conjuncts : length query.conjuncts ≤ most_conjuncts
@@ -44,7 +44,6 @@ bound_keeps schema text tree query is =
     let parts : (refusals schema text tree ≡ []) × (made ≡ query) = unless_ok (refusals schema text tree) made query is in
     subst KeepsLimits parts.1 (kept made (long_lists (entries schema text tree) tree) (none_behind (names ++ kinds) limits parts.0))
 
--- every query that the relation allows
 pub answer_keeps : (schema : Schema) (text : List ℕ) (query : Query) → IsAnswer schema text (Ok query) → KeepsLimits query
 answer_keeps schema text query (inl memory) = absurd cc
 answer_keeps schema text query (inr (inl unlexed)) = absurd (let is = unlexed.refused in cc)
@@ -54,6 +53,5 @@ answer_keeps schema text query (inr (inr (inr (inr spelled)))) =
     bound_keeps schema text spelled.tree query
     (unless_number_ok (number_offences text (lexemes_of text spelled.tokens)) (query_or_refusal schema text spelled.tree) query spelled.answered)
 
--- and so the one that is computed
 pub text_keeps : (schema : Schema) (text : List ℕ) (query : Query) → query_answer schema text ≡ Ok query → KeepsLimits query
 text_keeps schema text query is = answer_keeps schema text query (subst (IsAnswer schema text) is (allowed schema text))

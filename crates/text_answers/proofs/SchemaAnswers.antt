@@ -1,4 +1,4 @@
--- The answer that is computed of a schema text is the one that the relation allows.
+-- The computed answer to a schema text is the only one that the contract of `read_schema` allows, apart from a lack of memory.
 use Rattle.std.proofs.Common.{◌≡◌, ◌≢◌, ◌⊎◌, inl, inr, ℕ, List, [], ◌∷◌, map, length, Option, Some, None, Result, Ok, Err, refl, subst}
 use Rattle.std.specs.Bool.{⊤}
 use Rattle.schema_grammar.specs.declared.tree.TableNode.{TableNode}
@@ -24,7 +24,7 @@ use Rattle.text_answers.specs.SchemaTexts.{syntax, tables_of, schema_answer}
 use Rattle.text_answers.proofs.Tokens.{AreTold, are_told}
 use Rattle.text_answers.proofs.Spellings.{IsSpelling, is_spelling}
 
--- ---- what tables declare is a schema, or a refusal of their names, their nullability or their limits
+-- ---- the tables of a text give a schema, or a refusal for names, for nullable columns or for limits
 
 abbrev IsDeclared : Result Schema SchemaError → Type 0
 IsDeclared (Ok schema) = ⊤
@@ -51,7 +51,7 @@ bound_declared text tables =
     unless_declared (first (offences text tables)) (λ at. error.Name at) _ (λ n. tt)
     (unless_declared (first (nullable_places text tables)) (λ at. error.Nullable at) _ (λ n. tt) (within_declared text tables _ tt))
 
--- ---- the answer is allowed
+-- ---- the computed answer is allowed
 
 declared_allowed : (text : List ℕ) (tables : List TableNode) (answer : Result Schema SchemaError) → Spells text tables → schema_or_refusal text tables ≡ answer → IsDeclared answer → IsSchemaOf text answer
 declared_allowed text tables (Ok schema) spells e is = record { tables = tables; spells = spells; answers = e }
@@ -78,7 +78,7 @@ pub allowed : (text : List ℕ) → IsSchemaOf text (schema_answer text)
 unfolding schema_answer
 allowed text = lexed_allowed text (tokens_of text) (are_told text)
 
--- ---- it is no want of memory
+-- ---- the computed answer isn't a lack of memory
 
 not_memory : (answer : Result Schema SchemaError) → IsDeclared answer → answer ≢ Err error.NoMemory
 not_memory answer is e = subst IsDeclared e is
@@ -95,7 +95,7 @@ pub never_memory : (text : List ℕ) → schema_answer text ≢ Err error.NoMemo
 unfolding schema_answer
 never_memory text = lexed_not_memory text (tokens_of text)
 
--- ---- and the only one
+-- ---- no other answer is allowed
 
 wants_memory : (answer : Result Schema SchemaError) → (answer ≡ Err error.NoMemory) ⊎ (answer ≢ Err error.NoMemory)
 wants_memory (Ok schema) = inr (λ e. cc)

@@ -1,4 +1,4 @@
--- The answers of small query texts, by computation.
+-- The answers to small query texts are computed.
 use Rattle.std.proofs.Common.{◌≡◌, [], ◌∷◌, ◌++◌, Some, None, Ok, Err, refl, ap, ◌∙◌}
 use Rattle.std.specs.Prelude.{codes}
 use Rattle.std.specs.Str.{chars, is_utf8}
@@ -35,7 +35,7 @@ use Rattle.query_names.specs.Values.{Meaning}
 use Rattle.sql_parse.proofs.KindFacts.{means_test}
 use Rattle.query_names.proofs.TestFacts.{tests_test}
 
--- SELECT X FROM R WHERE, and a test
+-- this is the tree of SELECT X FROM R WHERE and a test
 abbrev x_where : TestNode → QueryNode
 x_where t = record {
   outs = outs.Listed (out.Column (record { table = None; column = token terminal.Name 7 8 }) None ∷ []);
@@ -43,7 +43,7 @@ x_where t = record {
   filter = Some (cond.Test t);
 }
 
--- X = and a literal, from byte 22 on
+-- X is byte 22 of the text
 abbrev x_is : LiteralNode → TestNode
 x_is l = test.Compare (operand.Column (record { table = None; column = token terminal.Name 22 23 })) op.Eq (operand.Literal l)
 

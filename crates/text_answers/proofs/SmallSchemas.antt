@@ -1,4 +1,4 @@
--- The answers of small schema texts, by computation.
+-- The answers to small schema texts are computed.
 use Rattle.std.proofs.Common.{◌≡◌, [], ◌∷◌, Ok, Err, refl}
 use Rattle.std.specs.Prelude.{codes}
 use Rattle.std.specs.Str.{chars, is_utf8}

@@ -1,4 +1,5 @@
--- What a parser that reads a language computes of a whole list of tokens is what the language says of it.
+-- If a parser reads a language, its result for a whole token list is right: the list spells the value that is
+-- returned, or the text goes wrong at the place that is returned.
 use Rattle.std.proofs.Common.{◌≡◌, ℕ, List, [], ◌∷◌, Option, Some, None, Result, Ok, Err, refl}
 use Rattle.ll_grammars.specs.declared.lexeme.Lexeme.{Lexeme}
 use Rattle.ll_grammars.specs.Language.{Language}
@@ -9,7 +10,6 @@ use Rattle.ll_grammars.specs.Rules.{place}
 use Rattle.ll_grammars.proofs.Ends.{spelled, wrong_after, wrong_at}
 use Rattle.text_answers.specs.Stages.{to_the_end, parsed}
 
--- the tokens spell the value, or they go wrong at the place
 abbrev pub IsSpelling : {A : Type 0} → Language A → List Lexeme → ℕ → Result A ℕ → Type 0
 IsSpelling L tokens text_len (Ok value) = L tokens value
 IsSpelling L tokens text_len (Err at) = IsSyntaxPlace L tokens text_len at

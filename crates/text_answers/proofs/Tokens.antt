@@ -1,4 +1,4 @@
--- The tokens that are computed are those of the relation, and so is the place at which a text goes wrong.
+-- The computed tokens of a text are those of the relation, and so is the computed place at which a text goes wrong.
 use Rattle.std.proofs.Common.{◌≡◌, ℕ, ◌-◌, Bool, true, false, cond, List, length, take, drop, Result, Ok, Err, refl, sym, ap, ◌∙◌, inl}
 use Rattle.std.proofs.lemmas.Bool.{false≢true}
 use Rattle.std.proofs.lemmas.List.{take_rest}
@@ -12,12 +12,10 @@ use Rattle.sql_tokens.specs.Pieces.{Walked, tokens_at}
 use Rattle.sql_tokens.proofs.WholeTexts.{gave_lexed, gave_refused}
 use Rattle.text_answers.specs.Stages.{tokens_of}
 
--- what the relation says of the tokens or of the place
 abbrev pub AreTold : List ℕ → Result (List Token) ℕ → Type 0
 AreTold text (Ok tokens) = IsLexed text tokens
 AreTold text (Err at) = IsBad text at
 
--- the walk over the bytes from the mark on, as they are cut from the text
 cut_walk : (text : List ℕ) → tokens_at (mark_len text) (take (length text - mark_len text) (drop (mark_len text) text)) ≡ tokens_at (mark_len text) (drop (mark_len text) text)
 cut_walk text = ap (tokens_at (mark_len text)) (take_rest text (mark_len text))
 

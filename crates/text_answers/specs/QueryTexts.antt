@@ -1,5 +1,5 @@
--- The one answer of a query text over a schema, by computation: its tokens, how deep they are nested, the syntax tree that
--- they spell, and what that gives.
+-- The answer to a query text over a schema, as a function of the text. It is computed from the text's tokens, the depth of their nesting and the
+-- syntax tree that they spell.
 use Rattle.std.specs.Prelude.{ℕ, nat_lt, if◌then◌else◌, List, length, Result, Ok, Err}
 use Rattle.ll_grammars.specs.declared.lexeme.Lexeme.{Lexeme}
 use Rattle.query_grammar.specs.declared.tree.QueryNode.{QueryNode}
@@ -18,22 +18,23 @@ use Rattle.text_answers.specs.Stages.{after, tokens_of, parsed}
 abbrev pub syntax : ℕ → QueryError
 syntax at = error.Syntax at
 
--- the syntax tree that the tokens of a text of so many bytes spell
+-- the syntax tree that the tokens of a text of `text_len` bytes spell
 unfoldable pub syntax_tree_of : ℕ → List Lexeme → Result QueryNode ℕ
 syntax_tree_of text_len tokens = parsed (read_query read_condition) text_len tokens
 
 module _ (schema : Schema) (text : List ℕ) where
-  -- tokens that spell a tree, or go wrong at a place: a number outside the range is refused where it is the first offence
+  -- the answer to tokens that spell a tree or go wrong at a place. A number outside the range is an offence against syntax too; the first offence is
+  -- refused
   abbrev pub spelled_answer : List Lexeme → Result QueryNode ℕ → Result Query QueryError
   spelled_answer tokens (Ok tree) = unless_number (number_offences text tokens) (query_or_refusal schema text tree)
   spelled_answer tokens (Err at) = Err (error.Syntax (least at (number_offences text tokens)))
 
-  -- the limit on nesting comes before the grammar
+  -- the limit on nesting is tested before the grammar
   unfoldable pub nested_answer : List Lexeme → Result Query QueryError
   nested_answer tokens =
       if nat_lt most_nesting (nesting tokens) then Err (refusal limit.Nesting (nesting tokens))
       else spelled_answer tokens (syntax_tree_of (length text) tokens)
 
-  -- the query of a text, or its first refusal: Syntax of tokens, the limit on nesting, Syntax, then Name, Kind and Limit
+  -- the query of a text, or its first refusal, tested in this order: Syntax of tokens, nesting, Syntax of the grammar, then Name, Kind and Limit
   unfoldable pub query_answer : Result Query QueryError
   query_answer = after syntax (tokens_of text) (λ tokens. nested_answer (lexemes_of text tokens))

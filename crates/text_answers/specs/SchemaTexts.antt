@@ -1,4 +1,4 @@
--- The one answer of a schema text, by computation: its tokens, the tables that they spell, and what these declare.
+-- The answer to a schema text, as a function of the text. It is computed from the text's tokens and the tables that they spell.
 use Rattle.std.specs.Prelude.{ℕ, List, map, length, Result}
 use Rattle.schema_grammar.specs.declared.tree.TableNode.{TableNode}
 use Rattle.schema_grammar.specs.Readers.{read_all_tables}
@@ -17,6 +17,6 @@ syntax at = error.Syntax at
 unfoldable pub tables_of : List ℕ → List Token → Result (List TableNode) ℕ
 tables_of text tokens = parsed read_all_tables (length text) (map (lexeme_of text) tokens)
 
--- the schema of a text, or its first refusal: Syntax, then Name, Nullable and Limit
+-- the schema of a text, or its first refusal, tested in this order: Syntax, Name, Nullable, Limit
 unfoldable pub schema_answer : List ℕ → Result Schema SchemaError
 schema_answer text = after syntax (tokens_of text) (λ tokens. after syntax (tables_of text tokens) (schema_or_refusal text))

@@ -1,4 +1,4 @@
--- What small texts mean.
+-- The schema and the query that small texts spell.
 use Rattle.std.specs.Prelude.{[], ◌∷◌, codes, pos}
 use Rattle.query_grammar.specs.declared.tree.Op.TheVariants as op
 use Rattle.schema_types.specs.declared.types.Kind.TheVariants as kind

@@ -1,5 +1,5 @@
--- The stages that schema and query texts share: the tokens of a text, and what a list of tokens spells. Each gives a value,
--- or the place at which the text goes wrong.
+-- The stages that schema texts and query texts share: the tokens of a text, and what a token list spells. Each stage gives a value, or the place at
+-- which the text goes wrong.
 use Rattle.std.specs.Prelude.{ℕ, if◌then◌else◌, List, [], ◌∷◌, drop, Option, Some, None, Result, Ok, Err}
 use Rattle.std.specs.Str.{is_utf8}
 use Rattle.std.specs.Str.Lossy.{utf8_valid_len}
@@ -10,16 +10,16 @@ use Rattle.sql_tokens.specs.declared.token.Token.{Token}
 use Rattle.sql_tokens.specs.Lexing.{mark_len}
 use Rattle.sql_tokens.specs.Pieces.{tokens_at}
 
--- a stage's value goes on to the rest; its place is refused
+-- if a stage gives a value, the rest goes on with it; if it gives a place, the text is refused there
 abbrev pub after : {A B E : Type 0} → (ℕ → E) → Result A ℕ → (A → Result B E) → Result B E
 after wrong (Ok value) rest = rest value
 after wrong (Err at) rest = Err (wrong at)
 
--- the tokens behind the byte order mark; a text that is no UTF-8 goes wrong at its first bad sequence, whatever else it holds
+-- the tokens after the byte order mark; a text that isn't UTF-8 goes wrong at its first bad sequence, whatever else is wrong with it
 unfoldable pub tokens_of : List ℕ → Result (List Token) ℕ
 tokens_of text = if is_utf8 text then tokens_at (mark_len text) (drop (mark_len text) text) else Err (utf8_valid_len text)
 
--- a value counts where no token is left behind it; else the tokens go wrong where reading stopped
+-- a parser's value counts if no token is left after it; otherwise the text goes wrong where the parser stopped
 abbrev pub to_the_end : {A : Type 0} → ℕ → Option A → List Lexeme → Result A ℕ
 to_the_end text_len None rest = Err (place rest text_len)
 to_the_end text_len (Some value) [] = Ok value
@@ -28,6 +28,6 @@ to_the_end text_len (Some value) (token ∷ rest) = Err token.start
 abbrev pub whole : {A : Type 0} → ℕ → Answer A → Result A ℕ
 whole text_len answer = to_the_end text_len answer.0 answer.1
 
--- what a parser reads of all the tokens of a text of so many bytes
+-- what a parser reads from all tokens of a text of `text_len` bytes
 abbrev pub parsed : {A : Type 0} → Parser A → ℕ → List Lexeme → Result A ℕ
 parsed parser text_len tokens = whole text_len (parser tokens)

@@ -1,4 +1,4 @@
-//! The answers of small texts.
+//! The answers to small texts.
 ghost use Rattle.std.specs.Prelude.{◌≡◌, Ok, Err, [], ◌∷◌, codes};
 ghost use Rattle.schema_types.specs.declared.errors.LimitKind.TheVariants as limit;
 ghost use Rattle.schema_types.specs.declared.errors.SchemaError.TheVariants as schema_error;
@@ -7,7 +7,7 @@ ghost use Rattle.text_answers.specs.SmallTexts.{one_column, ones};
 ghost use Rattle.text_answers.specs.SchemaTexts.{schema_answer};
 ghost use Rattle.text_answers.specs.QueryTexts.{query_answer};
 
-/// What small schema texts answer. Names come before nullability, and that before limits.
+/// The answers to small schema texts. Names are tested before nullable columns, and these before limits.
 pub fn small_schemas()
     ensures whole { schema_answer (codes "CREATE TABLE R (X INTEGER NOT NULL);") ≡ Ok one_column }
     ensures bad_byte { schema_answer (239 ∷ 187 ∷ 191 ∷ 255 ∷ []) ≡ Err (schema_error.Syntax 3) }
@@ -19,9 +19,8 @@ pub fn small_schemas()
         ≡ Err (schema_error.Limit limit.TextLength 1000001) }
 {}
 
-/// What small query texts answer over the schema of one column. A number outside the range comes before an
-/// offence against the grammar behind it, FROM comes before the outputs, and a column alone has to be that of
-/// one entry.
+/// The answers to small query texts over a schema with one column. If a number is outside the range and an offence against the grammar comes after it,
+/// the number is refused. FROM is tested before the outputs. A column without an alias must be that of exactly one entry.
 pub fn small_queries()
     ensures whole { query_answer one_column (codes "SELECT X FROM R WHERE X = 1") ≡ Ok ones }
     ensures other_kind { query_answer one_column (codes "SELECT X FROM R WHERE X = 'a'") ≡ Err (query_error.Kind 26) }

@@ -1,4 +1,4 @@
-//! Laws of the answers of texts. None of them does anything when it runs.
+//! Laws of the answers to texts. The functions do nothing when they run.
 ghost use Rattle.std.specs.Prelude.{◌≡◌, ◌≢◌, ◌≤◌, ◌⊎◌, ℕ, List, length, Result, Ok, Err};
 ghost use Rattle.limits.specs.Profile.{most_conjuncts, most_outputs};
 ghost use Rattle.schema_types.specs.declared.errors.SchemaError.{SchemaError};
@@ -14,8 +14,7 @@ ghost use Rattle.sql_parse.specs.Reading.{IsAnswer};
 ghost use Rattle.text_answers.specs.SchemaTexts.{schema_answer};
 ghost use Rattle.text_answers.specs.QueryTexts.{query_answer};
 
-/// A schema text has one answer, `schema_answer`, besides that memory is wanting; and a schema that is
-/// answered is valid.
+/// A schema text has exactly one answer, `schema_answer`, apart from a lack of memory. A schema that is the answer is valid.
 pub fn schema_texts()
     ensures allowed { (text : List ℕ) → IsSchemaOf text (schema_answer text) }
     ensures only { (text : List ℕ) (answer : Result Schema SchemaError) → IsSchemaOf text answer
@@ -24,8 +23,7 @@ pub fn schema_texts()
     ensures valid { (text : List ℕ) (schema : Schema) → schema_answer text ≡ Ok schema → IsValid schema }
 {}
 
-/// A query text has one answer over a schema, `query_answer`, besides that memory is wanting; and a query
-/// that is answered is one of the schema.
+/// A query text has exactly one answer over a schema, `query_answer`, apart from a lack of memory. A query that is the answer is one over the schema.
 pub fn query_texts()
     ensures allowed { (schema : Schema) (text : List ℕ) → IsAnswer schema text (query_answer schema text) }
     ensures only { (schema : Schema) (text : List ℕ) (answer : Result Query QueryError) → IsAnswer schema text answer
@@ -34,8 +32,7 @@ pub fn query_texts()
     ensures of_schema { (schema : Schema) (text : List ℕ) (query : Query) → query_answer schema text ≡ Ok query → IsOf schema query }
 {}
 
-/// The limits of query texts are facts of queries: one that is answered has at most 256 conjuncts and 1,024 outputs, and
-/// so has one that is read.
+/// A query that is computed as an answer has at most 256 conjuncts and 1,024 outputs, and so has each query that the contract of `read_query` allows.
 pub fn query_limits()
     ensures few_conjuncts { (schema : Schema) (text : List ℕ) (query : Query) → query_answer schema text ≡ Ok query
         → length query.conjuncts ≤ most_conjuncts }

@@ -1,4 +1,4 @@
-//! What a schema text and a query text answer, as functions of the text.
+//! The answers to a schema text and to a query text, as functions of the text.
 //!
 //! The contracts of `read_schema` and `read_query` are relations between a text and its answer. They leave open only
 //! whether a call runs out of memory. `schema_answer` (in `specs/SchemaTexts.antt`) and `query_answer` (in

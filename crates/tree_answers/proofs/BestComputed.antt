@@ -10,7 +10,7 @@ use Rattle.bushy_plan.proofs.SomeBest.{some_best}
 use Rattle.tree_answers.specs.AllTrees.{all_trees, best_tree, is_before, is_no_worse, is_same}
 use Rattle.tree_answers.proofs.Listed.{at_tree, listed_are_trees}
 
--- ---- the tests of two trees
+-- ---- tests that compare two trees
 
 told_same : (a b : PlanTree) → is_same a b ≡ true → a ≡ b
 told_same (leaf a) (leaf b) h = ap leaf (eqb-true a b h)
@@ -83,7 +83,7 @@ tells c d s t behind cheaper smaller earlier = elim (cases_lt c d) [
       ]))
 ]
 
--- ---- the first that passes a test
+-- ---- the first tree that passes a test
 
 record IsFirst (P : PlanTree → Type 0) (test : PlanTree → Bool) (xs : List PlanTree) (x : PlanTree) : Type 0 where
   found : find test xs ≡ Some x

@@ -1,4 +1,4 @@
--- The list of all trees has each tree over the entries and nothing else.
+-- The list of all trees has each tree over the entries, and no other trees.
 use Rattle.std.proofs.Common.{◌≡◌, ℕ, zero, suc, ◌+◌, ◌-◌, ◌^◌, ◌<◌, map, refl, sym, subst, arith, inl, inr}
 use Rattle.std.specs.List.{AllByRecursion as Each}
 use Rattle.std.proofs.lemmas.Nat.{pow_pos}
@@ -10,7 +10,7 @@ use Rattle.bushy_plan.proofs.AllTrees.{IsWith, only_last, without_last}
 use Rattle.bushy_plan.proofs.SomeBest.{with_over}
 use Rattle.tree_answers.specs.AllTrees.{all_trees, trees_with}
 
--- ---- nothing else
+-- ---- each tree of the list is a tree over the entries
 
 listed_with : (last : ℕ) (rest : PlanTree) → Each (IsWith last rest) (trees_with last rest)
 listed_with last (leaf entry) = (refl, tt)
@@ -39,7 +39,7 @@ listed_are_trees (suc (suc n)) =
         (λ tree is_with. subst (λ (k : ℕ). IsTreeOver k tree) whole (with_over (all_of (suc n)) (suc n) rest tree (omega (arith, pow_pos (suc n))) over is_with))
         (trees_with (suc n) rest) (listed_with (suc n) rest)
 
--- ---- what is true of each that is listed is true of each that there is
+-- ---- a property of each tree in the list is one of each tree over the entries
 
 at_with : (last : ℕ) (Q : PlanTree → Type 0) (rest tree : PlanTree) → IsWith last rest tree → Each Q (trees_with last rest) → Q tree
 at_with last Q (leaf entry) tree is_with h = subst Q (sym is_with) h.0

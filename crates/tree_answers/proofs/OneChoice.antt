@@ -1,4 +1,4 @@
--- A choice has one answer besides that memory is wanting, and it is the one that is computed.
+-- The contract of `choose_bushy` allows exactly one answer, the computed one, apart from a lack of memory.
 use Rattle.std.proofs.Common.{◌≡◌, ℕ, ◌-◌, ◌^◌, ◌<◌, ◌≤◌, List, length, Ok, Err, Result, refl, ap, sym, ◌∙◌, arith, inl, inr}
 use Rattle.std.specs.Prelude.{◌⊎◌, ◌≢◌}
 use Rattle.std.proofs.lemmas.Bool.{cases_lt, le-ltb, lt-ltb}
@@ -19,7 +19,7 @@ pub only_best : (bounds : List ℕ) (n : ℕ) (tree : PlanTree) → 0 < n → Is
 only_best bounds n tree some is = one_best bounds n tree (best_tree bounds n) is (best_computed bounds n some)
 
 module _ (bounds scans : List ℕ) (budget : ℕ) where
-  -- ---- the three cases
+  -- ---- the three cases of the answer
 
   past : (tree : PlanTree) → 2 ^ 128 - 2 < cost bounds tree → answer_over bounds scans budget tree ≡ Err error.PastBits
   past tree above = rw (lt-ltb (2 ^ 128 - 2) (cost bounds tree) above) refl
@@ -30,7 +30,7 @@ module _ (bounds scans : List ℕ) (budget : ℕ) where
   fits : (tree : PlanTree) → cost bounds tree ≤ 2 ^ 128 - 2 → cost bounds tree ≤ budget → answer_over bounds scans budget tree ≡ Ok (plan_over bounds scans tree)
   fits tree is_told within = rw (le-ltb (2 ^ 128 - 2) (cost bounds tree) is_told, le-ltb budget (cost bounds tree) within) refl
 
-  -- ---- the answer is promised
+  -- ---- the computed answer is allowed
 
   of_best : (tree : PlanTree) → IsBest bounds (length scans) tree → AreOfBest bounds (length scans) (cost bounds tree) (joins_from bounds (length scans) tree)
   of_best tree is = record { tree = tree; is_best = is; are_its = refl; is_its = refl }
@@ -54,7 +54,7 @@ module _ (bounds scans : List ℕ) (budget : ℕ) where
   unfolding tree_answer
   allowed some few = along (best_tree bounds (length scans)) few (best_computed bounds (length scans) (omega arith))
 
-  -- ---- and no other
+  -- ---- no other answer is allowed
 
   same_plan : (plan : BushyPlan) (tree : PlanTree) → plan.joins ≡ joins_from bounds (length scans) tree → plan.cost ≡ cost bounds tree → plan.scans ≡ scans → plan ≡ plan_over bounds scans tree
   same_plan plan tree has_joins has_cost has_scans = rw (sym has_joins, sym has_cost, sym has_scans) refl

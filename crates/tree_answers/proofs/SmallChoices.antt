@@ -1,4 +1,4 @@
--- The answers of small choices, by computation.
+-- The answers of small choices are computed.
 use Rattle.std.proofs.Common.{◌≡◌, ◌^◌, ◌-◌, [], ◌∷◌, Ok, Err, refl}
 use Rattle.order_search.specs.declared.refusal.PlanError.TheVariants as error
 use Rattle.tree_plans.specs.Examples.{join, plan_of}

@@ -1,10 +1,10 @@
--- The best join tree, by computation: of all trees the first that is no worse than any.
+-- The best join tree, by computation: the first tree in the list of all trees that is no worse than any other.
 use Rattle.std.specs.Prelude.{ℕ, zero, suc, Bool, false, not, ◌&&◌, ◌||◌, ◌==◌, nat_lt, List, [], ◌∷◌, ◌++◌, map, find, flat_map, unwrap_or}
 use Rattle.std.specs.List.{list_all}
 use Rattle.bushy_plan.specs.BestTree.{cost, total}
 use Rattle.bushy_plan.specs.PlanTrees.{PlanTree, leaf, node, leaf_set}
 
--- the trees that have one more entry, the last, beside one of the nodes
+-- the trees that join the leaf `last` with one of the nodes of a tree
 abbrev pub trees_with : ℕ → PlanTree → List PlanTree
 trees_with last (leaf entry) = node (leaf entry) (leaf last) ∷ []
 trees_with last (node left right) =
@@ -23,7 +23,7 @@ is_same (leaf a) (node left right) = false
 is_same (node left right) (leaf b) = false
 is_same (node left right) (node left' right') = is_same left left' && is_same right right'
 
--- the test of `IsBefore`
+-- computes whether one tree is before another in the order `IsBefore`
 abbrev pub is_before : PlanTree → PlanTree → Bool
 is_before (leaf a) other = false
 is_before (node left right) (leaf b) = false
@@ -31,7 +31,8 @@ is_before (node left right) (node left' right') =
     nat_lt (leaf_set left) (leaf_set left')
     || ((leaf_set left == leaf_set left') && (is_before left left' || (is_same left left' && is_before right right')))
 
--- The tree costs less than the other; or it costs the same, and its total is less; or that is the same too, and the other isn't before it
+-- a tree is no worse than another if it costs less. If both cost the same, the tree with the smaller total is better. If the totals are the same too,
+-- it is no worse if the other tree isn't before it
 abbrev pub is_no_worse : List ℕ → PlanTree → PlanTree → Bool
 is_no_worse bounds tree other =
     nat_lt (cost bounds tree) (cost bounds other)
@@ -39,6 +40,6 @@ is_no_worse bounds tree other =
     && (nat_lt (total bounds tree) (total bounds other)
     || ((total bounds tree == total bounds other) && not (is_before other tree))))
 
--- the tree that is no worse than any
+-- the first tree that is no worse than any other
 unfoldable pub best_tree : List ℕ → ℕ → PlanTree
 best_tree bounds n = unwrap_or (find (λ tree. list_all (λ other. is_no_worse bounds tree other) (all_trees n)) (all_trees n)) (leaf 0)

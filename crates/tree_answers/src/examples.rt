@@ -7,8 +7,8 @@ ghost use Rattle.bushy_plan.specs.PlanTrees.{leaf, node};
 ghost use Rattle.tree_answers.specs.AllTrees.{all_trees, best_tree, is_before};
 ghost use Rattle.tree_answers.specs.TreeAnswer.{tree_answer};
 
-/// What choices among one, two and three entries answer. Where three trees cost and sum the same, the one whose left set has the least
-/// number is best.
+/// The answers of choices among one, two and three entries. If three trees have the same cost and the same total, the best one is the tree whose left
+/// set has the least number.
 pub fn small_choices()
     ensures trees { all_trees 3 ≡ node (node (leaf 0) (leaf 1)) (leaf 2) ∷ node (node (leaf 0) (leaf 2)) (leaf 1) ∷ node (leaf 0) (node (leaf 1) (leaf 2)) ∷ [] }
     ensures by_left { is_before (node (leaf 0) (node (leaf 1) (leaf 2))) (node (node (leaf 0) (leaf 1)) (leaf 2)) ≡ true }

@@ -1,4 +1,4 @@
-//! Laws of the answers of choices among join trees. None of them does anything when it runs.
+//! Laws of the answers of choices among join trees. The functions do nothing when they run.
 ghost use Rattle.std.specs.Prelude.{◌≡◌, ◌≢◌, ◌≤◌, ◌⊎◌, ℕ, List, length, Result, Ok, Err};
 ghost use Rattle.limits.specs.Profile.{greatest_budget, most_entries};
 ghost use Rattle.order_search.specs.declared.refusal.PlanError.{PlanError};
@@ -11,14 +11,14 @@ ghost use Rattle.tree_answers.specs.AllTrees.{best_tree};
 ghost use Rattle.tree_answers.specs.Promised.{IsPromised};
 ghost use Rattle.tree_answers.specs.TreeAnswer.{tree_answer};
 
-/// The tree that is computed is the best one.
+/// The computed tree is the best one, and the only best one.
 pub fn best_trees()
     ensures best { (bounds : List ℕ) (n : ℕ) → 1 ≤ n → IsBest bounds n (best_tree bounds n) }
     ensures only { (bounds : List ℕ) (n : ℕ) (tree : PlanTree) → 1 ≤ n → IsBest bounds n tree → tree ≡ best_tree bounds n }
 {}
 
-/// What `choose_bushy` promises is true of one answer, `tree_answer`, besides that memory is wanting. At each of
-/// its exits: a best plan within the budget is the plan, and a refusal with a cause is the refusal.
+/// The contract of `choose_bushy` allows exactly one answer, `tree_answer`, apart from a lack of memory. This is said for each exit too: if the exit
+/// has a best plan within the budget, this is the plan of the answer; if it has a refusal with a cause, this is the refusal of the answer.
 pub fn tree_choices()
     ensures allowed { (bounds scans : List ℕ) (budget : ℕ) → 1 ≤ length scans → length scans ≤ most_entries
         → IsPromised bounds scans budget (tree_answer bounds scans budget) }

@@ -1,4 +1,4 @@
-//! What a choice among join trees answers, as a function of the bounds: to `choose_bushy` what `plan_answers` is to `choose`.
+//! The answer of a choice among join trees, as a function of the bounds. `tree_answers` is to `choose_bushy` what `plan_answers` is to `choose`.
 //!
 //! The contract of `choose_bushy` is a relation between bounds and an answer. It leaves open only whether the call
 //! runs out of memory. `tree_answer` (in `specs/TreeAnswer.antt`) is the answer if it doesn't: the plan of

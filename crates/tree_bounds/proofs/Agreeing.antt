@@ -1,4 +1,5 @@
--- A choice that satisfies all equalities of a set agrees in the trees of those that are kept, and what holds at each named column holds at each column of the trees.
+-- A choice that satisfies all equalities of a set agrees in each tree of the kept equalities. A property of each column that the equalities name is
+-- one of each column of these trees.
 use Rattle.std.proofs.Common.{◌≡◌, ℕ, zero, suc, ◌<◌, ◌≤◌, eqb, List, [], ◌∷◌, ◌++◌, length, take, drop, refl, sym, subst, inl, inr}
 use Rattle.std.specs.List.{AllByRecursion, Contains}
 use Rattle.std.proofs.lemmas.Bool.{cases_Bool}
@@ -20,7 +21,7 @@ use Rattle.tree_bounds.specs.SetBounds.{SetHasLists}
 use Rattle.tree_bounds.specs.Tables.{KeyedTables, key_of, AgreesBelow, AgreesWithin, Agrees, Satisfies, ChoicesAreDifferent, RowsFit, Dominates, TreeDominates, SetDominates}
 use Rattle.tree_bounds.proofs.Injected.{for_each, choices_within_all}
 
--- ---- what holds of a set's equalities holds of those that are kept
+-- ---- a property of each equality of a set is one of each kept equality
 
 module _ (P : Edge → Type 0) where
   of_later : (n : ℕ) (es : List Edge) → AllByRecursion P es → AllByRecursion P (drop n es)
@@ -45,7 +46,7 @@ module _ (P : Edge → Type 0) where
       let of_set : List Edge = equalities_within subset es in
       of_kept (λ x. x) (order_of_turn subset turn es) (append_all P (drop turn of_set) (take turn of_set) (of_later turn of_set h) (of_earlier turn of_set h))
 
--- ---- from the columns that equalities name to the columns of a tree
+-- ---- a property of each column that equalities name is one of each column of a tree
 
 module _ (Q : ℕ → ℕ → Type 0) where
   abbrev AtBoth : Edge → Type 0
@@ -65,7 +66,6 @@ module _ (Q : ℕ → ℕ → Type 0) where
     ]
   ]
 
-  -- in a turn, at each column that a kept equality names
   pub named_in_turn : (subset turn : ℕ) (es : List Edge) → EachNamedColumn Q (equalities_within subset es) → (p : Place) → Contains (places_of (kept_of subset turn es)) p → Q p.entry p.column
   named_in_turn subset turn es h = by_places (kept_of subset turn es) (of_turn AtBoth subset turn es (by_edges (equalities_within subset es) h))
 
@@ -95,7 +95,7 @@ pub for_trees : (Q R : BergeTree → Type 0) → ((t : BergeTree) → Q t → R 
 for_trees Q R f [] h = tt
 for_trees Q R f (t ∷ ts) h = (f t h.0, for_trees Q R f ts h.1)
 
--- ---- a choice for which the equalities hold agrees in their trees
+-- ---- a choice that satisfies equalities agrees in their trees
 
 pub all_left : (Q : ℕ → Type 0) (xs ys : List ℕ) → AllByRecursion Q (xs ++ ys) → AllByRecursion Q xs
 all_left Q [] ys h = tt
@@ -143,9 +143,8 @@ module _ (tables : KeyedTables) (choice : ℕ → ℕ) (es : List Edge)
     agrees_all ts trees.1 (all_right HasRow (entries t) (entries_of_all ts) rows),
   )
 
--- ---- a turn
+-- ---- the trees of a turn
 
--- what holds of all entries of trees holds of their roots
 pub at_roots : (Q : ℕ → Type 0) (ts : List BergeTree) → AllByRecursion Q (entries_of_all ts) → AllByRecursion (λ t. Q t.root) ts
 at_roots Q [] h = tt
 at_roots Q (t ∷ ts) h = (h.0, at_roots Q ts (all_right Q (entries t) (entries_of_all ts) h))
@@ -172,7 +171,6 @@ module _ (b : EntryBounds) (tables : KeyedTables) (es : List Edge) (subset turn 
       (of_turn (λ e. key_of tables choice e.left.entry e.left.column ≡ key_of tables choice e.right.entry e.right.column) subset turn es s.equal)
       ts all.trees (in_trees es subset turn ts all (λ e. choice e < tables.rows e) s.rows)
 
-  -- different choices that satisfy all equalities of the set are no more than the bound of the turn's trees
   pub satisfying_within : SetHasLists b es subset → SetDominates b tables es subset → (cs : List (ℕ → ℕ))
       → AllByRecursion (Satisfies tables (entries_of_set subset) (equalities_within subset es)) cs → ChoicesAreDifferent (entries_of_set subset) cs → length cs ≤ bound_of_trees b ts
   satisfying_within h d cs satisfy differ =

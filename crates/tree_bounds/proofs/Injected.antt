@@ -1,4 +1,4 @@
--- Different choices that agree are different members of the list of all choices, so that they are no more than it has.
+-- Different choices that agree in a tree are different members of the list of all its choices, so there are at most as many as the list has.
 use Rattle.std.proofs.Common.{◌≡◌, ◌≢◌, ℕ, zero, suc, ◌+◌, ◌<◌, ◌≤◌, true, false, cond, eqb, List, [], ◌∷◌, ◌++◌, length, get_or, map, refl, ap, sym, ◌∙◌, subst, arith, ◌⊎◌, inl, inr, nat_eq}
 use Rattle.std.specs.List.{AllByRecursion, Contains, IsDistinct, flat_map, range_with_len, list_any}
 use Rattle.std.specs.Set.{is_member}
@@ -19,7 +19,6 @@ use Rattle.tree_bounds.proofs.Listed.{length-paired, length-chosen_rows}
 
 -- ---- members of lists of rows
 
--- the rows q stand in the list
 abbrev Stands : List ℕ → List (List ℕ) → Type 0
 Stands q [] = ⊥
 Stands q (x ∷ xs) = (q ≡ x) ⊎ Stands q xs
@@ -56,7 +55,7 @@ stands_with_key n keys below key row rows per_row h is k =
     stands_for_row (λ row. cond (eqb (get_or keys row 0) key) (with_row row (below row)) []) (row ∷ rows) (length keys) 0 row (omega arith) (omega arith)
     (rw (eq-eqb (get_or keys row 0) key is) (stands_mapped (λ (rows : List ℕ). row ∷ rows) rows (below row) k))
 
--- ---- a choice that agrees is listed
+-- ---- a choice that agrees in the tree is in the list
 
 module _ (b : EntryBounds) (tables : KeyedTables) (choice : ℕ → ℕ) where
   mutual
@@ -101,7 +100,6 @@ contains_from q (x ∷ xs) h = elim h [
   | inr later ↦ (let k : Contains xs q = contains_from q xs later in (suc k.0, omega (arith, k.1), k.2))
 ]
 
--- the rows of a choice that agrees stand in the list of all
 pub choice_listed : (b : EntryBounds) (tables : KeyedTables) (t : BergeTree) → TreeDominates b tables t → (choice : ℕ → ℕ) → Agrees tables t choice
     → Contains (tree_choices tables t) (map choice (entries t))
 choice_listed b tables t d choice a = contains_from (map choice (entries t)) (tree_choices tables t) (listed b tables choice t d a)
@@ -145,7 +143,6 @@ all_members set (c ∷ cs) xs h q e = elim (cases_Bool (pointwise nat_eq q (map 
   | inr other ↦ all_members set cs xs h.1 q (rw other at e)
 ]
 
--- different choices whose rows stand in a list are no more than the list has
 no_more : (set : List ℕ) (cs : List (ℕ → ℕ)) (xs : List (List ℕ)) → ChoicesAreDifferent set cs → AllByRecursion (λ c. Stands (map c set) xs) cs → length cs ≤ length xs
 no_more set cs xs differ all =
     omega (arith, length-map cs (λ c. map c set), length-le_from_is_member nat_list_eq_equiv (map (λ c. map c set) cs) xs (all_unlike set cs differ) (all_members set cs xs all))
@@ -182,7 +179,6 @@ module _ (b : EntryBounds) (tables : KeyedTables) where
   same_on es [] k x y same = refl
   same_on es (e ∷ set) k x y same = rw (same_there es e k.0 x y same, same_on es set k.1 x y same) refl
 
-  -- choices that differ on a set of entries that stand in the trees
   pub choices_within_all : (ts : List BergeTree) → AllByRecursion (TreeHasLists b) ts → AllByRecursion (TreeDominates b tables) ts → (set : List ℕ) → AllByRecursion (Contains (entries_of_all ts)) set
       → (cs : List (ℕ → ℕ)) → AllByRecursion (λ c. AllByRecursion (λ t. Agrees tables t c) ts) cs → ChoicesAreDifferent set cs → length cs ≤ bound_of_trees b ts
   choices_within_all ts h d set inside cs agree differ =

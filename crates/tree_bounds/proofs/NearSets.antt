@@ -1,4 +1,4 @@
--- Near bounds of entries give a set a near bound, in each turn and over its turns.
+-- If the bounds of entries are near exact ones, the bound of a set is near its exact bound, in each turn and over all turns.
 use Rattle.std.proofs.Common.{◌≡◌, ◌≢◌, ℕ, suc, ◌+◌, ◌-◌, ◌*◌, ◌^◌, ◌<◌, ◌≤◌, true, false, eqb, List, [], ◌∷◌, length, get_or, refl, sym, subst, arith, inl, inr, nat_eq}
 use Rattle.std.specs.List.{AllByRecursion, AllPairs, Contains, IsDistinct, list_any}
 use Rattle.std.specs.Set.{is_member}
@@ -21,7 +21,7 @@ use Rattle.tree_bounds.proofs.Agreeing.{at_roots, have_lists, in_trees, named_in
 use Rattle.tree_bounds.proofs.Nearing.{trees_near}
 use Rattle.tree_bounds.proofs.Turns.{least_to-le, least_to-some, trees_there}
 
--- ---- the trees of a set have as many entries as the set
+-- ---- the trees of a set have as many entries as the set has
 
 not_eqb : (a b : ℕ) → a ≢ b → eqb a b ≡ false
 not_eqb a b differ = elim (cases_Bool (eqb a b)) [ inl same ↦ absurd (differ (eqb-true a b same)) | inr other ↦ other ]
@@ -69,7 +69,7 @@ as_many es subset ts all =
     let back : length set ≤ length (entries_of_all ts) = no_longer set (entries_of_all ts) (below_apart set (AllPairs-from_increasing set (set_increases subset))) all.covers in
     omega arith
 
--- ---- a set
+-- ---- the bound of a set
 
 module _ (accuracy : ℕ) (b exact : EntryBounds) (es : List Edge) (subset : ℕ) (h : SetHasLists b es subset) (k : SetHasLists exact es subset) (near : SetIsNear accuracy b exact es subset) where
   all_near : (turn : ℕ) (ts : List BergeTree) → AllByRecursion (λ t. RowsAreNear accuracy b exact t.root) ts → AllByRecursion (IsTreeOf (kept_of subset turn es)) ts → AllByRecursion (TreeIsNear accuracy b exact) ts

@@ -1,4 +1,4 @@
--- Lists that are near exact ones give trees and sets bounds that are near: each entry brings its factor once.
+-- If lists are near exact ones, the bounds of trees and of sets are near the exact bounds. Each entry adds one factor to the distance.
 use Rattle.std.proofs.Common.{◌≡◌, ℕ, zero, suc, ◌+◌, ◌*◌, ◌^◌, ◌≤◌, List, [], ◌∷◌, ◌++◌, length, map, sum, get_or, refl, ap, sym, ◌∙◌, arith, length-append}
 use Rattle.std.specs.List.{AllByRecursion, range_with_len}
 use Rattle.std.proofs.Math.Nat.{mul-le-mul, pow-succ', pow-zero}
@@ -20,7 +20,7 @@ use Rattle.tree_bounds.proofs.Counted.{children_fall, class_falls}
 power-add : (a m n : ℕ) → a ^ m * a ^ n ≡ a ^ (m + n)
 power-add a m n = sym (pow-add a m n)
 
--- ---- one class after another
+-- ---- the list of an entry with its classes, one class after another
 
 module _ (accuracy : ℕ) (b exact : EntryBounds) where
   abbrev low : ℕ → ℕ
@@ -29,7 +29,6 @@ module _ (accuracy : ℕ) (b exact : EntryBounds) where
   abbrev high : ℕ → ℕ
   high n = (accuracy + 1) ^ n
 
-  -- the classes below an entry as children that are near the exact ones
   abbrev matched : ℕ → Classes → List MatchedChild
   matched entry no_class = []
   matched entry (and_class column members rest) =
@@ -65,7 +64,6 @@ module _ (accuracy : ℕ) (b exact : EntryBounds) where
   columns_fall entry no_class h = tt
   columns_fall entry (and_class column members rest) h = (h.0.falls, columns_fall entry rest h.2)
 
-  -- a list of an entry composed with its classes, where the classes are near
   composed_near : (g f : List ℕ) (entry : ℕ) (cs : Classes) → SumsAreWithin accuracy (accuracy + 1) g f → sum g ≡ b.rows entry → sum f ≡ exact.rows entry
       → EachColumnBelow (HasList b) entry cs → EachColumnBelow (HasList exact) entry cs → AllByRecursion (IsNear accuracy) (matched entry cs)
       → SumsAreWithin (low (suc (length (entries_below cs)))) (high (suc (length (entries_below cs)))) (composed g (child_lists b entry cs)) (composed f (child_lists exact entry cs))
@@ -101,9 +99,9 @@ module _ (accuracy : ℕ) (b exact : EntryBounds) where
         (composed_near (b.list entry column) (exact.list entry column) entry below near.0 h.0.total k.0.total h.1 k.1 (below_near entry below h.1 k.1 near.1))
         (within_near rest h.2 k.2 near.2))
 
-  -- ---- a tree
+  -- ---- the bound of a tree
 
-  -- the root's rows weigh together what one block of them would
+  -- a single block with all of the root's rows has this weight
   root_is : (children : List ChildLists) (n : ℕ) → root_total children n ≡ running_sum (composed (n ∷ []) children) 1
   root_is children n =
       let whole : sum (n ∷ []) ≡ n = omega arith in
@@ -126,7 +124,7 @@ module _ (accuracy : ℕ) (b exact : EntryBounds) where
       rw (root_is (child_lists b t.root t.below) (b.rows t.root), root_is (child_lists exact t.root t.below) (exact.rows t.root))
       (composed_near g f t.root t.below (one_within (b.rows t.root) (exact.rows t.root) near.root) (omega arith) (omega arith) h k (below_near t.root t.below h k near.columns) 1)
 
-  -- ---- several trees
+  -- ---- the bound of several trees
 
   multiplied : (p q x y p' q' x' y' : ℕ) → p * x ≤ q * y → p' * x' ≤ q' * y' → (p * p') * (x * x') ≤ (q * q') * (y * y')
   multiplied p q x y p' q' x' y' h k = omega (arith, mul-le-mul h k, regrouped p x p' x', regrouped q y q' y')

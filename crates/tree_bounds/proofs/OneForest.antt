@@ -1,4 +1,4 @@
--- Equalities have one list of trees over a set of entries.
+-- There is only one list of trees for given equalities over a set of entries.
 use Rattle.std.proofs.Common.{◌≡◌, ◌≢◌, ℕ, Bool, List, [], ◌∷◌, ◌<◌, ◌≤◌, refl, ap, sym, ◌∙◌, subst, arith, inl, inr, Some, None}
 use Rattle.std.specs.Prelude.{⊤, Option}
 use Rattle.std.specs.List.{AllByRecursion, AllPairs, Contains}
@@ -16,7 +16,7 @@ use Rattle.berge_tree.proofs.NoCycle.{has_no_cycle}
 use Rattle.berge_tree.proofs.Separate.{later_above, pairs_tail, entry_in, one_side}
 use Rattle.entry_sets.proofs.Listing.{in_rest, in_front, in_none, each, one_in}
 
--- ---- lists that ascend and have the same members are one
+-- ---- lists that ascend and have the same members are equal
 
 abbrev Ascends : {A : Type 0} → (A → ℕ) → List A → Type 0
 Ascends key [] = ⊤
@@ -61,7 +61,7 @@ ascend_members (one_member entry column below) h = (λ y k. absurd (in_none y k)
 ascend_members (and_member entry column below rest) h =
     (λ y k. later_above entry (member_entries rest) h y.entry (entry_in rest y k), ascend_members rest (pairs_tail entry (member_entries rest) h))
 
--- ---- a tree is known by its equalities and its root
+-- ---- two trees with the same equalities and the same root are equal
 
 module _ (es : List Edge) where
   same_columns : (entry entry' : ℕ) (above above' : Option ℕ) (xs ys : List ℕ) → entry ≡ entry' → above ≡ above' → AreItsColumns es entry above xs → AreItsColumns es entry' above' ys → xs ≡ ys
@@ -144,7 +144,7 @@ module _ (es : List Edge) where
       let others : roots ts ≡ roots us = cc in
       rw (same_tree t u first f.0 g.0, same_trees ts us others f.1 g.1) refl
 
-  -- ---- both lists of trees have the same roots
+  -- ---- two lists of trees over the same entries have the same roots
 
   record Rooted (ts : List BergeTree) (r : ℕ) : Type 0 where
     tree : BergeTree
@@ -180,7 +180,6 @@ module _ (es : List Edge) where
   ]
 
   module _ (closes : ClosesNoCycle es) where
-    -- two trees with one entry in common have one root
     one_root : (t u : BergeTree) → IsTreeOf es t → IsTreeOf es u → Contains (entries u) t.root → t.root ≡ u.root
     one_root t u f g k =
         let closed : IsClosed es (entries t) = λ p q e m. closed_tree es t f.columns f.follows p q m e in

@@ -1,4 +1,4 @@
--- The premises of the laws, for the lists of two small tables.
+-- The lists of two small tables satisfy the premises of the laws.
 use Rattle.std.proofs.Common.{ℕ, zero, suc, ◌≤◌, ◌*◌, get_or, List, [], ◌∷◌, refl, arith}
 use Rattle.degree_sequences.specs.Families.{SumsAreWithin}
 use Rattle.degree_sequences.specs.RunningSums.{running_sum}
@@ -27,7 +27,6 @@ left_near_list = record { falls = IsFalling-compressed 1 (exact_list 0 0) left_l
 pub right_near_list : HasList compressed_bounds 1 0
 right_near_list = record { falls = IsFalling-compressed 1 (exact_list 1 0) right_list.falls; total = refl }
 
--- elements that are near have running sums that are near
 pub within_by_elements : (a c : ℕ) (s t : List ℕ) → ((r : ℕ) → a * get_or s r 0 ≤ c * get_or t r 0) → SumsAreWithin a c s t
 within_by_elements a c s t h zero = omega arith
 within_by_elements a c [] t h (suc r) = omega arith

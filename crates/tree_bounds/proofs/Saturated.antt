@@ -1,4 +1,4 @@
--- Bounds that are saturated at each step are saturated bounds.
+-- If bounds are saturated (cut off at 2^128 - 1) at each step, the result is the saturated bound.
 use Rattle.std.proofs.Common.{◌≡◌, ℕ, zero, suc, ◌-◌, ◌*◌, ◌^◌, ◌<◌, ◌≤◌, min, List, [], ◌∷◌, ◌++◌, length, map, sum, get_or, refl, ap, sym, ◌∙◌, arith, ◌⊎◌, inl, inr}
 use Rattle.std.specs.List.{range_with_len}
 use Rattle.std.proofs.Math.Nat.{mul_assoc, mul-one, one-mul}
@@ -24,7 +24,6 @@ saturated-get_or [] i = refl
 saturated-get_or (x ∷ s) zero = refl
 saturated-get_or (x ∷ s) (suc i) = saturated-get_or s i
 
--- a product is saturated alike where its factors are
 alike : (a b c d : ℕ) → saturated a ≡ saturated c → saturated b ≡ saturated d → saturated (a * b) ≡ saturated (c * d)
 alike a b c d e f = sym (saturated-mul a b) ∙ rw (e, f) (saturated-mul c d)
 
@@ -84,7 +83,7 @@ pub saturated-trees_more : (b : EntryBounds) (ts : List BergeTree) (t : BergeTre
     → saturated (saturated (bound_of_trees b ts) * saturated (bound_of_tree b t)) ≡ saturated (bound_of_trees b (ts ++ t ∷ []))
 saturated-trees_more b ts t = saturated-mul (bound_of_trees b ts) (bound_of_tree b t) ∙ ap saturated (sym (trees_and_one b ts t))
 
--- ---- the least, and what a saturated bound still says
+-- ---- the least of saturated bounds
 
 pub saturated-min : (m n : ℕ) → min (saturated m) (saturated n) ≡ saturated (min m n)
 saturated-min m n = omega arith

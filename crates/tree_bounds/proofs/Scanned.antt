@@ -1,4 +1,4 @@
--- Choices of scanned rows are choices of places among the scanned rows.
+-- A choice of scanned rows is a choice of places in the lists of scanned rows.
 use Rattle.std.proofs.Common.{◌≡◌, ℕ, zero, suc, ◌<◌, ◌≤◌, true, false, cond, eqb, List, [], ◌∷◌, length, get_or, map, refl, ap, sym, ◌∙◌, arith, inl, inr}
 use Rattle.std.specs.List.{AllByRecursion, Contains}
 use Rattle.std.proofs.lemmas.Bool.{cases_Bool, eqb-true, eq-eqb, and_parts}
@@ -15,7 +15,7 @@ use Rattle.tree_bounds.specs.Tables.{key_of, Satisfies, ChoicesAreDifferent, Set
 use Rattle.tree_bounds.specs.Scans.{scanned, SatisfiesScanned}
 use Rattle.tree_bounds.proofs.Turns.{within_set}
 
--- ---- the equalities of a set join its entries
+-- ---- the equalities of a set name only entries of the set
 
 pub equalities_inside : (subset : ℕ) (es : List Edge) → AreWithin (entries_of_set subset) (equalities_within subset es)
 equalities_inside subset [] = tt
@@ -28,7 +28,7 @@ equalities_inside subset (e ∷ es) = elim (cases_Bool (joins_within subset e)) 
   | inr n ↦ rw n (equalities_inside subset es)
 ]
 
--- ---- the place of a scanned row
+-- ---- the place of a row in the list of scanned rows
 
 abbrev place_in : List ℕ → ℕ → ℕ
 place_in [] row = 0
@@ -52,7 +52,6 @@ placed (x ∷ xs) row k = elim (cases_Bool (eqb x row)) [
     differ e = absurd (cc)
 
 module _ (scans : ℕ → List ℕ) (key : ℕ → ℕ → ℕ → ℕ) (set : List ℕ) where
-  -- the choice of places that a choice of rows makes
   abbrev places : (ℕ → ℕ) → ℕ → ℕ
   places choice entry = place_in (scans entry) (choice entry)
 
@@ -87,7 +86,7 @@ module _ (scans : ℕ → List ℕ) (key : ℕ → ℕ → ℕ → ℕ) (set : L
     all_satisfy es inside cs h.1,
   )
 
-  -- ---- different choices of rows are different choices of places
+  -- ---- different choices of rows give different choices of places
 
   same_place_at : (x y : ℕ → ℕ) (set' : List ℕ) → map (places x) set' ≡ map (places y) set' → (entry : ℕ) → Contains set' entry → places x entry ≡ places y entry
   same_place_at x y [] same entry k = absurd (in_none entry k)

@@ -1,4 +1,4 @@
--- The bounds of a set without entries, and of one with a single entry.
+-- The lemmas compute the bound of the empty set, and that of a set with one entry.
 use Rattle.std.proofs.Common.{◌≡◌, ℕ, ◌-◌, ◌≤◌, List, [], ◌∷◌, map, length, sum, refl, ap, sym, ◌∙◌, subst, arith, inl, inr}
 use Rattle.std.specs.List.{Contains, range_with_len}
 use Rattle.std.proofs.Math.Nat.{mul-one}
@@ -26,12 +26,12 @@ no_entries = refl
 pub empty_is : (b : EntryBounds) (es : List Edge) → bound_of_set b es 0 ≡ 1
 empty_is b es = all_turns (bound_of_turn b es 0) (turn_count 0 es - 1) 1 (λ turn. ap (λ set. bound_of_trees b (forest 16 (columns_of (kept_of 0 turn es)) [] set)) no_entries)
 
--- ---- one entry
+-- ---- a set with one entry
 
 only : (entry x : ℕ) → Contains (entry ∷ []) x → x ≡ entry
 only entry x k = elim (one_in entry [] x k) [ inr is ↦ is | inl none ↦ absurd (in_none x none) ]
 
--- equalities of one entry with itself close cycles
+-- an equality between columns of one entry closes a cycle
 none_kept : (entry : ℕ) (kept : List Edge) → AreWithin (entry ∷ []) kept → ClosesNoCycle kept → kept ≡ []
 none_kept entry [] inside closed = refl
 none_kept entry (e ∷ es) inside closed =

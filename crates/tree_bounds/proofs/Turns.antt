@@ -1,4 +1,4 @@
--- The bounds of a set's turns, and the least of them.
+-- A set has a bound in each turn. The bound of the set is the least of them, and no bound is under the number of choices.
 use Rattle.std.proofs.Common.{◌≡◌, ℕ, zero, suc, ◌-◌, ◌<◌, ◌≤◌, List, length, refl, ap, sym, ◌∙◌, subst, arith, inl, inr}
 use Rattle.std.specs.List.{AllByRecursion}
 use Rattle.std.proofs.lemmas.Bool.{cases_lt}
@@ -21,7 +21,7 @@ use Rattle.tree_bounds.specs.Tables.{KeyedTables, Satisfies, ChoicesAreDifferent
 use Rattle.tree_bounds.proofs.Agreeing.{satisfying_within}
 use Rattle.tree_bounds.proofs.OneForest.{one_forest}
 
--- ---- the least of numbers
+-- ---- the least of several numbers
 
 pub least_to-le : (f : ℕ → ℕ) (n k : ℕ) → k ≤ n → least_to f n ≤ f k
 least_to-le f zero k h = let is : k ≡ 0 = omega arith in rw is (omega arith)
@@ -56,7 +56,7 @@ module _ (es : List Edge) (subset turn : ℕ) where
   pub trees_are : (ts : List BergeTree) → AreAllTreesOf (kept_of subset turn es) (entries_of_set subset) ts → ts ≡ trees_of (kept_of subset turn es) subset
   trees_are ts all = one_forest (kept_of subset turn es) closes (entries_of_set subset) ts (trees_of (kept_of subset turn es) subset) all trees_there
 
--- ---- what the definitions say is what is computed
+-- ---- the bound that is defined is the one that is computed
 
 module _ (b : EntryBounds) (es : List Edge) (subset : ℕ) where
   pub turn_there : (turn : ℕ) → IsBoundOfTurn b es subset turn (bound_of_turn b es subset turn)
@@ -89,7 +89,7 @@ module _ (b : EntryBounds) (es : List Edge) (subset : ℕ) where
       both : (a b : ℕ) → a ≤ b → b ≤ a → a ≡ b
       both a b h k = omega arith
 
--- ---- never under
+-- ---- the bounds are never under the number of choices
 
 module _ (b : EntryBounds) (tables : KeyedTables) (es : List Edge) (subset : ℕ) (h : SetHasLists b es subset) (d : SetDominates b tables es subset)
     (cs : List (ℕ → ℕ)) (satisfy : AllByRecursion (Satisfies tables (entries_of_set subset) (equalities_within subset es)) cs) (differ : ChoicesAreDifferent (entries_of_set subset) cs) where

@@ -1,11 +1,11 @@
--- The choices of rows that agree in each class of a tree: how many there are, as sums of products, and each as the list of its rows.
+-- The choices of rows that agree in each class of a tree: their number as a sum of products, and the list of them, each as its row numbers.
 use Rattle.std.specs.Prelude.{ℕ, ◌*◌, ◌==◌, if◌then◌else◌, List, [], ◌∷◌, ◌++◌, map, length, slice_index}
 use Rattle.std.specs.List.{flat_map, sum_by, range_with_len}
 use Rattle.degree_sequences.specs.KeyedRows.{ChildKeys, weight_of_row, weight_of_key}
 use Rattle.berge_tree.specs.Trees.{Classes, no_class, and_class, Members, one_member, and_member, BergeTree}
 use Rattle.tree_bounds.specs.Tables.{KeyedTables}
 
--- the classes below an entry, each with the keys of the entry's rows, and how many choices there are below it for each key
+-- the classes below an entry, each with the keys of the entry's rows, and the number of choices below the class for each key
 abbrev mutual
   pub child_keys : KeyedTables → ℕ → Classes → List ChildKeys
   child_keys tables entry no_class = []
@@ -13,7 +13,7 @@ abbrev mutual
       (and_class column members rest) = record { keys = tables.keys entry column; weight = choices_for tables members }
       ∷ child_keys tables entry rest
 
-  -- how many choices below a class have a key there
+  -- the number of choices below a class whose rows have this key in the class
   pub choices_for : KeyedTables → Members → ℕ → ℕ
   choices_for tables (one_member entry column below) = weight_of_key (tables.keys entry column) (child_keys tables entry below)
   choices_for tables (and_member entry column below rest) = λ key. weight_of_key (tables.keys entry column)
@@ -22,17 +22,17 @@ abbrev mutual
 abbrev pub number_of_choices : KeyedTables → BergeTree → ℕ
 number_of_choices tables t = sum_by (weight_of_row (child_keys tables t.root t.below)) (range_with_len 0 (tables.rows t.root))
 
--- ---- the choices, each as the rows of the entries in the order of the walk
+-- ---- the choices, each as the row numbers of its entries, from the root down
 
--- a row in front of each list of rows
+-- each list of row numbers with `row` in front
 abbrev pub with_row : ℕ → List (List ℕ) → List (List ℕ)
 with_row row below = map (λ (rows : List ℕ). row ∷ rows) below
 
--- each of the one with each of the other
+-- each list of `xs` followed by each list of `ys`
 abbrev pub paired : List (List ℕ) → List (List ℕ) → List (List ℕ)
 paired xs ys = flat_map (λ x. map (λ y. x ++ y) ys) xs
 
--- the rows that have a key, each with what is chosen below it
+-- the rows that have this key, each followed by each choice below it
 abbrev pub rows_with_key : List ℕ → (ℕ → List (List ℕ)) → ℕ → List (List ℕ)
 rows_with_key keys below key = flat_map (λ row. if slice_index keys row == key then with_row row (below row)
     else []) (range_with_len 0 (length keys))

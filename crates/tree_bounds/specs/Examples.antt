@@ -1,4 +1,4 @@
--- Small trees, bounds and tables, for worked examples. Entries are numbered in FROM order, columns in the order of their table.
+-- Small trees, bounds and tables for examples. Entries have their FROM positions as numbers, and columns their positions in the table.
 use Rattle.std.specs.Prelude.{ℕ, zero, suc, List, [], ◌∷◌}
 use Rattle.berge_tree.specs.Trees.{no_class, and_class, Members, one_member, and_member, BergeTree}
 use Rattle.tree_bounds.specs.TreeBounds.{EntryBounds}
@@ -43,7 +43,7 @@ two_tables = record { rows = two_rows; keys = two_keys }
 abbrev pub two_choices : List (ℕ → ℕ)
 two_choices = (λ entry. 0) ∷ (λ entry. entry) ∷ []
 
--- the degree lists of these keys
+-- the degree lists of the two tables' keys
 abbrev pub exact_list : ℕ → ℕ → List ℕ
 exact_list zero column = 3 ∷ 2 ∷ 1 ∷ []
 exact_list (suc entry) column = 2 ∷ 1 ∷ 1 ∷ 1 ∷ []
@@ -51,7 +51,7 @@ exact_list (suc entry) column = 2 ∷ 1 ∷ 1 ∷ 1 ∷ []
 abbrev pub exact_bounds : EntryBounds
 exact_bounds = record { rows = two_rows; list = exact_list }
 
--- the same lists, compressed
+-- the degree lists of the two tables' keys, compressed
 abbrev pub compressed_list : ℕ → ℕ → List ℕ
 compressed_list zero column = 3 ∷ 3 ∷ []
 compressed_list (suc entry) column = 2 ∷ 2 ∷ 1 ∷ []
@@ -65,7 +65,7 @@ compressed_bounds = record { rows = two_rows; list = compressed_list }
 abbrev pub triangle_bounds : EntryBounds
 triangle_bounds = record { rows = λ entry. 3; list = λ entry column. 2 ∷ 1 ∷ [] }
 
--- the lists of three rows that have one key in column 0, and three different keys in each other column
+-- lists for three rows that have the same key in column 0, and three different keys in each other column
 abbrev pub alike_or_different : ℕ → List ℕ
 alike_or_different zero = 3 ∷ []
 alike_or_different (suc column) = 1 ∷ 1 ∷ 1 ∷ []

@@ -1,4 +1,4 @@
--- Bounds of entries that are near exact ones: at accuracy K, K times what they say is at most K + 1 times what the exact ones say.
+-- Bounds of entries that are near exact ones: at accuracy K, K times the bound is at most K + 1 times the exact one.
 use Rattle.std.specs.Prelude.{ℕ, ◌+◌, ◌*◌, ◌≤◌, List}
 use Rattle.std.specs.List.{AllByRecursion}
 use Rattle.degree_sequences.specs.Families.{SumsAreWithin}
@@ -9,20 +9,20 @@ use Rattle.join_graph.specs.Kept.{equalities_within}
 use Rattle.tree_bounds.specs.Columns.{EachColumn, EachNamedColumn}
 use Rattle.tree_bounds.specs.TreeBounds.{EntryBounds}
 
--- the row bound of an entry
+-- the row bound of an entry is near the exact one
 abbrev pub RowsAreNear : ℕ → EntryBounds → EntryBounds → ℕ → Type 0
 RowsAreNear accuracy b exact entry = accuracy * b.rows entry ≤ (accuracy + 1) * exact.rows entry
 
--- the list of a column, in each of its running sums
+-- each running sum of a column's list is near that of the exact list
 abbrev pub ListIsNear : ℕ → EntryBounds → EntryBounds → ℕ → ℕ → Type 0
 ListIsNear accuracy b exact entry column = SumsAreWithin accuracy (accuracy + 1) (b.list entry column) (exact.list entry column)
 
--- the row bound of the root, and the lists of all columns of a tree
+-- the row bound of the root is near, and so is the list of each column of the tree
 pub record TreeIsNear (accuracy : ℕ) (b exact : EntryBounds) (t : BergeTree) : Type 0 where
   pub root : RowsAreNear accuracy b exact t.root
   pub columns : EachColumn (ListIsNear accuracy b exact) t
 
--- the row bounds of all entries of a set, and the lists of all columns that equalities of the set name
+-- the row bound of each entry of a set is near, and so is the list of each column that equalities of the set name
 pub record SetIsNear (accuracy : ℕ) (b exact : EntryBounds) (es : List Edge) (subset : ℕ) : Type 0 where
   pub rows : AllByRecursion (RowsAreNear accuracy b exact) (entries_of_set subset)
   pub columns : EachNamedColumn (ListIsNear accuracy b exact) (equalities_within subset es)

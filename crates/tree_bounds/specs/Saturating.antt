@@ -1,4 +1,4 @@
--- Lists as 128 bits hold them.
+-- Lists whose elements are saturated, that is, cut off at 2^128 - 1.
 use Rattle.std.specs.Prelude.{map}
 use Rattle.degree_sequences.specs.Composition.{ChildLists}
 use Rattle.degree_sequences.specs.Saturation.{saturated}

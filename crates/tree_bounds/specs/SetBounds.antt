@@ -1,4 +1,4 @@
--- The bound of a set of entries: in each turn the set has the trees of the equalities that it keeps, and the least of the turns counts.
+-- The bound of a set of entries: in each turn the product of the bounds of the trees of the kept equalities, and of all turns the least.
 use Rattle.std.specs.Prelude.{◌≡◌, ℕ, zero, suc, ◌-◌, ◌<◌, ◌≤◌, min, List, []}
 use Rattle.berge_tree.specs.declared.edges.Edge.{Edge}
 use Rattle.berge_tree.specs.Rooted.{AreAllTreesOf}
@@ -13,27 +13,27 @@ use Rattle.tree_bounds.specs.TreeBounds.{EntryBounds, HasList, bound_of_trees}
 abbrev pub SetHasLists : EntryBounds → List Edge → ℕ → Type 0
 SetHasLists b es subset = EachNamedColumn (HasList b) (equalities_within subset es)
 
--- the product over the trees of what the set keeps in a turn
+-- n is the bound in a turn: the product of the bounds of all trees of the equalities that are kept in the turn
 pub record IsBoundOfTurn (b : EntryBounds) (es : List Edge) (subset turn n : ℕ) : Type 0 where
   pub trees : List BergeTree
   pub are_all : AreAllTreesOf (kept_of subset turn es) (entries_of_set subset) trees
   pub product : n ≡ bound_of_trees b trees
 
--- the least of the turns
+-- n is the least bound of all turns
 pub record IsBoundOfSet (b : EntryBounds) (es : List Edge) (subset n : ℕ) : Type 0 where
   pub some_turn : (turn : ℕ) × (turn < turn_count subset es) × IsBoundOfTurn b es subset turn n
   pub least : (turn m : ℕ) → turn < turn_count subset es → IsBoundOfTurn b es subset turn m → n ≤ m
 
--- ---- the same, computed
+-- ---- the bound of a set as a function
 
--- the trees of equalities over a set of entries
+-- the trees of given equalities over a set of entries
 abbrev pub trees_of : List Edge → ℕ → List BergeTree
 trees_of es subset = forest 16 (columns_of es) [] (entries_of_set subset)
 
 abbrev pub bound_of_turn : EntryBounds → List Edge → ℕ → ℕ → ℕ
 bound_of_turn b es subset turn = bound_of_trees b (trees_of (kept_of subset turn es) subset)
 
--- the least of f 0 to f n
+-- the least of f 0, f 1, .. f n
 abbrev pub least_to : (ℕ → ℕ) → ℕ → ℕ
 least_to f zero = f 0
 least_to f (suc n) = min (least_to f n) (f (suc n))

@@ -1,4 +1,4 @@
--- The bound of a join tree: a number that is folded from the leaves up, out of falling lists of the columns.
+-- The bound of a join tree: a number that is computed from the leaves up, from falling lists of the columns.
 use Rattle.std.specs.Prelude.{◌≡◌, ℕ, ◌*◌, List, [], ◌∷◌}
 use Rattle.std.specs.List.{sum}
 use Rattle.degree_sequences.specs.ByRank.{rank_product}
@@ -7,7 +7,7 @@ use Rattle.degree_sequences.specs.Falling.{IsFalling}
 use Rattle.berge_tree.specs.Trees.{Classes, no_class, and_class, Members, one_member, and_member, BergeTree}
 use Rattle.tree_bounds.specs.Columns.{EachColumn}
 
--- what is known of entries: at most how many rows each has, and for each of its joined columns a list
+-- what is known of each entry: a bound for the number of its rows, and a list for each of its joined columns
 pub record EntryBounds : Type 0 where
   pub rows : ℕ → ℕ
   pub list : ℕ → ℕ → List ℕ
@@ -24,24 +24,25 @@ HasList b entry column = IsListOf (b.rows entry) (b.list entry column)
 abbrev pub TreeHasLists : EntryBounds → BergeTree → Type 0
 TreeHasLists b t = EachColumn (HasList b) t
 
--- the classes below an entry, each with the entry's list in it and the list of the class
+-- for each class below an entry, the entry's list of its column in the class, and the list of the class
 abbrev mutual
   pub child_lists : EntryBounds → ℕ → Classes → List ChildLists
   child_lists b entry no_class = []
   child_lists b entry (and_class column members rest) = record { column = b.list entry column; class = class_list b members }
       ∷ child_lists b entry rest
 
-  -- the list of a class: the rank-wise product of the lists of the entries below it, each composed with what lies below that entry
+  -- the list of a class: the product, rank by rank, of the lists of the entries below it. Each of these lists is composed with the classes below its
+  -- entry
   pub class_list : EntryBounds → Members → List ℕ
   class_list b (one_member entry column below) = composed (b.list entry column) (child_lists b entry below)
   class_list b (and_member entry column below rest) = rank_product (composed (b.list entry column) (child_lists b entry below))
       (class_list b rest)
 
--- the bound of a tree: what the rows of the root weigh together
+-- the bound of a tree: the sum of the weights of the root's rows
 abbrev pub bound_of_tree : EntryBounds → BergeTree → ℕ
 bound_of_tree b t = root_total (child_lists b t.root t.below) (b.rows t.root)
 
--- of several trees: the product of their bounds
+-- the bound of several trees: the product of their bounds
 abbrev pub bound_of_trees : EntryBounds → List BergeTree → ℕ
 bound_of_trees b [] = 1
 bound_of_trees b (t ∷ ts) = bound_of_tree b t * bound_of_trees b ts

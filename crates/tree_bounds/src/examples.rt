@@ -1,4 +1,4 @@
-//! Each definition at small numbers.
+//! Examples of each definition, with small numbers.
 ghost use Rattle.std.specs.Prelude.{◌≡◌, ◌-◌, ◌*◌, ◌^◌, [], ◌∷◌};
 ghost use Rattle.std.specs.List.{AllByRecursion};
 ghost use Rattle.degree_sequences.specs.Degrees.{degree_list};
@@ -15,7 +15,7 @@ ghost use Rattle.tree_bounds.specs.SetBounds.{SetHasLists, bound_of_set, bound_o
 ghost use Rattle.tree_bounds.specs.Counting.{tree_choices};
 ghost use Rattle.tree_bounds.specs.Examples.{path, path_bounds, two, two_choices, two_keys, two_tables, exact_list, exact_bounds, compressed_bounds, triangle_bounds, pair_bounds, one_class, many_bounds};
 
-/// Trees of two and three entries, and two trees together.
+/// The bounds of trees over two and three entries, and of two trees together.
 pub fn trees()
     ensures path { bound_of_tree path_bounds path ≡ 19 }
     ensures compressed { bound_of_tree compressed_bounds two ≡ 12 }
@@ -26,7 +26,7 @@ pub fn trees()
     ensures components { bound_of_trees path_bounds (path ∷ path ∷ []) ≡ 19 * 19 }
 {}
 
-/// Sets of entries: a triangle, two entries with two equalities, and two entries with none.
+/// The bounds of sets: a triangle (three entries that are joined in a cycle), two entries with two equalities, and two entries without an equality.
 pub fn sets()
     ensures first { bound_of_set triangle_bounds triangle 1 ≡ 3 }
     ensures single { bound_of_set triangle_bounds triangle 2 ≡ 3 }
@@ -46,15 +46,14 @@ pub fn sets()
     ensures empty { bound_of_set path_bounds triangle 0 ≡ 1 }
 {}
 
-/// Eleven and twelve entries in one class.
+/// The bounds of eleven and of twelve entries in one class.
 pub fn one_class()
     ensures eleven { bound_of_tree many_bounds (one_class 9) ≡ 1700 ^ 11 }
     ensures twelve { saturated (bound_of_tree many_bounds (one_class 10)) ≡ 2 ^ 128 - 1 }
 {}
 
-/// The premises of the laws of trees and sets, all met: the exact lists of two tables dominate them, for the tree and
-/// for the set of the two, two different choices agree in the tree and satisfy the equality, and the compressed lists
-/// are near the exact ones at accuracy 1.
+/// The premises of the laws can all be met. The exact lists of two tables dominate the tables, for the tree over the two and for the set of the two.
+/// Two different choices agree in the tree and satisfy the equality. The compressed lists are near the exact ones at accuracy 1.
 pub fn instances()
     ensures lists { TreeHasLists exact_bounds two }
     ensures dominates { TreeDominates exact_bounds two_tables two }

@@ -1,4 +1,4 @@
-//! What the definitions say, as laws. Each call does nothing.
+//! Laws of the definitions. Each function does nothing.
 ghost use Rattle.std.specs.Prelude.{◌≡◌, ◌↔◌, ◌⊎◌, ◌+◌, ◌-◌, ◌*◌, ◌^◌, ◌<◌, ◌≤◌, ℕ, List, [], ◌∷◌, ◌++◌, length, map, min};
 ghost use Rattle.std.specs.List.{AllByRecursion, Contains};
 ghost use Rattle.degree_sequences.specs.ByRank.{rank_product, rank_product_of};
@@ -18,8 +18,9 @@ ghost use Rattle.tree_bounds.specs.SetBounds.{IsBoundOfSet, IsBoundOfTurn, SetHa
 ghost use Rattle.tree_bounds.specs.Tables.{KeyedTables, Agrees, ChoicesAreDifferent, Satisfies, SetDominates, TreeDominates};
 ghost use Rattle.tree_bounds.specs.TreeBounds.{EntryBounds, TreeHasLists, bound_of_tree, bound_of_trees};
 
-/// Never under, for trees: different choices of one row for each entry, whose keys agree in each class, are no more
-/// than the bound says, where the lists dominate the tables (Degree Sequence Bound, ICDT 2023; SafeBound, SIGMOD 2023).
+/// The bound of a tree is never under the number of choices: if the lists dominate the tables, there are at most as many different choices as the
+/// bound says. A choice takes one row of each entry, and the keys of the rows agree in each class (Degree Sequence Bound, ICDT 2023; SafeBound, SIGMOD
+/// 2023).
 pub fn trees_are_never_under()
     ensures one { (b : EntryBounds) (tables : KeyedTables) (t : BergeTree) → TreeHasLists b t → TreeDominates b tables t
         → (choices : List (ℕ → ℕ)) → AllByRecursion (Agrees tables t) choices → ChoicesAreDifferent (entries t) choices
@@ -31,7 +32,7 @@ pub fn trees_are_never_under()
         → ChoicesAreDifferent set choices → length choices ≤ bound_of_trees b trees }
 {}
 
-/// The choices that agree can be counted and listed, each by its rows, and the bound is at least their number.
+/// The choices that agree in a tree can be counted, and listed by their row numbers. The bound is at least their number.
 pub fn choices_are_counted()
     ensures stand { (b : EntryBounds) (tables : KeyedTables) (t : BergeTree) → TreeDominates b tables t
         → (choice : ℕ → ℕ) → Agrees tables t choice → Contains (tree_choices tables t) (map choice (entries t)) }
@@ -40,7 +41,7 @@ pub fn choices_are_counted()
         → number_of_choices tables t ≤ bound_of_tree b t }
 {}
 
-/// Equalities that close no cycle have one list of trees over a set of entries. In each turn of a set it can be computed.
+/// If equalities close no cycle, they have exactly one list of trees over a set of entries. For the kept equalities of a turn it can be computed.
 pub fn trees_are_one()
     ensures one { (es : List Edge) → ClosesNoCycle es → (set : List ℕ) (trees others : List BergeTree)
         → AreAllTreesOf es set trees → AreAllTreesOf es set others → trees ≡ others }
@@ -48,14 +49,14 @@ pub fn trees_are_one()
         → AreAllTreesOf (kept_of subset turn es) (entries_of_set subset) trees ↔ (trees ≡ trees_of (kept_of subset turn es) subset) }
 {}
 
-/// Where each column that equalities of a set name has its list, each column of the trees has it, in each turn.
+/// If each column that equalities of a set name has its list, each column of the trees has its list, in each turn.
 pub fn trees_have_the_lists_of_their_set()
     ensures { (b : EntryBounds) (es : List Edge) (subset turn : ℕ) (trees : List BergeTree)
         → AreAllTreesOf (kept_of subset turn es) (entries_of_set subset) trees → SetHasLists b es subset
         → AllByRecursion (TreeHasLists b) trees }
 {}
 
-/// A set of entries has one bound, in each turn and over its turns, and it can be computed.
+/// A set of entries has exactly one bound in each turn, and exactly one over all turns, and both can be computed.
 pub fn bounds_are_one()
     ensures turn { (b : EntryBounds) (es : List Edge) (subset turn n : ℕ)
         → IsBoundOfTurn b es subset turn n ↔ (n ≡ bound_of_turn b es subset turn) }
@@ -63,8 +64,9 @@ pub fn bounds_are_one()
         → IsBoundOfSet b es subset n ↔ (n ≡ bound_of_set b es subset) }
 {}
 
-/// Never under, for sets: different choices of one row for each entry of a set, which satisfy all equalities of the
-/// set, are no more than the bound says, in each turn and so in the least. What a turn leaves out only makes choices fewer.
+/// The bound of a set is never under the number of choices: there are at most as many different choices as the bound says, in each turn and so in the
+/// least. A choice takes one row of each entry of the set and satisfies all equalities of the set. The equalities that a turn leaves out only exclude
+/// choices.
 pub fn sets_are_never_under()
     ensures each_turn { (b : EntryBounds) (tables : KeyedTables) (es : List Edge) (subset : ℕ)
         → SetHasLists b es subset → SetDominates b tables es subset → (choices : List (ℕ → ℕ))
@@ -76,7 +78,7 @@ pub fn sets_are_never_under()
         → ChoicesAreDifferent (entries_of_set subset) choices → length choices ≤ bound_of_set b es subset }
 {}
 
-/// The same where of each table only scanned rows are chosen, and the lists dominate these.
+/// The bound of a set is never under the number of choices if only scanned rows are chosen and the lists dominate these rows.
 pub fn scans_are_never_under()
     ensures { (b : EntryBounds) (scans : ℕ → List ℕ) (key : ℕ → ℕ → ℕ → ℕ) (es : List Edge) (subset : ℕ)
         → SetHasLists b es subset → SetDominates b (scanned scans key) es subset → (choices : List (ℕ → ℕ))
@@ -84,15 +86,15 @@ pub fn scans_are_never_under()
         → ChoicesAreDifferent (entries_of_set subset) choices → length choices ≤ bound_of_set b es subset }
 {}
 
-/// The empty set has the bound 1, and a set of one entry its row bound.
+/// The empty set has the bound 1. A set of one entry has the entry's row bound.
 pub fn small_sets_have_plain_bounds()
     ensures empty { (b : EntryBounds) (es : List Edge) → bound_of_set b es 0 ≡ 1 }
     ensures single { (b : EntryBounds) (es : List Edge) (subset entry : ℕ) → entries_of_set subset ≡ entry ∷ []
         → bound_of_set b es subset ≡ b.rows entry }
 {}
 
-/// Near the exact bounds: where K times each row bound and each running sum of a list is at most K + 1 times the exact
-/// one, K^n times the bound is at most (K + 1)^n times the exact one, n being the number of entries.
+/// Bounds from near lists are near the exact bounds. The premise is that K times each row bound and each running sum is at most K + 1 times the exact
+/// one. Then K^n times the bound is at most (K + 1)^n times the exact bound, where n is the number of entries.
 pub fn bounds_are_near()
     ensures tree { (accuracy : ℕ) (b exact : EntryBounds) (t : BergeTree) → TreeHasLists b t → TreeHasLists exact t → TreeIsNear accuracy b exact t
         → accuracy ^ length (entries t) * bound_of_tree b t ≤ (accuracy + 1) ^ length (entries t) * bound_of_tree exact t }
@@ -110,7 +112,8 @@ pub fn bounds_are_near()
         ≤ (accuracy + 1) ^ length (entries_of_set subset) * bound_of_set exact es subset }
 {}
 
-/// A number that is saturated at each step is the saturated bound, and what is never under stays so, or is 2^128 - 1.
+/// A bound that is saturated (cut off at 2^128 - 1) at each step is the saturated bound. If a bound is never under a number, the saturated bound isn't
+/// under it either, or is 2^128 - 1.
 pub fn bounds_saturate()
     ensures entry { (parent : List ℕ) (children : List ChildLists)
         → map saturated (composed parent (map saturated_class children)) ≡ map saturated (composed parent children) }

@@ -2,7 +2,7 @@ ghost use Rattle.std.specs.Prelude.{[], ◌∷◌};
 ghost use Rattle.tree_plans.specs.Examples.{join, plan_of};
 ghost use Rattle.tree_plans.specs.TreePlans.{IsTreePlan, BoundsAreWithin};
 
-/// What the definitions say of one entry and of three. It does nothing.
+/// Examples of the definitions, for one entry and for three. The function does nothing.
 pub fn examples()
     ensures alone { IsTreePlan 1 (plan_of [] (7 ∷ []) 7) }
     ensures three { IsTreePlan 3 (plan_of (join 1 2 5 ∷ join 0 3 9 ∷ []) (3 ∷ 3 ∷ 3 ∷ []) 9) }

@@ -1,11 +1,11 @@
-//! Which entries a plan has at the leaves of its nodes. The call does nothing.
+//! A law on the entries at the leaves below each node of a plan.
 ghost use Rattle.std.specs.Prelude.{◌≡◌, ℕ, ◌-◌, ◌<◌, ◌==◌, length};
 ghost use Rattle.std.specs.List.{AllByRecursion, IsDistinct};
 ghost use Rattle.tree_plans.specs.declared.bushy.BushyPlan.{BushyPlan};
 ghost use Rattle.tree_plans.specs.TreePlans.{IsTreePlan};
 ghost use Rattle.tree_rows.specs.Trees.{entries_at, node_count};
 
-/// No two leaves below a node are of one entry, and each is of an entry of the plan. The root has all of them.
+/// Each entry is at most once among the leaves below a node, and these are entries of the plan. The root has all entries. The function does nothing.
 pub fn leaves_are_different_entries()
     ensures once { (n : ℕ) (plan : BushyPlan) (node : ℕ) → IsTreePlan n plan → node < node_count plan
         → IsDistinct ◌==◌ (entries_at plan node) }

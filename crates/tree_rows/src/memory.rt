@@ -1,4 +1,4 @@
-//! How many bytes a join tree takes. Nothing is taken here.
+//! How many bytes a join tree takes. No memory is reserved here.
 ghost use Rattle.std.specs.Prelude.{◌≡◌, ℕ, ◌+◌, ◌*◌, ◌^◌, ◌<◌, ◌≤◌, length, map, sum};
 ghost use Rattle.std.specs.List.{AllByRecursion};
 ghost use Rattle.limits.specs.Profile.{most_entries, most_rows};
@@ -15,7 +15,7 @@ use reserve_plan::{CHAINS_BYTES, lists_memory, row_chain_bytes};
 use row_buf::{KEY_BYTES, ROW_NUMBER_BYTES};
 use tree_plans::{BushyPlan, Join};
 
-// The sum of the bounds of joins.
+// The sum of the bounds of all joins.
 fn pairs_total(joins: &[Join]) -> u128
     requires few { length joins.now ≤ most_entries }
     ensures value { result ≡ sum (map (λ join. join.bound) joins.now) }
@@ -28,7 +28,7 @@ fn pairs_total(joins: &[Join]) -> u128
     total
 }
 
-// The bytes of the chains of the joins' right nodes.
+// The bytes of the chains for the right nodes of all joins. Chains find the rows of a node by their keys.
 fn chains_total(scans: &[u64], joins: &[Join]) -> u128
     requires few { length joins.now ≤ most_entries }
     requires nodes { AllByRecursion (λ join. join.right < length scans.now + length joins.now) joins.now }
@@ -42,8 +42,8 @@ fn chains_total(scans: &[u64], joins: &[Join]) -> u128
     total
 }
 
-/// The bytes that `row_buffers` takes for lists of these sizes, one for each entry, and `reserve_bushy` for these joins over them. The nodes
-/// that are joined have to exist.
+/// The bytes of the entries' lists and of the buffers for the joins. `row_buffers` takes the first ones, for lists of these sizes, one for each entry;
+/// `reserve_bushy` takes the second ones. The nodes that the joins name have to exist.
 pub fn joins_memory(scans: &[u64], joins: &[Join]) -> u128
     requires few { (length scans.now ≤ most_entries) × (length joins.now ≤ most_entries) }
     requires nodes { AllByRecursion (λ join. join.right < length scans.now + length joins.now) joins.now }
@@ -68,7 +68,7 @@ pub fn tree_memory(plan: &BushyPlan) -> u128
     joins_memory(plan.scans.as_slice(), plan.joins.as_slice())
 }
 
-/// Within the limits of a program a plan takes less than 2^40 bytes. It does nothing.
+/// Within the limits of a program a plan takes less than 2^40 bytes. The function does nothing.
 pub fn trees_take_few_bytes()
     ensures { (n : ℕ) (plan : BushyPlan) → IsTreePlan n plan → BoundsAreWithin most_rows plan → tree_bytes plan < 2 ^ 40 }
 {}

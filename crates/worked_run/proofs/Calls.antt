@@ -1,4 +1,4 @@
--- What the headline makes of a verdict.
+-- If the verdict on a call's words and files is known, the headline theorem tells how the call ends.
 use Rattle.std.proofs.Common.{◌≡◌, ◌⊎◌, inl, inr, ℕ, List, Option, None, Some, Result, Ok, Err, refl, ap, ◌∙◌, subst}
 use Rattle.std.specs.Fmt.{digits}
 use Rattle.std.specs.Prelude.{codes, IsOkAnd}
@@ -19,7 +19,7 @@ use Rattle.worked_run.specs.Calls.{EachCallEnds, Ended, IsFaultless}
 use Rattle.worked_run.specs.TwoTables.{small_files}
 
 module _ (files : Files) (call : Call) (head : Headline call) (told : call.store.files ≡ Some files) (sound : IsFaultless call) where
-  -- an accepted verdict ends in Done, with its texts
+  -- if the verdict is accepted, the call ends in Done, with the texts of the outcome, or memory was lacking
   accepted : (outcome : RunOutcome) → verdict call.words files ≡ Ok outcome
       → Ended call status.Done (notes_text outcome) (out_text outcome) ⊎ (call.status ≡ status.NoMemory)
   accepted outcome is = by (head.nothing_is_refused_without_cause.by_the_sinks sound.store sound.out sound.notes files told) where
@@ -35,7 +35,7 @@ module _ (files : Files) (call : Call) (head : Headline call) (told : call.store
         inl (record { status = done; notes = texts.0; out = texts.1 })
     by (inr memory) = inr memory
 
-  -- a refusal is told in its line
+  -- if the verdict is a refusal, the call ends with the line of the refusal, or memory was lacking
   turned_away : (r : Refusal) (line : List ℕ) → verdict call.words files ≡ Err r
       → fault_text (status.Refused r) call.words files ≡ line → Ended call (status.Refused r) (Some line) None ⊎ (call.status ≡ status.NoMemory)
   turned_away r line is text = by (head.nothing_is_refused_without_cause.by_the_sinks sound.store sound.out sound.notes files told) where
@@ -52,7 +52,7 @@ module _ (files : Files) (call : Call) (head : Headline call) (told : call.store
         })
     by (inr memory) = inr memory
 
--- each call with these words ends so where their verdict is accepted with these texts
+-- if the verdict on the words and files is accepted with these texts, each call with these words ends in Done with them
 pub answers_done : (files : Files) (words : List (List ℕ)) (outcome : RunOutcome) (notes out : Option (List ℕ)) → verdict words files ≡ Ok outcome
     → notes_text outcome ≡ notes → out_text outcome ≡ out → EachCallEnds files words status.Done notes out
 answers_done files words outcome notes out is left right call head same told sound =
@@ -65,7 +65,7 @@ of_printed : (answer : Result RunOutcome Refusal) (texts : Option (List ℕ) × 
 of_printed (Ok outcome) texts is = (outcome, refl, cc)
 of_printed (Err r) texts is = absurd (cc)
 
--- and where all that is known of their verdict is what it prints
+-- if the verdict is known only by what it prints, each call with these words ends in Done with the printed texts
 pub answers_printed : (files : Files) (words : List (List ℕ)) (notes out : Option (List ℕ)) → seen printed (verdict words files) ≡ Ok (notes, out)
     → EachCallEnds files words status.Done notes out
 answers_printed files words notes out is =
@@ -76,7 +76,7 @@ budget_line : (words : List (List ℕ)) → fault_text (status.Refused (refusal.
 unfolding error_line digits
 budget_line words = refl
 
--- and where it is refused, since the plan costs 12
+-- if the verdict is a refusal since the plan costs 12, each call with these words ends with the line `error budget 12`
 pub answers_budget : (words : List (List ℕ)) → verdict words small_files ≡ Err (refusal.Budget 12)
     → EachCallEnds small_files words (status.Refused (refusal.Budget 12)) (Some (codes "error budget 12\n")) None
 answers_budget words is call head same told sound =
@@ -87,7 +87,7 @@ limit_line : (words : List (List ℕ)) → fault_text (status.Refused (refusal.M
 unfolding error_line digits
 limit_line words = refl
 
--- and where it is refused for its bytes
+-- if the verdict is a refusal since the plan takes 556 bytes, each call with these words ends with the line `error memory-limit 556`
 pub answers_limit : (words : List (List ℕ)) → verdict words small_files ≡ Err (refusal.MemoryLimit 556)
     → EachCallEnds small_files words (status.Refused (refusal.MemoryLimit 556)) (Some (codes "error memory-limit 556\n")) None
 answers_limit words is call head same told sound =

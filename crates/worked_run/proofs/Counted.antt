@@ -1,4 +1,4 @@
--- The run by counting over reduced scans, by computation.
+-- The run by counting over reduced scans, proved by computation.
 use Rattle.std.proofs.Common.{◌≡◌, ℕ, ◌-◌, ◌==◌, Bool, true, false, not, ◌&&◌, min, nat_le, List, [], ◌∷◌, length, map, is_some, None, Ok, refl, ap, ◌∙◌, arith, inl, inr}
 use Rattle.std.proofs.Math.Path.{fun_ext}
 use Rattle.std.proofs.lemmas.Bool.{and_from, cases_Bool, or_left}
@@ -46,7 +46,7 @@ use Rattle.worked_run.proofs.Levels.{T}
 use Rattle.worked_run.proofs.Reduced.{joins, kept, plan, plan_made, plan_over, task}
 use Rattle.worked_run.proofs.Verdicts.{of_words}
 
--- ---- what is asked
+-- ---- the words, the lists and the condition
 
 abbrev equality : Edge
 equality = edge_of 0 0 1 0
@@ -64,7 +64,7 @@ conjuncts_found =
     ∙ ap (λ (says : (ℕ → ℕ) → Bool). asked_as (0 ∷ 1 ∷ []) says)
     (fun_ext (λ (row_of : ℕ → ℕ). holds_compare T row_of op.Eq (column_operand 0 0) (column_operand 1 0)))
 
--- ---- which choices of conjuncts are counted: the one equality is always kept, so no other choice is tried
+-- ---- every set is counted with all its conjuncts: the one equality is always kept, so counting with equalities alone is never tried
 
 one_kept : (p : Edge → Bool) → (length (kept_in_order (gone_round 0 (filter p (equality ∷ [])))) == length (filter p (equality ∷ []))) ≡ true
 one_kept p = elim (cases_Bool (p equality)) [

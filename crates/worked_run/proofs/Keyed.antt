@@ -1,4 +1,4 @@
--- The plan with conditions that are carried through a key, by computation.
+-- The plan with `--keys`, which carries conditions through a key, proved by computation.
 use Rattle.std.proofs.Common.{◌≡◌, ℕ, zero, suc, List, [], ◌∷◌, Option, None, Some, Result, Ok, pos, true, refl, ap, ◌∙◌}
 use Rattle.std.specs.Fmt.{digits}
 use Rattle.std.specs.Prelude.{codes}
@@ -61,12 +61,12 @@ use Rattle.worked_run.proofs.Queries.{workers_query_read}
 use Rattle.worked_run.proofs.Schemas.{workers_read}
 
 abbrev task : PlanWork
-task = record { budget = 1000000; accuracy = 1; source = sources.Keyed; shape = shapes.Order; memory = None; out = out_text.Nothing }
+task = record { terms = record { budget = 1000000; shape = shapes.Order; memory = None }; accuracy = 1; source = sources.Keyed; out = out_text.Nothing }
 
 abbrev command : Command
 command = over_query None (codes "schema.sql") (codes "query.sql") (works.Plan task)
 
--- ---- what is read
+-- ---- the words and the files are read
 
 asked : command_stage keyed_words ≡ Ok command
 unfolding command_of reading_of over_files parts_from kind_of number_of
@@ -95,7 +95,7 @@ tables_found : tables_stage worker_schema by_manager.from workers_files ≡ Ok (
 unfolding tables_stage
 tables_found = rw (rows_found) refl
 
--- both entries have the rows of the one table
+-- both FROM entries have the rows of the only table
 one_table : (entry : ℕ) → tables_in (rows ∷ rows ∷ []) entry ≡ worker_tables entry
 one_table zero = refl
 one_table (suc zero) = refl

@@ -1,4 +1,4 @@
--- The levels of the plan's order, the node of its tree and their texts, by computation.
+-- The levels of the plan's order, the root of its tree and the texts of both, proved by computation.
 use Rattle.std.proofs.Common.{◌≡◌, ℕ, Bool, true, not, ◌&&◌, ◌||◌, List, [], ◌∷◌, Option, None, Some, length, map, refl, ap, ◌∙◌}
 use Rattle.std.specs.Fmt.{digits}
 use Rattle.std.specs.Prelude.{codes}
@@ -30,7 +30,7 @@ use Rattle.query_types.proofs.CondFacts.{entries_compare}
 abbrev pub T : Tables
 T = tables_in small_rows
 
--- the one conjunct, where it is asked for
+-- the query's only conjunct holds, or one of its entries isn't among `placed`
 abbrev pub says : List ℕ → (ℕ → ℕ) → Bool
 says placed row_of = (not (are_within (0 ∷ 1 ∷ []) placed) || comparison_says T row_of op.Eq (column_operand 0 0) (column_operand 1 0)) && true
 
@@ -38,7 +38,7 @@ pub said : (placed : List ℕ) (row_of : ℕ → ℕ) → all_hold (conjuncts_of
 said placed row_of =
     rw (entries_compare op.Eq (column_operand 0 0) (column_operand 1 0), holds_compare T row_of op.Eq (column_operand 0 0) (column_operand 1 0)) refl
 
--- the conjunct names two entries, so each row passes
+-- the conjunct names two entries, so each row of R passes the scan
 first_scan : scan (conjuncts_of pair T) (row_counts T) 0 ≡ 0 ∷ 1 ∷ 2 ∷ 3 ∷ 4 ∷ 5 ∷ []
 first_scan = filter_agree (passes_own (conjuncts_of pair T) 0) (λ row. true)
     (λ row. rw (entries_compare op.Eq (column_operand 0 0) (column_operand 1 0)) refl) (all_rows (row_counts T) 0)
@@ -86,7 +86,7 @@ pub audit_printed : out_text_of (two_tables_run out_text.Audit None) ≡ Some (c
 unfolding digits
 audit_printed = ap (λ (rows : List ℕ). Some (shape_audits pair.from (two_tables_run out_text.Audit None).plan rows)) (counts out_text.Audit)
 
--- ---- as a tree
+-- ---- the rows of the tree's root
 
 root : chosen_rows pair T small_lists (0 ∷ 1 ∷ []) ≡ (0 ∷ 0 ∷ []) ∷ (0 ∷ 1 ∷ []) ∷ (1 ∷ 0 ∷ []) ∷ (1 ∷ 1 ∷ []) ∷ (2 ∷ 0 ∷ []) ∷ (2 ∷ 1 ∷ []) ∷ []
 root = filter_agree (λ choice. all_hold (conjuncts_of pair T) (0 ∷ 1 ∷ []) (row_in (0 ∷ 1 ∷ []) choice))

@@ -1,4 +1,4 @@
--- The bounds and the plan of the join, by computation.
+-- The bounds and the plan of the join, proved by computation.
 use Rattle.std.proofs.Common.{◌≡◌, ℕ, List, [], ◌∷◌, Result, Ok, Err, refl, ap, ◌∙◌, arith}
 use Rattle.entry_sets.specs.Sets.{entries_of_set}
 use Rattle.plans.specs.Examples.{plan_of}
@@ -37,12 +37,12 @@ sets : set_bounds_of pair (tables_in small_rows) 1 ≡ 1 ∷ 6 ∷ 5 ∷ 12 ∷ 
 unfolding entries_of_set
 sets = rw (entries_compare op.Eq (column_operand 0 0) (column_operand 1 0), equality_two 0 0 1 0 (λ e. absurd (omega (arith, e)))) refl
 
--- the choice over these bounds, within the usual budget and within one that isn't enough
+-- the choice among orders over these bounds, within the usual budget
 chosen : plan_answer (1 ∷ 6 ∷ 5 ∷ 12 ∷ []) (6 ∷ 5 ∷ []) 1000000 ≡ Ok (plan_of (1 ∷ 0 ∷ []) (6 ∷ 5 ∷ []) (5 ∷ 12 ∷ []))
 unfolding plan_answer best_order
 chosen = refl
 
--- the one tree that there is
+-- the choice among trees over these bounds: there is only one tree
 tree_chosen : tree_answer (1 ∷ 6 ∷ 5 ∷ 12 ∷ []) (6 ∷ 5 ∷ []) 1000000 ≡ Ok (tree_of (join 0 1 12 ∷ []) (6 ∷ 5 ∷ []) 12)
 unfolding best_tree tree_answer
 tree_chosen = refl

@@ -1,4 +1,4 @@
--- The query texts are read as their joins, by computation.
+-- The query texts are read as their joins, proved by computation.
 use Rattle.std.proofs.Common.{◌≡◌, List, [], ◌∷◌, ◌++◌, Some, None, Ok, refl, ap, ◌∙◌}
 use Rattle.std.specs.Str.{chars, is_utf8}
 use Rattle.std.specs.Str.Lossy.{utf8_valid_len}
@@ -38,12 +38,12 @@ use Rattle.query_names.specs.declared.scope.Scope.{Scope}
 use Rattle.worked_run.specs.OneTable.{workers_query}
 use Rattle.worked_run.specs.TwoTables.{query_text}
 
--- R.X = S.X, behind WHERE
+-- the condition R.X = S.X, after WHERE
 abbrev is_joined : TestNode
 is_joined = test.Compare (operand.Column (record { table = Some (token terminal.Name 27 28); column = token terminal.Name 29 30 }))
     op.Eq (operand.Column (record { table = Some (token terminal.Name 33 34); column = token terminal.Name 35 36 }))
 
--- the whole text
+-- the syntax tree of the whole text
 abbrev tree : QueryNode
 tree = record {
   outs = outs.Listed (out.Column (record { table = Some (token terminal.Name 7 8); column = token terminal.Name 9 10 }) None ∷ []);
@@ -67,9 +67,9 @@ meant = rw (tests_test is_joined, conjoined) refl
 pub query_read : query_answer two_tables query_text ≡ Ok pair
 query_read = spelled ∙ meant
 
--- ---- a worker and the boss
+-- ---- the query on workers and their bosses
 
--- E.B = M.N, and M.R = 3
+-- the conditions E.B = M.N and M.R = 3
 abbrev is_boss : TestNode
 is_boss = test.Compare (operand.Column (record { table = Some (token terminal.Name 37 38); column = token terminal.Name 39 40 }))
     op.Eq (operand.Column (record { table = Some (token terminal.Name 43 44); column = token terminal.Name 45 46 }))

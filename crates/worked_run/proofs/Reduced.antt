@@ -1,4 +1,4 @@
--- The run over reduced scans, by computation. What doesn't depend on how bounds over them are made serves the run by counting too.
+-- The run over reduced scans, proved by computation. Lemmas that don't depend on how bounds over these scans are made serve the run by counting too.
 use Rattle.std.proofs.Common.{◌≡◌, ℕ, ◌+◌, List, [], ◌∷◌, None, Some, Result, Ok, map, refl, ap, ◌∙◌, arith}
 use Rattle.std.specs.Fmt.{digits}
 use Rattle.std.specs.Prelude.{codes}
@@ -50,9 +50,9 @@ use Rattle.worked_run.proofs.Levels.{T, said, says, scans_found}
 use Rattle.worked_run.proofs.Verdicts.{of_words}
 
 abbrev pub task : ListSource → PlanWork
-task source = record { budget = 1000000; accuracy = 1; source = source; shape = shapes.Order; memory = None; out = out_text.Rows }
+task source = record { terms = record { budget = 1000000; shape = shapes.Order; memory = None }; accuracy = 1; source = source; out = out_text.Rows }
 
--- ---- what is left
+-- ---- the rows that semi-joins leave
 
 pub joins : equalities_of pair ≡ edge_of 0 0 1 0 ∷ []
 joins = rw (equality_two 0 0 1 0 (λ e. absurd (omega (arith, e)))) refl
@@ -83,7 +83,7 @@ chosen = refl
 abbrev along : Result Plan PlanError → Result AnyPlan PlanError
 along answer = seen (λ plan. shaped.OrderPlan plan) answer
 
--- the plan from bounds of the sets, over the rows that are left
+-- the plan from these bounds of the sets, over the rows that semi-joins leave
 pub plan_over : (found : List ℕ) → found ≡ 1 ∷ 3 ∷ 2 ∷ 6 ∷ [] → answer_of shapes.Order found (list_sizes pair reduced_lists) 1000000 ≡ Ok (shaped.OrderPlan plan)
 plan_over found are = ap (λ (bounds : List ℕ). answer_of shapes.Order bounds (3 ∷ 2 ∷ []) 1000000) are ∙ ap along chosen
 

@@ -1,4 +1,4 @@
--- The two table files are read as their rows, by computation.
+-- The two table files are read as their rows, proved by computation.
 use Rattle.std.proofs.Common.{◌≡◌, Ok, refl}
 use Rattle.std.specs.Prelude.{codes}
 use Rattle.std.specs.Str.{chars, is_utf8}

@@ -1,4 +1,4 @@
--- The schema texts are read as their tables, by computation.
+-- The schema texts are read as their tables, proved by computation.
 use Rattle.std.specs.Str.{chars, is_utf8}
 use Rattle.std.specs.Str.Lossy.{utf8_valid_len}
 use Rattle.ll_grammars.specs.Reading.{read_many, read_tails}

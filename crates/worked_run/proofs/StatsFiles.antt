@@ -1,5 +1,5 @@
 -- The statistics file of the small tables, a plan from it, and the file with new rows.
-use Rattle.std.proofs.Common.{◌≡◌, ℕ, List, [], ◌∷◌, None, Some, Result, Ok, refl, ap, sym, ◌∙◌, subst, arith}
+use Rattle.std.proofs.Common.{◌≡◌, ℕ, false, List, [], ◌∷◌, None, Some, Result, Ok, refl, ap, sym, ◌∙◌, subst, arith}
 use Rattle.std.specs.Fmt.{digits}
 use Rattle.std.specs.Prelude.{codes}
 use Rattle.std.specs.Str.{chars, is_utf8}
@@ -38,7 +38,7 @@ use Rattle.table_files.specs.EntryTables.{tables_in}
 use Rattle.table_files.specs.Examples.{numbers_table, two_tables}
 use Rattle.table_files.specs.TableFile.{read, rows_in}
 use Rattle.safebound_words.specs.Answer.{command_of, kind_of, parts_from, reading_of}
-use Rattle.safebound_words.specs.Commands.{over_query, with_rows}
+use Rattle.safebound_words.specs.Commands.{over_query, terms_by, with_rows}
 use Rattle.safebound_words.specs.Numbers.{number_of}
 use Rattle.safebound_words.specs.Table.{over_files}
 use Rattle.safebound_words.specs.declared.command.Aim.TheVariants as aims
@@ -63,13 +63,13 @@ use Rattle.worked_run.proofs.Verdicts.{asked_run, plan_alone, query_found, schem
 abbrev new_rows : NewRows
 new_rows = record { stats_file = codes "rs.stats"; table = codes "R"; rows_file = codes "new.csv" }
 
--- ---- the words
+-- ---- the words are read
 
 stats_asked : command_stage stats_words ≡ Ok (over_query None (codes "schema.sql") (codes "query.sql") (works.WriteStats 1))
 unfolding command_of reading_of over_files parts_from kind_of number_of
 stats_asked = refl
 
-from_file_asked : command_stage from_file_words ≡ Ok (over_query None (codes "schema.sql") (codes "query.sql") (works.PlanFromStats (codes "rs.stats") 1000000 None))
+from_file_asked : command_stage from_file_words ≡ Ok (over_query None (codes "schema.sql") (codes "query.sql") (works.PlanFromStats (codes "rs.stats") (terms_by 1000000 false None)))
 unfolding command_of reading_of over_files parts_from kind_of number_of
 from_file_asked = refl
 
@@ -77,7 +77,7 @@ append_asked : command_stage append_words ≡ Ok (with_rows (codes "schema.sql")
 unfolding command_of reading_of over_files parts_from kind_of number_of
 append_asked = refl
 
--- ---- the file of both tables
+-- ---- the statistics file of both tables
 
 file_found : file_of_query two_tables pair (tables_in small_rows) 1 ≡ small_stats
 file_found = rw (entries_compare op.Eq (column_operand 0 0) (column_operand 1 0), equality_two 0 0 1 0 (λ e. absurd (omega (arith, e)))) refl
@@ -100,23 +100,23 @@ text_is = refl
 pub stats_printed : out_text small_stats_file ≡ Some stats_text
 stats_printed = ap (λ (t : List ℕ). Some t) text_is
 
--- ---- a plan from it
+-- ---- a plan from the statistics file
 
 there : read file_id.Stats most_file (codes "rs.stats") small_files ≡ Ok stats_text
 unfolding stats_text r_stats r_cuts s_stats
 there = refl
 
-alike : seen printed (command_run (over_query None (codes "schema.sql") (codes "query.sql") (works.PlanFromStats (codes "rs.stats") 1000000 None)) small_files)
+alike : seen printed (command_run (over_query None (codes "schema.sql") (codes "query.sql") (works.PlanFromStats (codes "rs.stats") (terms_by 1000000 false None))) small_files)
     ≡ Ok (Some (codes "scan R 6\nscan S 5\nlevel 1 S 5\nlevel 2 R 12\n"), None)
 alike =
-    files_alike (codes "schema.sql") (codes "query.sql") (codes "rs.stats") 1 1000000 None small_files small_stats_file stats_text (omega arith) (omega arith) file_made stats_printed there
+    files_alike (codes "schema.sql") (codes "query.sql") (codes "rs.stats") 1 (terms_by 1000000 false None) small_files small_stats_file stats_text (omega arith) (omega arith) file_made stats_printed there
     ∙ ap (seen printed) plan_alone ∙ ap (λ (t : List ℕ). Ok (Some t, None)) (notes_text out_texts.Nothing)
 
 pub plan_printed : seen printed (verdict from_file_words small_files) ≡ Ok (Some (codes "scan R 6\nscan S 5\nlevel 1 S 5\nlevel 2 R 12\n"), None)
 plan_printed =
-    ap (seen printed) (asked_run from_file_words (over_query None (codes "schema.sql") (codes "query.sql") (works.PlanFromStats (codes "rs.stats") 1000000 None)) from_file_asked) ∙ alike
+    ap (seen printed) (asked_run from_file_words (over_query None (codes "schema.sql") (codes "query.sql") (works.PlanFromStats (codes "rs.stats") (terms_by 1000000 false None))) from_file_asked) ∙ alike
 
--- ---- with new rows
+-- ---- the statistics file after new rows are appended
 
 said : DeclaresSchema small_files (codes "schema.sql") two_tables
 said = declares (codes "schema.sql") small_files two_tables schema_found

@@ -1,5 +1,5 @@
--- What one call wrote and another one read, by the law on such calls.
-use Rattle.std.proofs.Common.{◌≡◌, ℕ, List, None, Some, Ok, refl, ap, sym, ◌∙◌, subst}
+-- One call wrote a statistics file and another call read it: the law on two such calls, applied to these.
+use Rattle.std.proofs.Common.{◌≡◌, ℕ, false, List, None, Some, Ok, refl, ap, sym, ◌∙◌, subst}
 use Rattle.std.specs.Prelude.{codes}
 use Rattle.base_io.specs.Files.{Files, file_of}
 use Rattle.safebound_laws.proofs.Ended.{same_some}
@@ -11,7 +11,7 @@ use Rattle.schema_types.specs.Texts.{IsSchemaOf}
 use Rattle.table_files.specs.Examples.{two_tables}
 use Rattle.safebound_words.specs.Answer.{command_of, kind_of, parts_from, reading_of}
 use Rattle.safebound_words.specs.CommandLines.{AskFor}
-use Rattle.safebound_words.specs.Commands.{over_query}
+use Rattle.safebound_words.specs.Commands.{over_query, terms_by}
 use Rattle.safebound_words.specs.Numbers.{number_of}
 use Rattle.safebound_words.specs.Table.{over_files}
 use Rattle.safebound_words.specs.declared.command.Command.{Command}
@@ -29,7 +29,7 @@ abbrev stats_command : Command
 stats_command = over_query None (codes "schema.sql") (codes "query.sql") (works.WriteStats 1)
 
 abbrev plan_command : Command
-plan_command = over_query None (codes "schema.sql") (codes "query.sql") (works.PlanFromStats (codes "rs.stats") 1000000 None)
+plan_command = over_query None (codes "schema.sql") (codes "query.sql") (works.PlanFromStats (codes "rs.stats") (terms_by 1000000 false None))
 
 stats_asked : command_of stats_words ≡ Some stats_command
 unfolding command_of reading_of over_files parts_from kind_of number_of
@@ -45,7 +45,7 @@ asks words these command same computed = computed_asked words command (ap comman
 said : DeclaresSchema small_files (codes "schema.sql") two_tables
 said = declares (codes "schema.sql") small_files two_tables schema_found
 
--- the text of the schema, in whatever file
+-- the text of the schema declares only the two tables, whatever file has this text
 said_by_text : IsTheOne (λ s. IsSchemaOf schema_text (Ok s)) two_tables
 said_by_text =
     let here : file_of small_files (codes "schema.sql") ≡ Some schema_text = refl in

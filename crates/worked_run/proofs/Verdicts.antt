@@ -1,4 +1,4 @@
--- What the words and the small files give, stage by stage.
+-- The verdict on the words and the small files, stage by stage.
 use Rattle.std.proofs.Common.{◌≡◌, ℕ, List, Option, None, Some, Result, Ok, Err, refl, ap, ◌∙◌}
 use Rattle.std.specs.Prelude.{codes}
 use Rattle.csv_tables.specs.Rows.{Row}
@@ -42,14 +42,14 @@ use Rattle.worked_run.proofs.Queries.{query_read}
 use Rattle.worked_run.proofs.Rows.{r_read, s_read}
 use Rattle.worked_run.proofs.Schemas.{schema_read}
 
--- for a text for out, along an order or by a tree, within a budget, and with a limit of memory, where there is one
+-- the work of a plan with this text for `out`, as an order or a tree, within a budget, and with a limit of memory if there is one
 abbrev task : OutText → Shape → ℕ → Option ℕ → PlanWork
-task out shape budget memory = record { budget = budget; accuracy = 1; source = sources.Columns; shape = shape; memory = memory; out = out }
+task out shape budget memory = record { terms = record { budget = budget; shape = shape; memory = memory }; accuracy = 1; source = sources.Columns; out = out }
 
 abbrev ask : OutText → Shape → ℕ → Option ℕ → Command
 ask out shape budget memory = over_query None (codes "schema.sql") (codes "query.sql") (works.Plan (task out shape budget memory))
 
--- ---- the words
+-- ---- the words are read
 
 run_is_asked : command_stage run_words ≡ Ok (ask out_text.Rows shapes.Order 1000000 None)
 unfolding command_of reading_of over_files parts_from kind_of number_of
@@ -75,7 +75,7 @@ narrow_asked : command_stage small_memory_words ≡ Ok (ask out_text.Rows shapes
 unfolding command_of reading_of over_files parts_from kind_of number_of
 narrow_asked = refl
 
--- ---- the files
+-- ---- the files are read
 
 pub schema_found : schema_stage (codes "schema.sql") small_files ≡ Ok two_tables
 unfolding schema_stage schema_text
@@ -97,7 +97,7 @@ pub tables_found : tables_stage two_tables pair.from small_files ≡ Ok small_ro
 unfolding tables_stage
 tables_found = rw (r_found, s_found) refl
 
--- ---- the plan
+-- ---- the plan is made
 
 -- the run of a plan over the lists that were found
 found : (out : OutText) (shape : Shape) (memory : Option ℕ) (plan : AnyPlan) → run_asked (task out shape 1000000 memory) pair small_rows plan ≡ record {
@@ -127,7 +127,7 @@ made out shape memory plan is =
     ap (λ (answer : Result AnyPlan PlanError). told plan_refusal answer
     >>= λ plan. within_limit memory (shape_bytes plan) (Planned (run_asked (task out shape 1000000 memory) pair small_rows plan))) is
 
--- the order, behind a limit of memory
+-- the plan as an order, tested against the limit of memory if there is one
 plan_within : (out : OutText) (memory : Option ℕ)
     → plan_stage (task out shapes.Order 1000000 memory) two_tables pair small_rows ≡ within_limit memory 556 (Planned (two_tables_run out memory))
 plan_within out memory =
@@ -147,7 +147,7 @@ unfolding plan_stage
 plan_too_dear = ap (λ (plan : Result AnyPlan PlanError). told plan_refusal plan
     >>= λ plan. Ok (Planned (run_asked (task out_text.Rows shapes.Order 11 None) pair small_rows plan))) plan_refused
 
--- ---- one stage after the other
+-- ---- the stages are put together
 
 of_files : (work : PlanWork) → command_run (over_query None (codes "schema.sql") (codes "query.sql") (works.Plan work)) small_files ≡ plan_stage work two_tables pair small_rows
 unfolding command_run
@@ -156,7 +156,7 @@ of_files work =
     ∙ ap (λ (query : Result Query Refusal). query >>= λ q. work_run (works.Plan work) two_tables q small_files) query_found
     ∙ ap (λ (rows : Result (List (List Row)) Refusal). rows >>= plan_stage work two_tables pair) tables_found
 
--- what any command comes to whose words ask for it
+-- if the words are read as a command, their verdict is the run of this command
 pub asked_run : (words : List (List ℕ)) (command : Command) → command_stage words ≡ Ok command → verdict words small_files ≡ command_run command small_files
 unfolding verdict
 asked_run words command asked = ap (λ (a : Result Command Refusal). a >>= λ a. command_run a small_files) asked
@@ -165,7 +165,7 @@ pub of_words : (words : List (List ℕ)) (work : PlanWork) → command_stage wor
     → verdict words small_files ≡ plan_stage work two_tables pair small_rows
 of_words words work asked = asked_run words (over_query None (codes "schema.sql") (codes "query.sql") (works.Plan work)) asked ∙ of_files work
 
--- the plan alone, which a plan from a statistics file is compared with
+-- the verdict on a plan from the tables; a plan from a statistics file is compared with it
 pub plan_alone : command_run (ask out_text.Nothing shapes.Order 1000000 None) small_files ≡ Ok (Planned (two_tables_run out_text.Nothing None))
 plan_alone = of_files (task out_text.Nothing shapes.Order 1000000 None) ∙ plan_made out_text.Nothing
 

@@ -1,4 +1,4 @@
--- What a call answers over given files.
+-- How calls end over given files.
 use Rattle.std.specs.Prelude.{ℕ, ◌≡◌, ◌⊎◌, List, Option, Some}
 use Rattle.base_io.specs.Causes.{Rose}
 use Rattle.base_io.specs.Files.{Files}
@@ -7,20 +7,20 @@ use Rattle.outcomes.specs.declared.status.Status.TheVariants as status
 use Rattle.safebound_top.specs.Call.{Call}
 use Rattle.safebound_top.specs.Headline.{FaultsRose, GrewWhole, Headline}
 
--- no device failed
+-- no device of the call (store, `out` or `notes`) failed
 pub record IsFaultless (call : Call) : Type 0 where
   pub store : Rose call.store.faults_before call.store.faults_after → ⊥
   pub out : FaultsRose call.out → ⊥
   pub notes : FaultsRose call.notes → ⊥
 
--- its status is this one, its notes grew by exactly this text, and out by exactly that one; a stream without a text took nothing
+-- the call has status `s`, its notes grew by exactly `note_text`, and its `out` by exactly `out_text`; a stream without a text took nothing
 pub record Ended (call : Call) (s : Status) (note_text out_text : Option (List ℕ)) : Type 0 where
   pub status : call.status ≡ s
   pub notes : GrewWhole call.notes note_text
   pub out : GrewWhole call.out out_text
 
--- each call with these words, over a store that tells these files, that keeps the headline and of which no device failed, ended so, or memory
--- was wanting
+-- Each call with these words ends in this way, or memory was lacking. The call is over a store that tells these files, the headline theorem holds of
+-- the call, and none of its devices failed
 abbrev pub EachCallEnds : Files → List (List ℕ) → Status → Option (List ℕ) → Option (List ℕ) → Type 0
 EachCallEnds files words s note_text out_text = (call : Call) → Headline call → call.words ≡ words → call.store.files ≡ Some files
     → IsFaultless call → Ended call s note_text out_text ⊎ (call.status ≡ status.NoMemory)

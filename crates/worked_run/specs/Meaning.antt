@@ -1,4 +1,4 @@
--- What the two tables and their query mean.
+-- The tables, rows and plans that the small files give.
 use Rattle.std.specs.Prelude.{ℕ, List, [], ◌∷◌, map, pos, Option, None}
 use Rattle.appended_stats.specs.Appended.{file_after}
 use Rattle.csv_tables.specs.Rows.{Row}
@@ -20,19 +20,20 @@ use Rattle.safebound_words.specs.declared.command.ListSource.TheVariants as sour
 use Rattle.safebound_words.specs.declared.command.OutText.{OutText}
 use Rattle.safebound_words.specs.declared.command.OutText.TheVariants as out_text
 
--- the rows of a table of one column of numbers
+-- the rows of a table with one column of numbers
 abbrev pub rows_of : List ℕ → List Row
 rows_of column = map (λ n. Int (pos n) ∷ []) column
 
--- for each FROM entry its rows
+-- the rows of each FROM entry
 abbrev pub small_rows : List (List Row)
 small_rows = rows_of r_column ∷ rows_of s_column ∷ []
 
--- for each the numbers of all its rows: no conjunct names one entry alone
+-- the row numbers that the scan of each FROM entry has: all rows, since no conjunct names only one entry
 abbrev pub small_lists : List (List ℕ)
 small_lists = (0 ∷ 1 ∷ 2 ∷ 3 ∷ 4 ∷ 5 ∷ []) ∷ (0 ∷ 1 ∷ 2 ∷ 3 ∷ 4 ∷ []) ∷ []
 
--- the join of both, with a limit of memory, if there is one, in the order S, R, with bounds 6 and 5 of the scans and 5 and 12 of the levels
+-- the accepted query with a plan in the order S, R; the scans have bounds 6 and 5, the levels 5 and 12. `memory` is the limit of memory, if there is
+-- one
 abbrev pub two_tables_run : OutText → Option ℕ → AcceptedQuery
 two_tables_run out memory = record {
   query = pair;
@@ -44,7 +45,7 @@ two_tables_run out memory = record {
   out = out;
 }
 
--- the join of both as a tree: the node over R and S has bound 12
+-- the accepted query with a plan as a tree: the node over R and S has bound 12
 abbrev pub two_tables_tree : OutText → Option ℕ → AcceptedQuery
 two_tables_tree out memory = record {
   query = pair;
@@ -56,11 +57,12 @@ two_tables_tree out memory = record {
   out = out;
 }
 
--- what semi-joins leave: the rows of value 1
+-- the rows that semi-joins leave: those with value 1
 abbrev pub reduced_lists : List (List ℕ)
 reduced_lists = (0 ∷ 1 ∷ 2 ∷ []) ∷ (0 ∷ 1 ∷ []) ∷ []
 
--- the join of these in the order S, R, with bounds 3 and 2 of the scans and 2 and 6 of the levels, from degree lists or by counting
+-- the accepted query over the rows that semi-joins leave, in the order S, R; the scans have bounds 3 and 2, the levels 2 and 6. Degree lists and
+-- counting give the same bounds
 abbrev pub two_tables_reduced : ListSource → AcceptedQuery
 two_tables_reduced source = record {
   query = pair;
@@ -74,14 +76,14 @@ two_tables_reduced source = record {
 
 -- ---- statistics
 
--- of each table the number of its rows, and the statistics of its column with itself, at accuracy 1
+-- the statistics of a table at accuracy 1: its number of rows, and its only column as filter column and joined column
 abbrev pub section : ℕ → ℕ → TableStats
 section table rows = record { table = table; rows = rows; pairs = pair_in_table (tables_in small_rows) 1 table 0 0 ∷ [] }
 
 abbrev pub small_stats : StatsFile
 small_stats = record { accuracy = 1; tables = section 0 6 ∷ section 1 5 ∷ [] }
 
--- the file, and this file after 1 and 4 were appended to R
+-- the outcome of `stats`, and that of `append` after the rows 1 and 4 are appended to R
 abbrev pub small_stats_file : RunOutcome
 small_stats_file = StatsMade (record { schema = two_tables; query = pair; rows = small_rows; file = small_stats })
 

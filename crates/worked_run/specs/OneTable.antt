@@ -1,4 +1,4 @@
--- A table that refers to its own key: the words of a command with `--keys`, and the files.
+-- A table that refers to its own key: its files, and the words of a command with `--keys`.
 use Rattle.std.specs.Prelude.{ℕ, List, [], ◌∷◌, codes}
 use Rattle.base_io.specs.Files.{Files}
 
@@ -9,7 +9,7 @@ workers_schema = codes "CREATE TABLE W (N INTEGER PRIMARY KEY, B INTEGER NOT NUL
 unfoldable pub workers_query : List ℕ
 workers_query = codes "SELECT E.N FROM W AS E, W AS M WHERE E.B = M.N AND M.R = 3"
 
--- 1 is the boss of 1 and 2, and 2 is the boss of 3, 4 and 5; 1 alone is in region 3
+-- Worker 1 is the boss of workers 1 and 2, and worker 2 is the boss of workers 3, 4 and 5. Only worker 1 is in region 3
 unfoldable pub workers_text : List ℕ
 workers_text = codes "N,B,R\r\n1,1,3\r\n2,1,4\r\n3,2,4\r\n4,2,4\r\n5,2,4\r\n"
 

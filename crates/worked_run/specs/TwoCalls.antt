@@ -1,6 +1,7 @@
--- A call of `stats` over the small tables, and one of `plan --stats` over other files.
-use Rattle.std.specs.Prelude.{codes, None}
+-- A call of `stats` over the small tables, and a call of `plan --stats` over any files.
+use Rattle.std.specs.Prelude.{codes, false, None}
 use Rattle.base_io.specs.Files.{Files}
+use Rattle.safebound_words.specs.Commands.{terms_by}
 use Rattle.safebound_top.specs.Call.{Call}
 use Rattle.safebound_laws.specs.FileCalls.{PlanCall, StatsCall}
 use Rattle.worked_run.specs.TwoTables.{small_files}
@@ -15,6 +16,5 @@ plan_call call files = record {
   schema_file = codes "schema.sql";
   query_file = codes "query.sql";
   stats_file = codes "rs.stats";
-  budget = 1000000;
-  memory = None;
+  terms = terms_by 1000000 false None;
 }

@@ -1,4 +1,4 @@
--- Two tables that are joined by one column: their files, and the words of eleven commands over them.
+-- Two tables that are joined by one column: their files, and the words of eleven commands over these files.
 use Rattle.std.specs.Prelude.{ℕ, List, [], ◌∷◌, ◌++◌, codes, replicate}
 use Rattle.std.specs.List.{concat}
 use Rattle.base_io.specs.Files.{Files}
@@ -9,7 +9,7 @@ schema_text = codes "CREATE TABLE R (X INTEGER NOT NULL); CREATE TABLE S (X INTE
 unfoldable pub query_text : List ℕ
 query_text = codes "SELECT R.X FROM R, S WHERE R.X = S.X"
 
--- R(X) of 1, 1, 1, 2, 2, 3, and S(X) of 1, 1, 4, 5, 6
+-- R(X) has the rows 1, 1, 1, 2, 2, 3, and S(X) has the rows 1, 1, 4, 5, 6
 unfoldable pub r_text : List ℕ
 r_text = codes "X\r\n1\r\n1\r\n1\r\n2\r\n2\r\n3\r\n"
 
@@ -26,7 +26,8 @@ new_text = codes "X\r\n1\r\n4\r\n"
 abbrev pub times : ℕ → List ℕ → List ℕ
 times count line = concat (replicate count line)
 
--- the sections of R and of S. At the end of each are 32 cuts, then the nodes of 1 leaf, of 2 leaves, and so on up to the one of 32
+-- the sections of R and S in the file. Each ends with 32 cuts, and after them the nodes with 1 leaf, those with 2 leaves, and so on up to the node
+-- with 32
 unfoldable pub r_cuts : List ℕ
 r_cuts = times 16 (codes "cut 1\n") ++ times 11 (codes "cut 2\n") ++ times 5 (codes "cut 3\n")
 
@@ -50,8 +51,8 @@ s_stats = codes "table x53 5\npair x58 x58\nwhole 2*2 1*1\nfrequent 1 2*1\nfrequ
 unfoldable pub stats_text : List ℕ
 stats_text = codes "safebound-stats 1 1\n" ++ r_stats ++ s_stats ++ codes "end\n"
 
--- the section of R after the two rows are added. 1 is a frequent value, so its list grows. 4 isn't, so it counts in the rest list; it is above
--- the last cut, so it counts in the last leaf
+-- The section of R after two rows are added. Value 1 is frequent, so its list grows. Value 4 isn't frequent, so it is counted in the rest list; it is
+-- above the last cut, so it is counted in the last leaf
 unfoldable pub grown_r_stats : List ℕ
 grown_r_stats = codes "table x52 8\npair x58 x58\nwhole 4*2\nfrequent 1 4*1\nfrequent 2 2*1\nfrequent 3 1*1\nrest 1*1\n" ++ r_cuts
     ++ times 15 (codes "node -\n") ++ codes "node 4*1\n" ++ times 10 (codes "node -\n") ++ codes "node 2*1\n"
@@ -63,14 +64,14 @@ grown_r_stats = codes "table x52 8\npair x58 x58\nwhole 4*2\nfrequent 1 4*1\nfre
 unfoldable pub grown_text : List ℕ
 grown_text = codes "safebound-stats 1 1\n" ++ grown_r_stats ++ s_stats ++ codes "end\n"
 
--- ---- all files by their names
+-- ---- all files with their names
 
 abbrev pub small_files : Files
 small_files =
     (codes "schema.sql", schema_text) ∷ (codes "query.sql", query_text) ∷ (codes "r.csv", r_text) ∷ (codes "s.csv", s_text)
     ∷ (codes "rs.stats", stats_text) ∷ (codes "new.csv", new_text) ∷ []
 
--- ---- words
+-- ---- the words of commands
 
 abbrev pub run_words : List (List ℕ)
 run_words = codes "run" ∷ codes "schema.sql" ∷ codes "query.sql" ∷ []
@@ -78,29 +79,29 @@ run_words = codes "run" ∷ codes "schema.sql" ∷ codes "query.sql" ∷ []
 abbrev pub audit_words : List (List ℕ)
 audit_words = codes "audit" ∷ codes "schema.sql" ∷ codes "query.sql" ∷ []
 
--- the audit of a join tree
+-- `audit` with a join tree
 abbrev pub tree_words : List (List ℕ)
 tree_words = codes "audit" ∷ codes "schema.sql" ∷ codes "query.sql" ∷ codes "--bushy" ∷ []
 
--- with a limit of memory that is just enough, and with one that is a byte too small
+-- `run` with a limit of memory that is just enough, and with one that is a byte too small
 abbrev pub limited_words : List (List ℕ)
 limited_words = codes "run" ∷ codes "schema.sql" ∷ codes "query.sql" ∷ codes "--memory" ∷ codes "556" ∷ []
 
 abbrev pub small_memory_words : List (List ℕ)
 small_memory_words = codes "run" ∷ codes "schema.sql" ∷ codes "query.sql" ∷ codes "--memory" ∷ codes "555" ∷ []
 
--- with a budget that is one too small
+-- `run` with a budget that is one too small
 abbrev pub small_budget_words : List (List ℕ)
 small_budget_words = codes "run" ∷ codes "schema.sql" ∷ codes "query.sql" ∷ codes "--budget" ∷ codes "11" ∷ []
 
--- over the rows that semi-joins leave, and then by counting over the same rows
+-- `run` over the rows that semi-joins leave, and by counting over these rows
 abbrev pub reduced_words : List (List ℕ)
 reduced_words = codes "run" ∷ codes "schema.sql" ∷ codes "query.sql" ∷ codes "--reduce" ∷ []
 
 abbrev pub counted_words : List (List ℕ)
 counted_words = codes "run" ∷ codes "schema.sql" ∷ codes "query.sql" ∷ codes "--count" ∷ []
 
--- these write the statistics file, plan from it, and add the two rows to it
+-- the commands that write the statistics file, plan from it, and add two rows to it
 abbrev pub stats_words : List (List ℕ)
 stats_words = codes "stats" ∷ codes "schema.sql" ∷ codes "query.sql" ∷ []
 

@@ -1,4 +1,4 @@
-//! What `run` and `audit` answer over two small tables. Each contract is a theorem about one call; the functions do nothing.
+//! How `run` and `audit` end over two small tables. Each contract is a theorem on one call; the functions do nothing.
 ghost use Rattle.std.specs.Prelude.{◌≡◌, Ok, Err, None, Some, codes};
 ghost use Rattle.outcomes.specs.declared.refusal.Refusal.TheVariants as refusal;
 ghost use Rattle.outcomes.specs.declared.status.Status.TheVariants as status;
@@ -56,8 +56,8 @@ pub fn above_its_limit()
     ensures call { EachCallEnds small_files small_memory_words (status.Refused (refusal.MemoryLimit 556)) (Some (codes "error memory-limit 556\n")) None }
 {}
 
-/// `run schema.sql query.sql --reduce`: three rows of R and two of S have a partner. Both orders cost 6, and S, R has the smaller sum of bounds.
-/// Both levels have as many rows as their bounds.
+/// `run schema.sql query.sql --reduce`: three rows of R and two of S have a partner. Both orders cost 6, and S, R has the smaller sum of bounds. Both
+/// levels have as many rows as their bounds.
 pub fn joined_over_reduced_scans()
     ensures verdict { verdict reduced_words small_files ≡ Ok (Planned (two_tables_reduced sources.Reduced)) }
     ensures notes { plan_text (two_tables_reduced sources.Reduced) ≡ codes "scan R 3\nscan S 2\nlevel 1 S 2\nlevel 2 R 6\n" }

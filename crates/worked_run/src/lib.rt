@@ -1,20 +1,20 @@
-//! Twelve calls over small tables, from the words and the bytes of the files to the bytes of both streams, as theorems by
-//! computation. `examples` has those of `run` and `audit`: along an order, by a join tree, over reduced scans, by counting over these, with
-//! a budget that is one too small, and with a limit of memory that is just enough and with one that is a byte too small. `statistics` has
-//! `stats`, `plan --stats` and `append`, and `keys` has `plan --keys`.
+//! Twelve calls over small tables, as theorems that are proved by computation: they lead from the words and the bytes of the files to the bytes of
+//! both streams. `examples` has the calls of `run` and `audit`. They plan along an order, by a join tree, over reduced scans, and by counting over
+//! these; they have a budget that is one too small, and limits of memory that are just enough and a byte too small. `statistics` has `stats`,
+//! `plan --stats` and `append`, and `keys` has `plan --keys`.
 //!
-//! The files of all but the last are
+//! The files of all these calls but `plan --keys` are
 //!
 //! ```text
 //! schema.sql   CREATE TABLE R (X INTEGER NOT NULL); CREATE TABLE S (X INTEGER NOT NULL);
 //! query.sql    SELECT R.X FROM R, S WHERE R.X = S.X
 //! r.csv        X, and the records 1, 1, 1, 2, 2, 3
 //! s.csv        X, and the records 1, 1, 4, 5, 6
-//! rs.stats     what `stats` writes of them
+//! rs.stats     what `stats` writes of both tables
 //! new.csv      X, and the records 1, 4
 //! ```
 //!
-//! and `run schema.sql query.sql` leaves
+//! and `run schema.sql query.sql` writes
 //!
 //! ```text
 //! notes        scan R 6
@@ -24,8 +24,8 @@
 //! out          X, and the record 1 six times
 //! ```
 //!
-//! What the words and files determine is computed stage by stage (`proofs/`), and the headline carries it to each call that
-//! keeps it (`EachCallEnds` in `specs/Calls.antt`). Nothing here does anything when it runs.
+//! The verdict on words and files is computed stage by stage (`proofs/`). By the headline theorem it is true of each call with these words and files
+//! (`EachCallEnds` in `specs/Calls.antt`). Nothing here does anything when it runs.
 #![tactic(auto)]
 
 mod examples;

@@ -1,4 +1,4 @@
-//! What `stats`, `plan --stats` and `append` answer. Each function is the law in its contract, and does nothing.
+//! How `stats`, `plan --stats` and `append` end over two small tables. Each contract is a theorem; the functions do nothing.
 ghost use Rattle.std.specs.Prelude.{◌≡◌, Ok, None, Some, codes};
 ghost use Rattle.base_io.specs.Files.{Files, file_of};
 ghost use Rattle.safebound_laws.specs.FileCalls.{Took};
@@ -16,30 +16,30 @@ ghost use Rattle.worked_run.specs.Meaning.{small_appended, small_stats_file};
 ghost use Rattle.worked_run.specs.TwoCalls.{plan_call, stats_call};
 ghost use Rattle.worked_run.specs.TwoTables.{append_words, from_file_words, grown_text, schema_text, small_files, stats_text, stats_words};
 
-/// `stats schema.sql query.sql`: the statistics file of both tables.
+/// `stats schema.sql query.sql` writes the statistics file of both tables.
 pub fn statistics_written()
     ensures verdict { verdict stats_words small_files ≡ Ok small_stats_file }
     ensures out { out_text small_stats_file ≡ Some stats_text }
     ensures call { EachCallEnds small_files stats_words status.Done None (Some stats_text) }
 {}
 
-/// `plan schema.sql query.sql --stats rs.stats`, whose file has these bytes: the plan that the tables have.
+/// `plan schema.sql query.sql --stats rs.stats`: if the file has the bytes that `stats` writes, the plan is the one over the tables.
 pub fn planned_from_a_file()
     ensures printed { seen printed (verdict from_file_words small_files)
         ≡ Ok (Some (codes "scan R 6\nscan S 5\nlevel 1 S 5\nlevel 2 R 12\n"), None) }
     ensures call { EachCallEnds small_files from_file_words status.Done (Some (codes "scan R 6\nscan S 5\nlevel 1 S 5\nlevel 2 R 12\n")) None }
 {}
 
-/// `append schema.sql rs.stats R new.csv`: the same file with 1 and 4 behind the rows of R.
+/// `append schema.sql rs.stats R new.csv` writes the statistics file in which the rows 1 and 4 are added to R.
 pub fn appended()
     ensures verdict { verdict append_words small_files ≡ Ok small_appended }
     ensures out { out_text small_appended ≡ Some grown_text }
     ensures call { EachCallEnds small_files append_words status.Done None (Some grown_text) }
 {}
 
-/// The bytes alone connect two calls: where a call of `stats` over the small tables is done, whose out took them, and a call of `plan --stats` is
-/// done over any files of which the schema is this one and the statistics file has these bytes, then the plan of whatever query stands in its
-/// file holds over the small tables.
+/// The bytes alone connect two calls. A call of `stats` over the small tables is done, and its `out` took the bytes of the statistics file. A call of
+/// `plan --stats` is done over any files in which the schema is the same and the statistics file has these bytes. Then the plan of whatever query this
+/// call reads holds over the small tables.
 pub fn plans_from_these_bytes_hold()
     ensures { (made planned : Call) (files : Files) → Headline made → made.words ≡ stats_words → made.status ≡ status.Done
         → made.store.files ≡ Some small_files → Took made.out stats_text

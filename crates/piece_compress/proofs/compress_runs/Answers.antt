@@ -17,7 +17,7 @@ loop-equal-init c =
     (runs_none c.args.accuracy c.pieces-runs.result.now c.first_degree-head.result
     (c.first_degree-head.ensures ∙ ap (λ (s : List ℕ). get_or s 0 0) c.pieces-runs.ensures.stands_for))
 
--- ---- numbers fit
+-- ---- no arithmetic overflows
 
 pub overflow_cast-degree : goal.overflow_cast-degree
 overflow_cast-degree c =
@@ -111,7 +111,7 @@ overflow_add-covered c =
           c.div_ceil-times.result c.if-covered-rows.true c.div_ceil-times.ensures,
     )
 
--- ---- one run more
+-- ---- the loop over the runs
 
 pub loop-equal-preserved : goal.loop-equal-preserved
 loop-equal-preserved c = elim c.if-covered-rows.branch [
@@ -124,7 +124,7 @@ loop-equal-preserved c = elim c.if-covered-rows.branch [
       c.head_after-head.result (c.loop-equal.rows + (get_or c.pieces-runs.result.now c.loop-equal.equal-index no_piece).value * (get_or c.pieces-runs.result.now c.loop-equal.equal-index no_piece).count) c.head_after-head.ensures refl w.if-covered-rows.false)
 ]
 
--- ---- at the end
+-- ---- after the loop
 
 pub finish-requires-clause-excess : goal.finish-requires-clause-excess
 finish-requires-clause-excess c =

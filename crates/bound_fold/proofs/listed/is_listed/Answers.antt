@@ -12,7 +12,6 @@ use Rattle.bound_fold.proofs.listed.is_listed.Goals as goal
 pub returns-then-not-all_have_rows : goal.returns-then-not-all_have_rows
 returns-then-not-all_have_rows c = told false (SetIsListed c.args.lists.now c.args.parts.now.equalities c.args.subset) (λ h. c.if-not-all_have_rows.ensures h.rows)
 
--- every column that an equality of the set names has its list
 abbrev AllNamed : EntryLists → ℕ → List Edge → Type 0
 AllNamed lists subset es = EachNamedColumn (λ entry column. IsSome (list_of lists entry column)) (equalities_within subset es)
 

@@ -4,7 +4,6 @@ use Rattle.cond_stats.proofs.RunsFound.{RunsSoFar, no_runs, run_goes_on, run_end
 use Rattle.cond_stats.proofs.groups.runs_of.Goals as goal
 use Rattle.cond_stats.proofs.groups.runs_of.Goals.{then-ends_run+in_ok-push, else-ends_run}
 
--- the same at equal runs and at an equal start
 as_is : (numbers places : List ℕ) (runs runs' : List Group) (start start' i : ℕ) → runs' ≡ runs → start' ≡ start → RunsSoFar numbers places runs start i → RunsSoFar numbers places runs' start' i
 as_is numbers places runs runs' start start' i same_runs same_start so =
     subst (λ r. RunsSoFar numbers places r start' i) (sym same_runs) (subst (λ s. RunsSoFar numbers places runs s i) (sym same_start) so)

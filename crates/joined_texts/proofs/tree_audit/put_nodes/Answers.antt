@@ -8,7 +8,7 @@ use Rattle.joined_texts.specs.Printed.{node_counts}
 use Rattle.joined_texts.proofs.AuditLines.{next_node_audit, node_count_at, node_count_long}
 use Rattle.joined_texts.proofs.tree_audit.put_nodes.Goals as goal
 
--- behind the last join
+-- `no_join` is the default for reading past the last join
 abbrev no_join : Join
 no_join = record { left = 0; right = 0; bound = 0 }
 

@@ -14,7 +14,7 @@ nonzero_div-whole c = rw c.ahead-block.ensures (block_positive c.pieces-blocks.r
 pub loop-at-init : goal.loop-at-init
 loop-at-init c = rw c.empty-list.ensures (grouped_start c.pieces-blocks.result.now c.pieces-rows.result.now c.pieces-blocks.ensures.whole c.pieces-rows.ensures.whole)
 
--- a block over several runs of rows
+-- these goals are about a block over several runs of rows
 
 pub put-requires-clause-falls : goal.put-requires-clause-falls
 put-requires-clause-falls c =
@@ -38,7 +38,7 @@ loop-at-preserved-then-whole-eq0 c =
     c.passed-at.ensures.rest (rw c.ahead-block.ensures at c.block_from-mixed.ensures.rest) c.passed-at.ensures.place c.block_from-mixed.ensures.next
     c.passed-at.ensures.stays (c.block_from-mixed.ensures.onward c.if-row-rows.true short)
 
--- whole blocks within one run of rows
+-- these goals are about whole blocks within one run of rows
 
 pub put-requires-else-whole-eq0-clause-falls : goal.put-requires-else-whole-eq0-clause-falls
 put-requires-else-whole-eq0-clause-falls c =

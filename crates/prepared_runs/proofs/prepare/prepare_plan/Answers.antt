@@ -32,8 +32,8 @@ memory_of-bytes-requires c =
       omega (arith, c.requires.database.some),
       c.requires.database.few,
       (plan_fits query tables (sourced task.source c.args.schema.now query tables)
-          (stand query tables c.args.schema.now task.source (needs_met task.source c.args.schema.now query tables c.requires.keys)) task.accuracy task.budget (omega (arith, c.requires.database.some))
-          c.requires.database.few task.shape planned.plan c.in_ok-planned.ensures.planned c.requires.ranges.budget).plan,
+          (stand query tables c.args.schema.now task.source (needs_met task.source c.args.schema.now query tables c.requires.keys)) task.accuracy task.terms.budget (omega (arith, c.requires.database.some))
+          c.requires.database.few task.terms.shape planned.plan c.in_ok-planned.ensures.planned c.requires.ranges.budget).plan,
     )
 
 pub returns-in_err-keep_limit-clause-refused : goal.returns-in_err-keep_limit-clause-refused
@@ -44,7 +44,7 @@ returns-in_err-keep_limit-clause-refused c =
 
 pub make_room-requires-clause-within : goal.make_room-requires-clause-within
 make_room-requires-clause-within c =
-    let memory = c.args.task.now.memory in
+    let memory = c.args.task.now.terms.memory in
     subst (IsWithinLimit memory) c.memory_of-bytes.ensures (within_ok memory c.memory_of-bytes.result tt tt (sym c.in_ok-keep_limit.ensures)).1
 
 pub make_room-requires-clause-plan : goal.make_room-requires-clause-plan
@@ -55,8 +55,8 @@ make_room-requires-clause-plan c =
     let planned = c.in_ok-planned.planned in
     subst (λ (l : List (List ℕ)). IsPlanOver query tables l planned.plan) (sym c.in_ok-planned.ensures.lists)
     (plan_over query tables (sourced task.source c.args.schema.now query tables)
-    (stand query tables c.args.schema.now task.source (needs_met task.source c.args.schema.now query tables c.requires.keys)) task.accuracy task.budget (omega (arith, c.requires.database.some)) c.requires.database.few
-    task.shape planned.plan c.in_ok-planned.ensures.planned c.requires.ranges.budget c.requires.database.few_rows)
+    (stand query tables c.args.schema.now task.source (needs_met task.source c.args.schema.now query tables c.requires.keys)) task.accuracy task.terms.budget (omega (arith, c.requires.database.some)) c.requires.database.few
+    task.terms.shape planned.plan c.in_ok-planned.ensures.planned c.requires.ranges.budget c.requires.database.few_rows)
 
 pub make_room-requires-clause-rows : goal.make_room-requires-clause-rows
 make_room-requires-clause-rows c =
@@ -74,8 +74,8 @@ returns-clause-ready c =
       database = c.requires.database;
       plan = subst (IsShapedPlan _) (sym c.in_ok-rest.ensures.plan)
           (plan_fits query tables (sourced task.source c.args.schema.now query tables)
-          (stand query tables c.args.schema.now task.source (needs_met task.source c.args.schema.now query tables c.requires.keys)) task.accuracy task.budget (omega (arith, c.requires.database.some))
-          c.requires.database.few task.shape planned.plan c.in_ok-planned.ensures.planned c.requires.ranges.budget).plan;
+          (stand query tables c.args.schema.now task.source (needs_met task.source c.args.schema.now query tables c.requires.keys)) task.accuracy task.terms.budget (omega (arith, c.requires.database.some))
+          c.requires.database.few task.terms.shape planned.plan c.in_ok-planned.ensures.planned c.requires.ranges.budget).plan;
       bytes = c.memory_of-bytes.ensures ∙ ap (λ (plan : AnyPlan). shape_bytes plan) (sym c.in_ok-rest.ensures.plan);
       tables = c.requires.tables;
       room = c.in_ok-rest.ensures.room;
@@ -98,7 +98,7 @@ returns-clause-run c =
       plan = planned.plan;
       source = task.source;
       lists = lists_by task.source query (tables_in rows);
-      memory = task.memory;
+      memory = task.terms.memory;
       out = out;
     }))) (sym c.in_ok-rest.ensures.out)
     ∙ ap (λ (plan : AnyPlan). Ok (Planned (record {
@@ -107,6 +107,6 @@ returns-clause-run c =
       plan = plan;
       source = task.source;
       lists = lists_by task.source query (tables_in rows);
-      memory = task.memory;
+      memory = task.terms.memory;
       out = text_left c.in_ok-rest.rest;
     }))) (sym c.in_ok-rest.ensures.plan)

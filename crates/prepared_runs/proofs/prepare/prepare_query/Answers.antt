@@ -30,10 +30,10 @@ returns-in_ok-made_stats-in-WriteStats-clause-reads g c =
 pub returns-in_err-made-in-PlanFromStats-clause-reads : goal.returns-in_err-made-in-PlanFromStats-clause-reads
 returns-in_err-made-in-PlanFromStats-clause-reads g c =
     let p = err_from_is_err_and c.from_residual-in_err-made-in-PlanFromStats.result c.from_residual-in_err-made-in-PlanFromStats.ensures.1 in
-    rw (p.1, p.2) (work_done c.args.work.now (works.PlanFromStats c.in-PlanFromStats.file c.in-PlanFromStats.budget c.in-PlanFromStats.memory) c.args.schema.now c.args.query (Err c.in_err-made-in-PlanFromStats.field-0.0) c.in-PlanFromStats.is
+    rw (p.1, p.2) (work_done c.args.work.now (works.PlanFromStats c.in-PlanFromStats.file c.in-PlanFromStats.terms) c.args.schema.now c.args.query (Err c.in_err-made-in-PlanFromStats.field-0.0) c.in-PlanFromStats.is
     c.in_err-made-in-PlanFromStats.ensures.reads)
 
 pub returns-in_ok-made-in-PlanFromStats-clause-reads : goal.returns-in_ok-made-in-PlanFromStats-clause-reads
 returns-in_ok-made-in-PlanFromStats-clause-reads g c =
-    work_done c.args.work.now (works.PlanFromStats c.in-PlanFromStats.file c.in-PlanFromStats.budget c.in-PlanFromStats.memory) c.args.schema.now c.args.query (Ok (plan_from c.in_ok-made-in-PlanFromStats.made)) c.in-PlanFromStats.is
+    work_done c.args.work.now (works.PlanFromStats c.in-PlanFromStats.file c.in-PlanFromStats.terms) c.args.schema.now c.args.query (Ok (plan_from c.in_ok-made-in-PlanFromStats.made)) c.in-PlanFromStats.is
     c.in_ok-made-in-PlanFromStats.ensures.reads

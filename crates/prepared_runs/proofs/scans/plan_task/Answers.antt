@@ -37,8 +37,8 @@ returns-in_err-plan-clause-refused c =
     let known = c.in_ok-known.field-0.known in
     let known_is = subst (λ (a : ℕ). HasBounds ((sourced task.source c.args.schema.now query tables).sets a) ((sourced task.source c.args.schema.now query tables).scans a) known) c.of.ensures c.in_ok-known.ensures.known in
     let p = err_from_is_err_and c.from_residual-in_err-plan.result c.from_residual-in_err-plan.ensures.1 in
-    rw (p.1, p.2, ← planned_known task.shape (sourced task.source c.args.schema.now query tables) task.accuracy task.budget known known_is)
-    (was_refused (answer_of task.shape known.sets known.scans task.budget) c.in_err-plan.field-0.0 c.in_err-plan.ensures)
+    rw (p.1, p.2, ← planned_known task.terms.shape (sourced task.source c.args.schema.now query tables) task.accuracy task.terms.budget known known_is)
+    (was_refused (answer_of task.terms.shape known.sets known.scans task.terms.budget) c.in_err-plan.field-0.0 c.in_err-plan.ensures)
 
 pub returns-clause-planned : goal.returns-clause-planned
 returns-clause-planned c =
@@ -47,22 +47,22 @@ returns-clause-planned c =
     let tables = tables_of c.args.db.now in
     let known = c.in_ok-known.field-0.known in
     let known_is = subst (λ (a : ℕ). HasBounds ((sourced task.source c.args.schema.now query tables).sets a) ((sourced task.source c.args.schema.now query tables).scans a) known) c.of.ensures c.in_ok-known.ensures.known in
-    sym (planned_known task.shape (sourced task.source c.args.schema.now query tables) task.accuracy task.budget known known_is)
-    ∙ was_made (answer_of task.shape known.sets known.scans task.budget) c.in_ok-plan.plan c.in_ok-plan.ensures
+    sym (planned_known task.terms.shape (sourced task.source c.args.schema.now query tables) task.accuracy task.terms.budget known known_is)
+    ∙ was_made (answer_of task.terms.shape known.sets known.scans task.terms.budget) c.in_ok-plan.plan c.in_ok-plan.ensures
 
 pub returns-clause-affordable : goal.returns-clause-affordable
 returns-clause-affordable c =
     let task = c.args.task.now in
     let query = c.args.query.now in
     let tables = tables_of c.args.db.now in
-    plan_costs query tables (sourced task.source c.args.schema.now query tables) task.accuracy task.budget (scans_bound query tables task.source task.accuracy)
-    c.requires.database.some c.requires.database.few task.shape c.in_ok-plan.plan (returns-clause-planned c)
+    plan_costs query tables (sourced task.source c.args.schema.now query tables) task.accuracy task.terms.budget (scans_bound query tables task.source task.accuracy)
+    c.requires.database.some c.requires.database.few task.terms.shape c.in_ok-plan.plan (returns-clause-planned c)
 
 pub returns-clause-exact : goal.returns-clause-exact
 returns-clause-exact c =
     let task = c.args.task.now in
     let query = c.args.query.now in
     let tables = tables_of c.args.db.now in
-    subst (HoldExactly c.in_ok-known.field-0.scans) (sym (scans_given query tables (sourced task.source c.args.schema.now query tables) task.accuracy task.budget (scans_bound query tables task.source task.accuracy)
-    c.requires.database.some c.requires.database.few task.shape c.in_ok-plan.plan (returns-clause-planned c)))
+    subst (HoldExactly c.in_ok-known.field-0.scans) (sym (scans_given query tables (sourced task.source c.args.schema.now query tables) task.accuracy task.terms.budget (scans_bound query tables task.source task.accuracy)
+    c.requires.database.some c.requires.database.few task.terms.shape c.in_ok-plan.plan (returns-clause-planned c)))
     (subst (λ (a : ℕ). HoldExactly c.in_ok-known.field-0.scans (scans_by task.source query tables a)) c.of.ensures c.in_ok-known.ensures.exact)

@@ -6,7 +6,7 @@ use Rattle.printed_texts.specs.TreePlans.{node_line, node_lines}
 use Rattle.printed_texts.proofs.PlanLines.{next_node, one_more_done}
 use Rattle.printed_texts.proofs.tree.write_nodes.Goals as goal
 
--- behind the last join
+-- `no_join` is the default for reading past the last join
 abbrev no_join : Join
 no_join = record { left = 0; right = 0; bound = 0 }
 

@@ -10,7 +10,6 @@ use Rattle.reduced_scans.proofs.wiring.count_uses.Goals as goal
 abbrev nothing : Edge
 nothing = record { left = record { entry = 0; column = 0 }; right = record { entry = 0; column = 0 } }
 
--- the lists on the two sides of an equality
 sides_short : (scans : List (Rows ℕ)) (equalities : List Edge) → All (λ e. (e.left.entry < length scans) × (e.right.entry < length scans)) equalities
     → ((entry : ℕ) → length (list_at (lists_of scans) entry) ≤ most_rows) → (k : ℕ) (left right : Rows ℕ) → k < length equalities
     → left ≡ get_or scans (get_or equalities k nothing).left.entry left → right ≡ get_or scans (get_or equalities k nothing).right.entry right

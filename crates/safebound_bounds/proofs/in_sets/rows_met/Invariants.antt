@@ -3,7 +3,6 @@ use Rattle.join_graph.specs.Kept.{equalities_within}
 use Rattle.safebound_bounds.specs.Meaning.{rows_met}
 use Rattle.safebound_bounds.proofs.in_sets.rows_met.Given as goal
 
--- what is done to the rest gives the whole
 abbrev pub invariant-loop-edge : goal.invariant-loop-edge
 invariant-loop-edge l =
     rows_met l.lists l.runs l.entry (equalities_within l.subset (drop l.edge-index l.edges)) l.rows

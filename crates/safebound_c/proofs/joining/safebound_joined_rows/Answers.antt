@@ -2,7 +2,7 @@ use Rattle.std.proofs.Common.{◌≡◌, ℕ, List, [], refl}
 use Rattle.safebound_c.proofs.Told.{done_at, kept_always}
 use Rattle.safebound_c.proofs.joining.safebound_joined_rows.Goals as goal
 
--- no room is given
+-- this call has no buffer to write to
 abbrev no_room : List ℕ
 no_room = []
 

@@ -1,8 +1,8 @@
-use Rattle.stats_file_bounds.proofs.Answering.{wants_no_memory}
+use Rattle.stats_file_bounds.specs.Bounds.{scan_bounds_of_file, set_bounds_of_file}
 use Rattle.stats_answers.proofs.StatsAnswers as stats
 use Rattle.text_answers.proofs.QueryAnswers as queries
 use Rattle.text_answers.proofs.SchemaAnswers as schemas
-use Rattle.prepared_runs.proofs.ShapeFacts.{never_wants_memory}
+use Rattle.prepared_runs.proofs.ShapeFacts.{never_wants_memory, no_want}
 use Rattle.safebound_laws.proofs.TableErrors as tables
 use Rattle.safebound_laws.proofs.laws.no_reader_wants_memory.Goals as goal
 
@@ -22,4 +22,4 @@ pub returns-clause-statistics : goal.returns-clause-statistics
 returns-clause-statistics c = stats.never_memory
 
 pub returns-clause-filed_plans : goal.returns-clause-filed_plans
-returns-clause-filed_plans c = wants_no_memory
+returns-clause-filed_plans c = λ terms query file. no_want terms.shape (set_bounds_of_file query file) (scan_bounds_of_file query file) terms.budget

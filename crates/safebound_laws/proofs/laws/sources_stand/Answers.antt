@@ -1,5 +1,5 @@
 use Rattle.prepared_runs.proofs.KeyFacts.{needs_read}
-use Rattle.prepared_runs.proofs.SourceFacts.{stand}
+use Rattle.prepared_runs.proofs.SourceFacts.{file_is_source, stand}
 use Rattle.safebound_laws.proofs.laws.sources_stand.Goals as goal
 
 pub returns-clause-stand : goal.returns-clause-stand
@@ -7,3 +7,6 @@ returns-clause-stand c = λ source schema query tables needs. stand query tables
 
 pub returns-clause-read : goal.returns-clause-read
 returns-clause-read c = needs_read
+
+pub returns-clause-files : goal.returns-clause-files
+returns-clause-files c = file_is_source

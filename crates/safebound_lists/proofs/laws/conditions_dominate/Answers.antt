@@ -8,7 +8,6 @@ use Rattle.degree_sequences.proofs.Minima.{running_sum-cut_at, running_sum-lesse
 use Rattle.safebound_lists.proofs.Conditions.{above_first, above_second, both_first, both_second, either}
 use Rattle.safebound_lists.proofs.laws.conditions_dominate.Goals as goal
 
--- a key is among those that were picked
 abbrev among : List ℕ → ℕ → Bool
 among picked key = list_any (λ a. eqb key a) picked
 

@@ -7,7 +7,7 @@ use Rattle.safebound_lists.specs.declared.runs.Run.{Run}
 use Rattle.safebound_lists.proofs.Writing.{all_written, one_more_run, run_of, value_fits}
 use Rattle.safebound_lists.proofs.written.write_runs.Goals as goal
 
--- what a look-up past the end of a list gives
+-- a look-up past the end of a list gives this piece
 abbrev no_piece : Piece
 no_piece = record { value = 0; count = 0 }
 

@@ -5,7 +5,7 @@ use Rattle.safebound_plans.specs.declared.shaping.JoinNode.{JoinNode}
 use Rattle.safebound_plans.specs.Trees.{node_of}
 use Rattle.safebound_plans.proofs.shaping.write_joins.Goals as goal
 
--- what a look-up past the end of a list gives: a join, or a node
+-- a look-up past the end of a list gives this join, or this node
 abbrev no_join : Join
 no_join = record { left = 0; right = 0; bound = 0 }
 

@@ -1,8 +1,9 @@
-use Rattle.std.proofs.Common.{ℕ, ◌++◌, ap}
+use Rattle.std.proofs.Common.{◌≡◌, ℕ, List, ◌++◌, ap, ◌∙◌}
 use Rattle.base_io.proofs.WriteFacts.{wrote_as}
 use Rattle.printed_texts.specs.Memory.{memory_text}
-use Rattle.printed_texts.specs.Plans.{plan_lines}
+use Rattle.query_types.specs.declared.types.Source.{Source}
 use Rattle.prepared_runs.specs.RunOutcome.{PlanFromStatsFile}
+use Rattle.prepared_runs.specs.Shapes.{shape_bytes, shape_lines}
 use Rattle.safebound_top.specs.OutcomeTexts.{stats_file_plan_text}
 use Rattle.prepared_runs.specs.declared.stats_files.PreparedStatsFilePlan.{PreparedStatsFilePlan}
 use Rattle.safebound_top.proofs.TextSteps.{plan_cut, plan_wrote}
@@ -11,14 +12,21 @@ use Rattle.safebound_top.proofs.texts.write_stats_file_plan.Goals as goal
 abbrev made_of : PreparedStatsFilePlan → PlanFromStatsFile
 made_of made = record { query = made.query; file = made.file; plan = made.plan; memory = made.memory }
 
+text_is : (made : PreparedStatsFilePlan) {sources : List Source} → sources ≡ made.query.from → made.bytes ≡ shape_bytes made.plan
+    → shape_lines sources made.plan ++ memory_text made.memory made.bytes ≡ stats_file_plan_text (made_of made)
+text_is made from bytes =
+    ap (λ (s : List Source). shape_lines s made.plan ++ memory_text made.memory made.bytes) from
+    ∙ ap (λ (b : ℕ). shape_lines made.query.from made.plan ++ memory_text made.memory b) bytes
+
+pub write_plan_text-requires : goal.write_plan_text-requires
+write_plan_text-requires g c = rw c.as_slice.ensures c.requires.plan
+
 pub returns-in-Ok : goal.returns-in-Ok
 returns-in-Ok g c out still =
     let made = c.args.made in
-    plan_wrote out _ (made_of made) still tt
-    (wrote_as (stats_file_plan_text (made_of made)) (ap (λ (b : ℕ). plan_lines made.query.from made.plan ++ memory_text made.memory b) c.requires.bytes) c.in-Ok.ensures)
+    plan_wrote out _ (made_of made) still tt (wrote_as (stats_file_plan_text (made_of made)) (text_is made c.as_slice.ensures c.requires.bytes) c.in-Ok.ensures)
 
 pub returns : goal.returns
 returns g c out still =
     let made = c.args.made in
-    plan_cut out _ (made_of made) still _
-    (wrote_as (stats_file_plan_text (made_of made)) (ap (λ (b : ℕ). plan_lines made.query.from made.plan ++ memory_text made.memory b) c.requires.bytes) c.in-Err.ensures)
+    plan_cut out _ (made_of made) still _ (wrote_as (stats_file_plan_text (made_of made)) (text_is made c.as_slice.ensures c.requires.bytes) c.in-Err.ensures)

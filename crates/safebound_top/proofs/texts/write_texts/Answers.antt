@@ -11,7 +11,6 @@ use Rattle.safebound_top.proofs.RestTexts.{rest_is}
 use Rattle.safebound_top.proofs.TextSteps.{both_wrote, notes_cut, out_cut}
 use Rattle.safebound_top.proofs.texts.write_texts.Goals as goal
 
--- the plan text, with its bytes
 text_is : (p : PreparedQuery) {sources : List Source} → sources ≡ p.query.from → p.bytes ≡ shape_bytes (plan_left p.rest)
     → shape_lines sources (plan_left p.rest) ++ memory_text p.memory p.bytes ≡ plan_text (accepted_of p)
 text_is p from bytes =

@@ -14,8 +14,6 @@ returns-in-Ok-clause-headline g c =
     headline _ (course_of_words _ c.run_command.result _ _ _ c.in-Ok.command.shop (shop_taken _ c.in-Ok.command c.in-Ok.ensures.answer)
     (c.run_command.ensures.course _ (command_taken _ c.in-Ok.command c.in-Ok.ensures.answer)))
 
--- the promise follows from the headline of the same call
-
 pub returns-in-Ok-clause-promise : goal.returns-in-Ok-clause-promise
 returns-in-Ok-clause-promise g c = keeps_promise _ (returns-in-Ok-clause-headline g c)
 

@@ -43,3 +43,7 @@ returns-clause-tree c = refl
 pub returns-clause-of_a_file : goal.returns-clause-of_a_file
 unfolding command_of reading_of parts_from kind_of number_of over_files
 returns-clause-of_a_file c = refl
+
+pub returns-clause-past_most : goal.returns-clause-past_most
+unfolding command_of reading_of parts_from kind_of number_of over_files
+returns-clause-past_most c = refl

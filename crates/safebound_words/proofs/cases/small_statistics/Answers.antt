@@ -63,3 +63,15 @@ returns-clause-flag c = refl
 pub returns-clause-a_third : goal.returns-clause-a_third
 unfolding command_of reading_of parts_from kind_of number_of over_files
 returns-clause-a_third c = refl
+
+pub returns-clause-limited : goal.returns-clause-limited
+unfolding command_of reading_of parts_from kind_of number_of over_files
+returns-clause-limited c = refl
+
+pub returns-clause-past_most : goal.returns-clause-past_most
+unfolding command_of reading_of parts_from kind_of number_of over_files
+returns-clause-past_most c = refl
+
+pub returns-clause-of_orders : goal.returns-clause-of_orders
+unfolding command_of reading_of parts_from kind_of number_of over_files
+returns-clause-of_orders c = refl

@@ -1,4 +1,4 @@
--- The binder knows this schema, this text and these entries, so its first refusal is that of the tree.
+-- The binder knows this schema, this text and these entries, so its first refusal is the first refusal of the tree.
 use Rattle.std.proofs.Common.{refl}
 use Rattle.sql_parse.proofs.TreeFacts.{behind_errs}
 use Rattle.sql_parse.proofs.binding.bind_behind.Goals as goal

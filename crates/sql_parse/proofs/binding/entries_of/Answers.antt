@@ -1,4 +1,4 @@
--- The sources of the entries are those of the tree, whose tokens are the text's.
+-- The sources of the entries are the sources of the tree, and the tree's tokens are tokens of the text.
 use Rattle.std.proofs.Common.{◌≡◌, ap, ◌∙◌}
 use Rattle.std.specs.List.{flat_map}
 use Rattle.sql_tokens.specs.Words.{IsLexemeOf}

@@ -1,4 +1,3 @@
--- Each query that the relation allows is one of the schema.
 use Rattle.sql_parse.proofs.AnswerOfSchema.{answers_of_schema}
 use Rattle.sql_parse.proofs.read.read_query.Goals as goal
 

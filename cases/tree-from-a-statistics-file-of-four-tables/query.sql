@@ -1,0 +1,1 @@
+SELECT A.X FROM A, B, C, D WHERE A.X = B.X AND B.Y = C.Y AND C.Z = D.Z

@@ -1,0 +1,203 @@
+//! Reads the fields of a record of bytes without a quotation mark, one after another.
+ghost use Rattle.std.specs.Prelude.{◌≡◌, ◌+◌, ◌<◌, ◌≤◌, ◌≢◌, ◌^◌, [], drop, false, length, neg_ℤ, option_map, pos, slice_index, true, IfSome, IsUtf8, MatchOption};
+ghost use Rattle.plain_records.specs.Places.{FieldSoFar, IsField};
+ghost use Rattle.plain_records.specs.Plain.{first_field, first_record, is_comma as stops_comma};
+ghost use Rattle.csv_tables.specs.Fields.{DigitsSoFar, IsFieldAt, IsShort, ReadsRecord};
+
+use plain_records::{ends_field, field_end};
+
+/// A field by its place in the bytes, and the number that it spells, where it is already known.
+#[derive(Clone, Copy)]
+pub(crate) struct Field {
+    pub start: usize,
+    pub end: usize,
+    pub number: Option<i64>,
+}
+
+impl Field {
+    pub const NONE: Field = Field {
+        start: 0,
+        end: 0,
+        number: None,
+    };
+}
+
+// Digits that were read: the number that they spell, and the place behind them.
+#[derive(Clone, Copy)]
+struct Digits {
+    size: u64,
+    end: usize,
+}
+
+// At most eighteen digits spell a number below 10^18, so no step has to test for overflow.
+const SHORT: usize = 18;
+
+// At most eighteen digits of a field from a place on.
+#[inline]
+fn read_digits(bytes: &[u8], first: usize) -> Digits
+    requires { first ≤ length bytes.now }
+    ensures digits { DigitsSoFar bytes.now first result.end result.size }
+    ensures few { result.end ≤ first + 18 }
+{
+    let mut size: u64 = 0;
+    let mut end = first;
+    'digits: while end < bytes.len() && end - first < SHORT {
+        let digit = bytes[end];
+        if !digit.is_ascii_digit() {
+            break;
+        }
+        size = size * 10 + (digit - b'0') as u64;
+        end += 1;
+    }
+    Digits { size, end }
+}
+
+// Whether a field that goes on at a place is at its end there.
+#[inline]
+fn is_at_end(bytes: &[u8], place: usize) -> bool
+    ensures { result ≡ true → first_field (drop place bytes.now) ≡ [] }
+{
+    place >= bytes.len() || ends_field(bytes[place])
+}
+
+// The end of a field, and the number that its digits spell, if that number is known.
+#[derive(Clone, Copy)]
+struct Sized {
+    size: Option<u64>,
+    end: usize,
+}
+
+// A field that goes on at a place. Its number is known if from there on it has at least one and at most eighteen digits, and nothing else.
+#[inline]
+fn read_size(bytes: &[u8], start: usize, first: usize) -> Sized
+    requires { FieldSoFar bytes.now start first }
+    ensures field { IsField bytes.now start result.end }
+    ensures size { IfSome result.size (IsShort (first_field (drop first bytes.now))) }
+{
+    let digits = read_digits(bytes, first);
+    if digits.end == first {
+        return Sized {
+            size: None,
+            end: field_end(bytes, start, first),
+        };
+    }
+    if !is_at_end(bytes, digits.end) {
+        return Sized {
+            size: None,
+            end: field_end(bytes, start, digits.end),
+        };
+    }
+    Sized {
+        size: Some(digits.size),
+        end: digits.end,
+    }
+}
+
+#[inline]
+fn from_zero(size: Option<u64>) -> Option<i64>
+    requires { IfSome size (λ size. size < 10 ^ 18) }
+    ensures { result ≡ option_map pos size }
+{
+    match size {
+        Some(size) => Some(size as i64),
+        None => None,
+    }
+}
+
+#[inline]
+fn below_zero(size: Option<u64>) -> Option<i64>
+    requires { IfSome size (λ size. size < 10 ^ 18) }
+    ensures { result ≡ option_map (λ size. neg_ℤ (pos size)) size }
+{
+    match size {
+        Some(size) => Some(-(size as i64)),
+        None => None,
+    }
+}
+
+// Whether a minus sign stands at a place.
+#[inline]
+fn is_minus(bytes: &[u8], place: usize) -> bool
+    ensures { result ≡ true → (place < length bytes.now) × (slice_index bytes.now place ≡ 45) }
+{
+    place < bytes.len() && bytes[place] == b'-'
+}
+
+// The field at a place, and its number if it is a minus sign or none and then at most eighteen digits.
+#[inline]
+fn read_number(bytes: &[u8], start: usize) -> Field
+    requires { start ≤ length bytes.now }
+    ensures { IsFieldAt bytes.now start result }
+{
+    if is_minus(bytes, start) {
+        let sized = read_size(bytes, start, start + 1);
+        Field {
+            start,
+            end: sized.end,
+            number: below_zero(sized.size),
+        }
+    } else {
+        let sized = read_size(bytes, start, start);
+        Field {
+            start,
+            end: sized.end,
+            number: from_zero(sized.size),
+        }
+    }
+}
+
+// The field at a place. Its number is read where numbers are expected.
+#[inline]
+fn read_field(bytes: &[u8], start: usize, is_number: bool) -> Field
+    requires { start ≤ length bytes.now }
+    ensures { IsFieldAt bytes.now start result }
+{
+    if is_number {
+        read_number(bytes, start)
+    } else {
+        Field {
+            start,
+            end: field_end(bytes, start, start),
+            number: None,
+        }
+    }
+}
+
+// Whether a comma stands at a place.
+#[inline]
+fn is_comma(bytes: &[u8], place: usize) -> bool
+    ensures yes { result ≡ true → (place < length bytes.now) × (slice_index bytes.now place ≡ 44) }
+    ensures no { result ≡ false → place < length bytes.now → stops_comma (slice_index bytes.now place) ≡ false }
+{
+    place < bytes.len() && bytes[place] == b','
+}
+
+/// Reads the fields of the record at a place, and answers the place behind it, if it has as many fields as the header.
+pub(crate) fn read_fields(
+    bytes: &[u8],
+    start: usize,
+    numbers: &[bool],
+    fields: &mut [Field],
+) -> Option<usize>
+    requires within { start ≤ length bytes.now }
+    requires long { length fields.old ≡ length numbers.now }
+    requires text { IsUtf8 bytes.now }
+    requires cut { IsUtf8 (drop start bytes.now) }
+    ensures { MatchOption result (length (first_record (drop start bytes.now)) ≢ length fields.old)
+        (ReadsRecord bytes.now start fields.new) }
+{
+    let mut at = start;
+    'places: for (place, is_number) in numbers.iter().enumerate() {
+        let field = read_field(bytes, at, *is_number);
+        fields[place] = field;
+        if !is_comma(bytes, field.end) {
+            return if place + 1 == numbers.len() {
+                Some((field.end + 1).min(bytes.len()))
+            } else {
+                None
+            };
+        }
+        at = field.end + 1;
+    }
+    None
+}

@@ -1,0 +1,13 @@
+//! Looks whether bytes have a quotation mark.
+ghost use Rattle.std.specs.Prelude.{◌≡◌, false, IfSome};
+ghost use Rattle.plain_records.specs.Plain.{has_quote};
+
+/// How many line feeds there are, if no byte is a quotation mark. No contract says so: the number serves to ask for memory.
+pub fn scan(bytes: &[u8]) -> Option<usize>
+    ensures { IfSome result (λ _. has_quote bytes.now ≡ false) }
+{
+    if bytes.contains(&b'"') {
+        return None;
+    }
+    Some(bytes.iter().filter(|byte| **byte == b'\n').count())
+}
