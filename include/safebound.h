@@ -181,9 +181,8 @@ safebound_status safebound_compress(const safebound_run *runs, size_t runs_lengt
                                     safebound_run *into, size_t room, uint64_t *detail);
 
 /* The rank-wise sum of two lists, for example of a column's list and of the list of rows that came later. At each rank it
-   has the sum of both degrees, so it dominates the old and the new rows together, whichever values repeat. From a list of
-   the rows that satisfy one condition and a list of those that satisfy another one, it makes a list of the rows that
-   satisfy at least one of the two (OR).
+   has the sum of both degrees, so it dominates the old and the new rows together, whichever values repeat. Of a list of the
+   rows that satisfy condition A and a list of those that satisfy condition B, it is a list of those that satisfy A OR B.
 
    SAFEBOUND_BAD_RUN          `detail` is the element of `runs`
    SAFEBOUND_BAD_OTHER_RUN    `detail` is the element of `others`
@@ -198,9 +197,9 @@ safebound_status safebound_compress(const safebound_run *runs, size_t runs_lengt
 safebound_status safebound_append(const safebound_run *runs, size_t runs_length, const safebound_run *others,
                                   size_t others_length, safebound_run *into, size_t room, uint64_t *detail);
 
-/* The lesser of two lists. From a list of the rows that satisfy one condition and a list of those that satisfy another one,
-   it makes a list of the rows that satisfy both (AND). The sum of its first r degrees is the lesser of the sums of the two
-   lists' first r degrees. (The lesser degree at each rank would be too low.)
+/* The lesser of two lists. Of a list of the rows that satisfy condition A and a list of those that satisfy condition B, it is
+   a list of those that satisfy A AND B. The sum of its first r degrees is the lesser of the sums of the two lists' first r
+   degrees. (The lesser degree at each rank would be too low.)
 
    SAFEBOUND_BAD_RUN          `detail` is the element of `runs`
    SAFEBOUND_BAD_OTHER_RUN    `detail` is the element of `others`
@@ -214,9 +213,9 @@ safebound_status safebound_append(const safebound_run *runs, size_t runs_length,
 safebound_status safebound_lesser(const safebound_run *runs, size_t runs_length, const safebound_run *others,
                                   size_t others_length, safebound_run *into, size_t room, uint64_t *detail);
 
-/* The greater of two lists, rank by rank. From a list of the rows that have one value in a column and a list of those that
-   have another one, it makes a list that dominates either. So it is right for the rows of any one of these values,
-   whichever it is. For the rows of both values together take safebound_append.
+/* The greater of two lists, rank by rank. It dominates either. So of lists of the rows that have one value in a column and of
+   those that have another value, it is a list of the rows of any one of these values, whichever it is. For the rows of both
+   values together take safebound_append.
 
    SAFEBOUND_BAD_RUN          `detail` is the element of `runs`
    SAFEBOUND_BAD_OTHER_RUN    `detail` is the element of `others`
@@ -376,9 +375,9 @@ safebound_status safebound_order(const uint64_t *bounds, size_t bounds_length, u
 /* The best join tree of any shape over bounds of all sets.
 
    A tree's levels are the bounds of its joins; a tree of one entry has that entry's bound as its level. The best tree has
-   the least greatest level, and among those the least sum. Ties are decided from the root on. Each left set has the first
-   entry of the set that it splits; the least left set, as a number, is best, then the left tree decides in the same way,
-   and then the right one. `into` gets the tree's n - 1 joins: each stands behind those below it, left before right, and the
+   the least greatest level, and among those the least sum. Ties are decided from the root on: the least left set, as a
+   number, is best; then the left tree decides in the same way, and then the right one. Each left set has the first entry of
+   the set that it splits. `into` gets the tree's n - 1 joins: each stands behind those below it, left before right, and the
    last one is the root.
 
    SAFEBOUND_BAD_BOUNDS    not 2^n of them, for an n from 1 to 12; `detail` is their number

@@ -53,8 +53,8 @@ class Block:
                 self._condition(piece, of_on=True) if step.source in self.reorderable else self._of_step(step, piece)
 
     def _reorderable(self) -> list[int]:
-        """The entries that are joined first, in the order that the plan chooses: those of inner joins before any RIGHT
-        or FULL JOIN, if the conditions of their ON name no other entry."""
+        """The entries that are joined first, in the order that the plan chooses. They are those of inner joins before
+        any RIGHT or FULL JOIN, if their ON names no other entries."""
         stop = next((at for at, step in enumerate(self.steps) if step.kind in ("RIGHT", "FULL")), len(self.steps))
         steps = [step for step in self.steps[:stop] if step.kind == "INNER"]
         while True:
@@ -131,8 +131,8 @@ class Block:
         return False
 
     def _counts(self, piece: Tokens) -> bool:
-        """Whether the rows that satisfy the condition may be counted: no subquery of it joins or chooses rows, or names
-        a part of WITH or anything of the query around it."""
+        """Whether the rows that satisfy the condition may be counted. Its subqueries may not join, choose rows, name a
+        part of WITH, or name anything of the query around them."""
         for start, end in subqueries(piece):
             inner = piece[start + 1 : end - 1]
             parts = {self.dialect.key_of(part.name) for part in self.visible}

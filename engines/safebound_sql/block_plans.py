@@ -99,8 +99,8 @@ class Planner:
         return last.end if isinstance(last, Core) or last.end == query.end else last.end + 1
 
     def unique(self, query: Several, names: list[str]) -> set[str]:
-        """The columns of a query in which no value stands twice: the column that it groups by, if it is only one, or
-        the only output of SELECT DISTINCT."""
+        """The columns of a query in which no value stands twice. If the query groups by one column, it is this one; if
+        it is SELECT DISTINCT with one output, it is this output."""
         if (
             len(query.members) != 1
             or not isinstance(query.members[0], Core)
@@ -263,8 +263,8 @@ class Planner:
 
 
 def several(text: str, engine: Engine) -> bool:
-    """Whether the text has to be planned in blocks: it has WITH, UNION or its like, an outer join, a query in FROM, or
-    a subquery that joins or names an entry outside of itself."""
+    """Whether the text has to be planned in blocks. That is so if it has WITH, UNION or its like, an outer join, or a
+    query in FROM, or if a subquery joins or names an entry outside of itself."""
     pieces = tokens(text, engine.dialect.rules)
     query = Finder(text, pieces).found()
     core = query.members[0] if len(query.members) == 1 else None

@@ -1,5 +1,5 @@
-"""The blocks of a query: each of its SELECTs with its FROM, be it the whole query, in WITH, in FROM, in a condition, or
-beside UNION, INTERSECT or EXCEPT."""
+"""The blocks of a query: each of its SELECTs with its FROM. A block may be the whole query, or stand in WITH, in FROM,
+in a condition, or beside UNION, INTERSECT or EXCEPT."""
 
 from __future__ import annotations
 

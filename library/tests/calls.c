@@ -9,8 +9,8 @@
      joined_rows KIND ROOM 3 INNER LEFT RIGHT
 
    Before a call `refuse N` lets its Nth request for memory fail. Each array ends where its page ends, and the next page
-   can't be touched, so that a step past a length ends the program. After a call the program checks that nothing that was
-   given has changed, no memory is kept, nothing past the answer is written, and nothing but the detail unless it is OK. */
+   can't be touched, so that a step past a length ends the program. After a call it is checked that no argument has changed,
+   no memory is kept, and nothing past the answer is written. If the status isn't OK, only the detail may be written. */
 #define _GNU_SOURCE
 #include "safebound.h"
 #include "counted_memory.h"

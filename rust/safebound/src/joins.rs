@@ -32,8 +32,8 @@ impl JoinKind {
     }
 }
 
-/// How many rows an outer join, a semi-join or an anti-join has at most. For an outer join that is `inner` and the bound of
-/// each side that it keeps whole, for a semi-join the lesser of `inner` and `left`, and for an anti-join `left`.
+/// How many rows an outer join, a semi-join or an anti-join has at most. For an outer join that is the sum of `inner` and of the
+/// bound of each side that it keeps whole. For a semi-join it is the lesser of `inner` and `left`, and for an anti-join `left`.
 ///
 /// `inner` is a bound of the inner join of both sides by the same condition. `left` and `right` are bounds of all rows of the
 /// sides: an outer join and an anti-join keep rows that their own condition (ON) leaves out, even if it names that side alone.

@@ -95,8 +95,8 @@ pub fn compress(runs: &[Run], accuracy: u64) -> Result<Vec<Run>, Error> {
 /// The rank-wise sum of two lists. From a list of a column's old rows and one of rows that came later, it makes a list of all
 /// these rows, whichever values repeat.
 ///
-/// From lists of the rows that satisfy one condition and another one, it makes a list of the rows that satisfy at least one of
-/// the two (OR).
+/// From a list of the rows that satisfy condition A and a list of those that satisfy condition B, it makes a list of those that
+/// satisfy A OR B.
 ///
 /// ```
 /// use safebound::{append, Run};
@@ -114,8 +114,8 @@ pub fn append(runs: &[Run], others: &[Run]) -> Result<Vec<Run>, Error> {
     calls::append(runs, others).map_err(|refusal| Error::of_lists(refusal, runs, others))
 }
 
-/// A list for the rows that satisfy two conditions (AND), from a list of the rows that satisfy the one and a list of those that
-/// satisfy the other.
+/// The lesser of two lists. From a list of the rows that satisfy condition A and a list of those that satisfy condition B, it
+/// makes a list of those that satisfy A AND B.
 ///
 /// The sum of its first r degrees is the lesser of the sums of the two lists' first r degrees. (The lesser degree at each rank
 /// would be too low.)

@@ -4,7 +4,8 @@ use crate::bounds::Known;
 use std::fmt;
 use std::sync::Arc;
 
-/// A left-deep order: `levels[k]` is the bound of the first k + 1 of `entries`, in rows. It knows the bounds over which it is a plan.
+/// A left-deep order: `levels[k]` is the bound of the first k + 1 of `entries`, in rows. The order knows the bounds over which it
+/// is a plan.
 #[derive(Clone, PartialEq, Eq, Hash)]
 pub struct Order {
     /// The entries in the order in which they are joined.
