@@ -108,7 +108,7 @@ def _plan_words(command: argparse.ArgumentParser, name: str) -> None:
         )
     command.add_argument(
         "--count", action="store_true",
-        help="on PostgreSQL: also count each level's choices of rows, without joining them, and lower its bound to them",
+        help="on PostgreSQL: also count each level's choices of rows without joining them, and lower its bound to that",
     )
     if name in ("plan", "sql"):
         command.add_argument("--counts", metavar="FILE", help="the answer of the counting statement, as CSV")
