@@ -91,7 +91,7 @@ class Lists(unittest.TestCase):
         self.check(made)
 
     def test_lists_of_conditions_dominate(self) -> None:
-        """Rows have a key, a colour and a size: lists that calls make of such rows' lists are never below true counts."""
+        """Rows have a key, a colour and a size. What calls make of lists of these rows is never below true counts."""
         calls, keys = [], []
         for seed in range(RUNS):
             pick = random.Random(seed)

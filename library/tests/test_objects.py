@@ -1,5 +1,5 @@
-"""The objects of the Python package as values: how they are shown, compared, pickled and typed, and that a query refuses
-the plans of another one."""
+"""The objects of the Python package as values: how they are shown, compared, pickled and typed, and that a query
+refuses the plans of another one."""
 
 from __future__ import annotations
 
