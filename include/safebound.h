@@ -5,28 +5,29 @@
 
    For all calls:
 
-   - They keep nothing between them: no handle, no global, nothing to begin with or to end with.
+   - A call keeps nothing for the next one: no handle, no global, nothing to begin with or to end with.
      Threads may call at the same time. No call may come from a signal handler, or from the child of a fork of a
      process with threads.
    - Numbers have 64 bits. Lengths and rooms are in elements, not in bytes.
-   - A pointer is never NULL and is aligned for its type, also where its length is 0. What a call reads isn't changed
+   - A pointer is never NULL and is aligned for its type, even if its length is 0. What a call reads isn't changed
      meanwhile, and what it writes overlaps nothing else that it gets.
-   - Each call checks every value that it gets. It answers a status and writes a number behind `detail`, by the status:
+   - Each call checks every value that it gets. It answers a status, which says what number it writes to `*detail`:
 
      SAFEBOUND_OK           `detail` is how many elements were written, or the number that the call is asked for.
      SAFEBOUND_ROOM         The room is too small. `detail` is the room that is needed.
-     SAFEBOUND_NO_MEMORY    Memory was wanting. `detail` is as it was.
+     SAFEBOUND_NO_MEMORY    There was too little memory. `detail` is as it was.
      SAFEBOUND_BUDGET       The best plan passes the budget. `detail` is the least budget that would do.
-     SAFEBOUND_PAST_BITS    Each plan has a part without a bound, or 64 bits don't tell the number. `detail` is as it was.
+     SAFEBOUND_PAST_BITS    Each plan has a part without a bound, or the number has more than 64 bits. `detail` is as it was.
      SAFEBOUND_WORK         The work passes the limit. `detail` is the limit that would do.
      the others             A value is wrong. `detail` says where: which element, from 0, of the array that is named
                             with the status below, or the number itself.
 
-     Nothing but `detail` is written unless the status is SAFEBOUND_OK. Where several statuses apply, the one that
-     stands first in the call's list is answered, and of several wrong elements the first. SAFEBOUND_NO_MEMORY may come
-     in the place of any other status.
+     Nothing but `detail` is written unless the status is SAFEBOUND_OK. If several statuses apply, the one that stands
+     first in the call's list is answered. If several elements are wrong, `detail` names the first. SAFEBOUND_NO_MEMORY
+     may come in place of any other status.
 
-   Memory comes from three functions, which the archive has over malloc and a program may give: safebound_memory.h. */
+   Memory comes from three functions. The archive has them over malloc, and a program may give its own:
+   safebound_memory.h. */
 
 #ifndef SAFEBOUND_H
 #define SAFEBOUND_H
@@ -51,10 +52,10 @@ extern "C" {
 #define SAFEBOUND_MOST_ROWS (UINT64_C(1) << 48)
 #define SAFEBOUND_MOST_BUDGET (UINT64_C(1) << 59)
 
-/* A bound that stands for itself and for all that 64 bits don't tell: no bound is known. */
+/* No bound is known. It also stands for every bound that 64 bits don't hold. */
 #define SAFEBOUND_NO_BOUND UINT64_MAX
 
-/* What stands in `first` of the list of a column in which no row has a value; `length` is 0 there. */
+/* What the list of a column in which no row has a value has as `first`; its `length` is 0. */
 #define SAFEBOUND_NO_VALUES UINT64_MAX
 
 typedef uint32_t safebound_status;
@@ -97,12 +98,12 @@ enum {
     SAFEBOUND_ANTI_JOIN = 5   /* the rows of the left side that are not, as NOT EXISTS keeps them */
 };
 
-/* So many keys stand in `degree` rows each.
+/* A number of keys, each of which stands in `degree` rows.
 
    A list of runs says how often the values of a column repeat, the most frequent first: (5, 1), (2, 3) is one value in
-   five rows and three values in two rows each. A list is right where each degree and each number of keys is at least 1,
-   no degree is above the one before it, and all degrees sum to at most 2^48; the first run that breaks this is the one
-   that is told. A list without runs is right. As the list of a column it has to be marked (safebound_list). */
+   five rows and three values in two rows each. A list is right if each degree and each number of keys is at least 1, no
+   degree is above the one before it, and all degrees sum to at most 2^48. If it isn't, `detail` is the first run that
+   breaks this. A list without runs is right too, but as the list of a column it has to be marked (safebound_list). */
 typedef struct safebound_run {
     uint64_t degree;
     uint64_t keys;
@@ -117,10 +118,10 @@ typedef struct safebound_equality {
     uint32_t right_column;
 } safebound_equality;
 
-/* The list of an entry's column: so many elements of `runs` of the call, at least one, from the element `first` on. Two
-   lists may share runs, as those of a table that is joined with itself.
+/* The list of an entry's column: `length` elements of the call's `runs`, at least one, from the element `first` on. Two
+   lists may share runs, for example if a table is joined with itself.
 
-   Of a column in which no row has a value the list has no runs: `first` is SAFEBOUND_NO_VALUES and `length` 0. Any other
+   If no row has a value in the column, the list has no runs: `first` is SAFEBOUND_NO_VALUES and `length` is 0. Any other
    list without runs is refused, since it looks like one that was forgotten. */
 typedef struct safebound_list {
     uint32_t entry;
@@ -143,7 +144,7 @@ typedef struct safebound_join {
     uint64_t bound;
 } safebound_join;
 
-/* The degree sequence of a column: how often each of its keys stands there, as runs of which the degrees fall.
+/* The degree sequence of a column: how often each of its keys stands there, as runs, the greatest degree first.
 
    `keys` are the column's values, one for each row that has one, in any order; rows without a value (NULL) are left out.
    Any 64 bits are a key: give texts and other types a number each. The runs have different degrees.
@@ -164,8 +165,8 @@ safebound_status safebound_degrees(const uint64_t *keys, size_t keys_length, saf
 
 /* Few runs that dominate a list: what is known of a column stays true, and later calls are fast.
 
-   The sum of the list is kept. At accuracy K, from 1 to 64, each degree is at most (K + 1) / K times what stood at its
-   rank; and there are at most K times as many runs as the first degree has binary digits, and one more.
+   The sum of the list is kept. At accuracy K, from 1 to 64, each degree is at most (K + 1) / K times the list's degree at
+   the same rank. There are at most K times as many runs as the first degree has binary digits, and one more.
 
    SAFEBOUND_BAD_ACCURACY    not from 1 to 64; `detail` is the accuracy
    SAFEBOUND_BAD_RUN         `detail` is the element of `runs`
@@ -179,9 +180,9 @@ safebound_status safebound_degrees(const uint64_t *keys, size_t keys_length, saf
 safebound_status safebound_compress(const safebound_run *runs, size_t runs_length, uint64_t accuracy,
                                     safebound_run *into, size_t room, uint64_t *detail);
 
-/* The rank-wise sum of two lists: that of a column with rows that came later. Rank by rank it is the sum of both
-   degrees, so it dominates the old and the new rows together, whichever values repeat. Of a list of the rows that satisfy
-   one condition and a list of those that satisfy another one it makes a list of the rows that satisfy at least one (OR).
+/* The rank-wise sum of two lists, for example of a column's list and of the list of rows that came later. At each rank it
+   has the sum of both degrees, so it dominates the old and the new rows together, whichever values repeat. Of a list of the
+   rows that satisfy condition A and a list of those that satisfy condition B, it is a list of those that satisfy A OR B.
 
    SAFEBOUND_BAD_RUN          `detail` is the element of `runs`
    SAFEBOUND_BAD_OTHER_RUN    `detail` is the element of `others`
@@ -196,9 +197,9 @@ safebound_status safebound_compress(const safebound_run *runs, size_t runs_lengt
 safebound_status safebound_append(const safebound_run *runs, size_t runs_length, const safebound_run *others,
                                   size_t others_length, safebound_run *into, size_t room, uint64_t *detail);
 
-/* The lesser of two lists. Of a list of the rows that satisfy one condition and a list of those that satisfy another one it
-   makes a list of the rows that satisfy both (AND). At each rank its degrees sum, from the first on, to the lesser of what
-   those of the two lists sum to. The lesser degree at each rank would be too low.
+/* The lesser of two lists. Of a list of the rows that satisfy condition A and a list of those that satisfy condition B, it is
+   a list of those that satisfy A AND B. The sum of its first r degrees is the lesser of the sums of the two lists' first r
+   degrees. (The lesser degree at each rank would be too low.)
 
    SAFEBOUND_BAD_RUN          `detail` is the element of `runs`
    SAFEBOUND_BAD_OTHER_RUN    `detail` is the element of `others`
@@ -212,9 +213,9 @@ safebound_status safebound_append(const safebound_run *runs, size_t runs_length,
 safebound_status safebound_lesser(const safebound_run *runs, size_t runs_length, const safebound_run *others,
                                   size_t others_length, safebound_run *into, size_t room, uint64_t *detail);
 
-/* The greater of two lists, rank by rank. Of a list of the rows that have one value in a column and a list of those that have
-   another one it makes a list that dominates either: that of the rows of any one of these values, whichever it is. For the
-   rows of both values together take safebound_append.
+/* The greater of two lists, rank by rank. It dominates either. So of lists of the rows that have one value in a column and of
+   those that have another value, it is a list of the rows of any one of these values, whichever it is. For the rows of both
+   values together take safebound_append.
 
    SAFEBOUND_BAD_RUN          `detail` is the element of `runs`
    SAFEBOUND_BAD_OTHER_RUN    `detail` is the element of `others`
@@ -229,8 +230,8 @@ safebound_status safebound_lesser(const safebound_run *runs, size_t runs_length,
 safebound_status safebound_greater(const safebound_run *runs, size_t runs_length, const safebound_run *others,
                                    size_t others_length, safebound_run *into, size_t room, uint64_t *detail);
 
-/* A list that is cut at a number of rows: what is known of at most so many rows that the list dominates. Its degrees are
-   those of the list as far as they sum to that number, and then what is left of it.
+/* A list that is cut at a number of rows. It dominates any rows that the list dominates, if there are at most so many of
+   them. Its degrees are those of the list as far as they sum to that number, and then what is left of it.
 
    SAFEBOUND_BAD_RUN      `detail` is the element of `runs`
    SAFEBOUND_NO_MEMORY
@@ -246,15 +247,15 @@ safebound_status safebound_cut(const safebound_run *runs, size_t runs_length, ui
 /* The bounds of all sets of entries, in rows. A set is the number whose bit i is 1 where entry i is in it: of the n
    entries there are 2^n sets, `into[set]` is its bound, and `into[0]` is 1.
 
-   `rows` has for each entry a number that it has at most of rows. `lists` has for each column that an equality names a
-   list that dominates its values: however different values are picked, they stand in no more rows than as many first
-   degrees sum to. What safebound_degrees gives dominates, and so does what safebound_compress and safebound_append make
-   of it. Where it sums to more than the row bound, it is cut there: the list of a whole table serves for some of its rows.
-   Where it sums to less, the other rows are taken for rows without a value (NULL), which join with nothing: in a set in
-   which an equality names the column, the entry has at most as many rows as the list sums to. So an entry counts there
-   with the least of these sums and of its row bound, and alone, or where no equality of the set names one of its columns,
-   with its row bound. A list of a column that no equality names is checked and not used. Runs that no list has aren't
-   looked at.
+   `rows` has for each entry its row bound: the most rows that it may have. `lists` has for each column that an equality
+   names a list that dominates its values: any r different values stand in no more rows than the list's first r degrees sum
+   to. What safebound_degrees gives dominates, and so does what safebound_compress and safebound_append make of it.
+
+   If a list sums to more than the row bound, it is cut there: the list of a whole table serves for some of its rows. If it
+   sums to less, the other rows are taken for rows without a value (NULL), which join with nothing: in a set in which an
+   equality names the column, the entry has at most as many rows as the list sums to. So the entry counts there with the
+   least of these sums and of its row bound. Alone, or if no equality of the set names one of its columns, it counts with
+   its row bound. A list of a column that no equality names is checked and not used. Runs that no list has aren't looked at.
 
    Then the choices of one row of each entry of a set that satisfy all equalities between these entries are at most as
    many as its bound says, or the bound is SAFEBOUND_NO_BOUND.
@@ -263,8 +264,8 @@ safebound_status safebound_cut(const safebound_run *runs, size_t runs_length, ui
    SAFEBOUND_BAD_ROWS          more than 2^48; `detail` is the element of `rows`
    SAFEBOUND_BAD_EQUALITIES    more than 256; `detail` is their number
    SAFEBOUND_BAD_EQUALITY      an entry that isn't there, or one entry on both sides; `detail` is the element
-   SAFEBOUND_BAD_LIST          an entry that isn't there, no runs and no mark, runs that aren't there, or a column that an
-                               earlier list is of; `detail` is the element of `lists`
+   SAFEBOUND_BAD_LIST          an entry that isn't there, no runs and no mark, runs that aren't there, or a column that has
+                               an earlier list; `detail` is the element of `lists`
    SAFEBOUND_BAD_RUN           `detail` is the element of `runs`, of the first list that has a wrong one
    SAFEBOUND_MISSING_LIST      a column without a list; `detail` is the element of `equalities`
    SAFEBOUND_ROOM              2^n
@@ -281,7 +282,7 @@ safebound_status safebound_cut(const safebound_run *runs, size_t runs_length, ui
            safebound_bounds(rows, 2, equalities, 1, lists, 2, runs, 3, bounds, 4, &detail);
        // SAFEBOUND_OK, and bounds are 1, 6, 5, 12
 
-   With the rows 6 and 100 it is 1, 6, 100, 12: of the 100 rows at most 5 have a value that may be equal to another. */
+   With the rows 6 and 100 the bounds are 1, 6, 100, 12: at most 5 of the 100 rows have a value, and may join. */
 safebound_status safebound_bounds(const uint64_t *rows, size_t entries, const safebound_equality *equalities,
                                   size_t equalities_length, const safebound_list *lists, size_t lists_length,
                                   const safebound_run *runs, size_t runs_length, uint64_t *into, size_t room,
@@ -291,9 +292,9 @@ safebound_status safebound_bounds(const uint64_t *rows, size_t entries, const sa
    passes the limit ends at once.
 
    A set is looked at in as many turns as it has equalities, but in one at least and in 16 at most. The work of a turn is 1,
-   and 1 more for each run of both lists of each equality of the set; that of a call is the work of all turns of all sets.
-   It is a measure of the query, and no count of steps: turns of a set that come to the same are bounded once, as all do
-   where the equalities close no cycle, and lists grow on their way along a chain.
+   and 1 more for each run of both lists of each equality of the set. The work of a call is that of all turns of all sets.
+   It is a measure of the query, and no count of steps. Turns of a set that make the same columns equal are bounded once; if
+   the equalities close no cycle, these are all turns. And lists grow on their way along a chain.
 
    The statuses are those of safebound_bounds, and between SAFEBOUND_ROOM and SAFEBOUND_NO_MEMORY
 
@@ -337,12 +338,13 @@ safebound_status safebound_set_bound(const uint64_t *rows, size_t entries, const
        SAFEBOUND_SEMI_JOIN     the lesser of inner and left
        SAFEBOUND_ANTI_JOIN     left
 
-   A number that is SAFEBOUND_NO_BOUND or more is SAFEBOUND_NO_BOUND. As an argument it says that no bound is known.
+   A sum of SAFEBOUND_NO_BOUND or more is answered as SAFEBOUND_NO_BOUND. As an argument this number says that no bound is
+   known.
 
    SAFEBOUND_BAD_JOIN_KIND     none of these; `detail` is the kind
    SAFEBOUND_OK
 
-   Example: where 6 rows and 5 rows have an inner join of at most 12, the left join has at most 18.
+   Example: if the inner join of 6 rows and 5 rows has at most 12 rows, the left join has at most 18.
 
        safebound_status status = safebound_joined_rows(SAFEBOUND_LEFT_JOIN, 12, 6, 5, &detail); */
 safebound_status safebound_joined_rows(uint64_t kind, uint64_t inner, uint64_t left, uint64_t right, uint64_t *detail);
@@ -351,8 +353,8 @@ safebound_status safebound_joined_rows(uint64_t kind, uint64_t inner, uint64_t l
    of no entry, isn't looked at.
 
    An order's levels are the bounds of its first entry, of its first two, and so on. The best order has the least greatest
-   level; among those the least sum of levels; among those the first entries of the least numbers. `into` gets its n
-   levels.
+   level; among those the least sum of levels; and among those its entries' numbers come first in lexicographic order.
+   `into` gets its n levels.
 
    SAFEBOUND_BAD_BOUNDS    not 2^n of them, for an n from 1 to 12; `detail` is their number
    SAFEBOUND_BAD_BUDGET    more than 2^59; `detail` is the budget
@@ -363,7 +365,7 @@ safebound_status safebound_joined_rows(uint64_t kind, uint64_t inner, uint64_t l
    SAFEBOUND_OK
 
    Example: over the bounds 1, 2, 2, 9, 2, 5, 5, 6 of three entries the best order is 0, 2, 1 with the levels 2, 5, 6. With a
-   budget of 5 it is SAFEBOUND_BUDGET, and `detail` is 6.
+   budget of 5 the status is SAFEBOUND_BUDGET, and `detail` is 6.
 
        safebound_level levels[3];
        safebound_status status = safebound_order(bounds, 8, 1000000, levels, 3, &detail); */
@@ -372,10 +374,11 @@ safebound_status safebound_order(const uint64_t *bounds, size_t bounds_length, u
 
 /* The best join tree of any shape over bounds of all sets.
 
-   A tree's levels are the bounds of its joins; that of one entry alone is its own bound. The best tree has the least
-   greatest level; among those the least sum; among those the left set of the root is the least number, each left set
-   having the first entry of what it splits, and so on in the left tree and then in the right one. `into` gets its n - 1
-   joins: each stands behind those below it, left before right, and the last one is the root.
+   A tree's levels are the bounds of its joins; a tree of one entry has that entry's bound as its level. The best tree has
+   the least greatest level, and among those the least sum. Ties are decided from the root on: the least left set, as a
+   number, is best; then the left tree decides in the same way, and then the right one. Each left set has the first entry of
+   the set that it splits. `into` gets the tree's n - 1 joins: each stands behind those below it, left before right, and the
+   last one is the root.
 
    SAFEBOUND_BAD_BOUNDS    not 2^n of them, for an n from 1 to 12; `detail` is their number
    SAFEBOUND_BAD_BUDGET    more than 2^59; `detail` is the budget
@@ -397,8 +400,8 @@ safebound_status safebound_tree(const uint64_t *bounds, size_t bounds_length, ui
    each level, chains of the rows of each entry but the first, and the keys of the longest list. Each buffer counts with its
    capacity times the size of an element, and each list of buffers with its own.
 
-   `rows` has for each entry a number that it has at most of rows, as for safebound_bounds; `levels` is what safebound_order
-   wrote. It is the same number on every machine. At SAFEBOUND_OK `detail` is that number.
+   `rows` has for each entry its row bound, as for safebound_bounds; `levels` is what safebound_order wrote. At SAFEBOUND_OK
+   `detail` is the number of bytes, which is the same on every machine.
 
    SAFEBOUND_BAD_ENTRIES    not from 1 to 12; `detail` is their number
    SAFEBOUND_BAD_LEVELS     not as many as entries; `detail` is their number
@@ -419,7 +422,7 @@ safebound_status safebound_memory(const uint64_t *rows, size_t entries, const sa
 
    SAFEBOUND_BAD_ENTRIES    not from 1 to 12; `detail` is their number
    SAFEBOUND_BAD_JOINS      not one fewer than entries; `detail` is their number
-   SAFEBOUND_BAD_JOIN       of a node that doesn't stand before it; `detail` is the element of `joins`
+   SAFEBOUND_BAD_JOIN       a join of a node that isn't before it; `detail` is the element of `joins`
    SAFEBOUND_PAST_BITS      2^64 bytes or more
    SAFEBOUND_OK
 

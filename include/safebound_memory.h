@@ -1,15 +1,15 @@
-/* Memory for SafeBound's library, for who gives it an allocator of one's own.
+/* Memory for SafeBound's library, for programs that give it an allocator of their own.
 
    libsafebound.a calls three functions for all of its memory, and has them itself, over malloc, as weak symbols. A program
    that defines all three gets its own in their place: a planner's memory context, or a test's allocator that fails. In
    libsafebound.so they are bound to malloc.
 
-   All three are of one allocator. It may be asked by each thread that calls the library at the same time. A call of the
-   library gives back all that it was given before it returns.
+   All three are of one allocator. Threads that call the library at the same time may call it at the same time. A call of
+   the library gives back all that it was given before it returns.
 
-   Each function has to return to its caller: no longjmp, no exception of C++, no end of the thread. Where memory is wanting
-   it says so, and the call ends with SAFEBOUND_NO_MEMORY; a program that wants to jump does so then, when the call has
-   given everything back. A function may take locks of its own, and ask others for memory. */
+   Each function has to return to its caller: no longjmp, no exception of C++, no end of the thread. If there is too little
+   memory, it says so, and the call ends with SAFEBOUND_NO_MEMORY. A program that wants to jump does so then, when the call
+   has given everything back. A function may take locks of its own, and ask others for memory. */
 
 #ifndef SAFEBOUND_MEMORY_H
 #define SAFEBOUND_MEMORY_H
@@ -28,17 +28,17 @@ typedef unsigned char rattle_given;
 extern "C" {
 #endif
 
-/* What a request gives: `given` is 0 where memory is wanting, and `at` then isn't looked at. */
+/* What a request gives: `given` is 0 if there is too little memory, and `at` then isn't looked at. */
 typedef struct rattle_memory {
     rattle_given given;
     void *at;
 } rattle_memory;
 
-/* So many bytes, aligned to `align`, which is a power of two up to 16. `at` isn't NULL, also for 0 bytes. */
+/* `size` bytes, aligned to `align`, which is a power of two up to 16. `at` isn't NULL, even for 0 bytes. */
 rattle_memory rattle_alloc(size_t size, size_t align);
 
-/* The block at `at`, of `size` bytes, with `new_size` bytes, perhaps at another place. Where memory is wanting, the old
-   block stays as it was. */
+/* Makes the block at `at`, of `size` bytes, one of `new_size` bytes, perhaps at another place. If there is too little
+   memory, the old block stays as it was. */
 rattle_memory rattle_realloc(void *at, size_t size, size_t new_size, size_t align);
 
 /* Gives a block back. */

@@ -1,7 +1,7 @@
 /* Admission: a query is refused before it runs if a join of its plan may have more rows than safebound.budget.
 
-   The hook of the planner stores in the plan what the bounds of its joins are computed from. They are computed when the plan starts to
-   run, with the snapshot and the parameters of that run: the plan may be of an earlier snapshot, or be kept and run many times. */
+   The hook of the planner stores in the plan what the bounds of its joins are computed from. Bounds are computed when the plan starts to
+   run, with the snapshot and the parameters of that run: a plan may be of an earlier snapshot, or be kept and run many times. */
 #include "admit.h"
 
 #include "access/parallel.h"
@@ -42,7 +42,7 @@ static const struct config_enum_entry unbounded_choices[] = {
 static int	budget;
 static int	unbounded;
 
-/* True while the extension opens a query of its own, by which it counts a table. These are not checked. */
+/* True while the extension opens a query of its own, by which it counts a table. Such a query isn't checked. */
 bool		admission_paused = false;
 
 static planner_hook_type planner_before;
@@ -287,7 +287,7 @@ admit(QueryDesc *query)
 	MemoryContextDelete(own);
 }
 
-/* EXPLAIN without ANALYZE runs nothing, and what a parallel worker runs was checked in its leader: both go unchecked. */
+/* EXPLAIN without ANALYZE runs nothing, and what a parallel worker runs was checked in its leader. So neither is checked here. */
 static void
 on_start(QueryDesc *query, int flags)
 {
@@ -343,8 +343,8 @@ define_settings(void)
 							 NULL, &unbounded, UNBOUNDED_REFUSE, unbounded_choices, PGC_SUSET, 0, NULL, NULL, NULL);
 }
 
-/* Before the library is loaded, a session can begin with any value of these settings. When they are defined here, PostgreSQL refuses it if
-   the user may not set them. But it has then replaced what the role, the database or the server says, so these are applied again. */
+/* Before the library is loaded, a session can begin with any value of these settings. When they are defined here, PostgreSQL refuses a value
+   that the user may not set. But that value has replaced what the role, the database or the server says, so these are applied again. */
 static void
 define_guarded_settings(void)
 {

@@ -1,4 +1,4 @@
-/* Admission: which joins a plan has, what their bounds are made of, and the refusal. */
+/* Admission: which joins a plan has, what their bounds are computed from, and the refusal. */
 #ifndef SAFEBOUND_ADMIT_H
 #define SAFEBOUND_ADMIT_H
 
@@ -17,7 +17,7 @@ typedef struct PlanJoin
 extern bool has_joins(PlannedStmt *plan);
 extern List *joins_of_plan(PlannedStmt *plan, List *roots);
 
-/* recipe.c: what bounds are made of, kept with the plan */
+/* recipe.c: what bounds are computed from, kept with the plan */
 extern void put_recipe(PlannedStmt *plan, List *joins);
 extern List *recipe_of(PlannedStmt *plan);
 extern PlannerInfo *root_of_part(List *part, ParamListInfo parameters);

@@ -1,6 +1,6 @@
-/* Codes of columns: each is sorted once, and its rows get the codes of their values.
+/* Codes of columns: each column is sorted once, and each row gets the code of its value.
 
-   Along a foreign key the columns of the other table are columns of this one: each row has the value of the row that it refers to. */
+   Along a foreign key the columns of the other table count as columns of this one: a row has the value of the row that it refers to. */
 #include "counting.h"
 
 #include "access/genam.h"
@@ -25,7 +25,7 @@
 #include "utils/tuplesort.h"
 #include "utils/typcache.h"
 
-/* Tuples of one column and the number of its row. */
+/* Tuples of a column's value and the number of its row. */
 static TupleDesc
 numbered_values(Form_pg_attribute attribute)
 {
@@ -37,7 +37,7 @@ numbered_values(Form_pg_attribute attribute)
 	return desc;
 }
 
-/* Which values are equal doesn't depend on the order, so what is equal by its bytes is sorted by them, which is faster. */
+/* Which values are equal doesn't depend on the order. So if only equal bytes are equal values, they are sorted by bytes, which is faster. */
 Oid
 sort_collation(Oid collation)
 {
@@ -105,13 +105,13 @@ typedef struct Coding
 	const uint32 *weights;		/* how many rows each counts for; NULL: one */
 	uint64		total;			/* of all weights */
 	uint64		nulls;
-	uint64		passed;			/* of those with a value */
-	uint64		count;			/* of the last value */
+	uint64		passed;			/* of the rows of values that have ended */
+	uint64		count;			/* of the last value's rows */
 	Datum		last;
 	Sorted	   *by_row;
 } Coding;
 
-/* Keeps the most common values: one that is more common than the least takes its place. */
+/* Keeps the most common values. A value takes the place of the least common one if it is more common. */
 static void
 note_common(Coding *coding)
 {
@@ -271,7 +271,7 @@ read_columns(Making *making)
 	}
 }
 
-/* The numbers of the columns of a table whose conditions are looked at along a reference to its key. */
+/* The columns of a referred table, by their numbers, on which conditions are looked at along a reference to its key. */
 static List *
 columns_beside(Relation referred, AttrNumber key)
 {

@@ -25,7 +25,7 @@ typedef struct Conditioned
 	AttrNumber	joined;
 	const Reference *reference; /* NULL: the relation has them itself */
 	Bitmapset **used;			/* the columns whose conditions had lists */
-	bool	   *loose;			/* set where more rows are counted than pass: a list of other values, or of one of several conditions */
+	bool	   *loose;			/* set if a list may count more rows than pass: one of other values, or of one of several conditions */
 } Conditioned;
 
 static bool list_of_clause(const Conditioned *of, Node *clause, DegreeList *list);
@@ -72,7 +72,7 @@ is_equality(Oid relation, AttrNumber column, Oid operator, Oid collation)
 	return OidIsValid(family) && get_op_opfamily_strategy(operator, family) == BTEqualStrategyNumber;
 }
 
-/* A part of a column's values in its order, as leaves. */
+/* A range of a column's values in its order, as a range of leaves. */
 typedef struct Range
 {
 	AttrNumber	column;
@@ -310,7 +310,7 @@ list_of_equality(const Conditioned *of, OpExpr *clause, DegreeList *list)
 	return true;
 }
 
-/* The sum of the lists of the values of an array: a common value counts once, others each. */
+/* The sum of the lists of the values of an array. A common value that the array has twice counts once, any other value counts each time. */
 static bool
 sum_of_values(const Conditioned *of, const KeptPair *pair, ScalarArrayOpExpr *clause, ArrayType *array, DegreeList *list)
 {
@@ -481,7 +481,7 @@ list_of_clause(const Conditioned *of, Node *clause, DegreeList *list)
 	return false;
 }
 
-/* The list of a joined column over the rows that pass the relation's own conditions; with joined 0 only its rows count. */
+/* The list of a joined column over the rows that pass the relation's own conditions. If joined is 0, only its number of rows counts. */
 DegreeList
 list_under(const KeptTable *table, RelOptInfo *rel, AttrNumber joined, Bitmapset **used)
 {
@@ -495,8 +495,8 @@ list_under(const KeptTable *table, RelOptInfo *rel, AttrNumber joined, Bitmapset
 	return with_deltas(table, joined, list);
 }
 
-/* The list of a joined column over the rows that refer to a row that passes the conditions of its relation. False if there is none.
-   If the table is watched, the one that it refers to has to be unchanged: a change there may let other rows of this table pass. */
+/* The list of a joined column over the rows that refer to a row that passes the conditions of its relation. False if there is no list.
+   If the table is watched, the table that it refers to has to be unchanged: a change there may let other rows of this table pass. */
 bool
 list_along(const KeptTable *table, const Reference *reference, RelOptInfo *referred, AttrNumber joined, DegreeList *list, Bitmapset **used, bool *loose)
 {

@@ -8,7 +8,7 @@
 #include "executor/tuptable.h"
 #include "utils/rel.h"
 
-/* sorted.c: numbers below 2^63 sorted, in memory where that many fit, else in files. */
+/* sorted.c: sorts numbers below 2^63, in memory if that many fit, else in files. */
 typedef struct Sorted Sorted;
 extern Sorted *sorted_begin(uint64 most, int from, int bits);
 extern void sorted_put(Sorted *sorted, uint64 number);
@@ -59,9 +59,9 @@ typedef struct Column
 	Codes	   *codes;
 	uint32		highest;		/* the highest code */
 	int			common_length;
-	CommonValue *common;		/* the most common values, by rising code */
+	CommonValue *common;		/* the most common values, in the order of their codes */
 	int			leaves_length;
-	Leaf	   *leaves;			/* NULL where its order isn't kept */
+	Leaf	   *leaves;			/* NULL if the sort didn't keep its order */
 } Column;
 
 typedef struct Making

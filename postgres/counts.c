@@ -16,7 +16,7 @@ typedef struct Degrees
 	uint64		few[FEW];		/* the keys of each low degree */
 	int			length;
 	int			capacity;
-	safebound_run *runs;		/* the higher ones, by rising degree */
+	safebound_run *runs;		/* the higher ones, the lowest degree first */
 } Degrees;
 
 static void
@@ -76,7 +76,7 @@ add_degree(Degrees *degrees, uint64 degree)
 		degrees->few[degree]++;
 }
 
-/* The same as a list, whose degrees fall. */
+/* The same as a list, the greatest degree first. */
 static DegreeList
 list_of_degrees(const Degrees *degrees)
 {
@@ -178,12 +178,12 @@ bits_of(const Column *column)
 	return column && column->highest ? pg_leftmost_one_pos32(column->highest) + 1 : 0;
 }
 
-/* The rows of a table by rising code of a joined column, which is done once for all filter columns. */
+/* The rows of a table in the order of their codes of a joined column. This order is made once for all filter columns. */
 typedef struct Order
 {
 	const Column *joined;
 	uint32	   *ends;			/* by code: how many rows have it or a lower one */
-	uint32	   *rows;			/* NULL: they don't fit into the memory, and each pair of columns is sorted */
+	uint32	   *rows;			/* NULL: the rows don't fit into the memory, and are sorted for each pair of columns */
 } Order;
 
 static bool
@@ -237,7 +237,7 @@ order_rows(const Making *making, const Column *joined)
 	return order;
 }
 
-/* The codes of both columns of each row, by rising code of the joined column. */
+/* The codes of both columns of each row, in the order of the joined column's codes. */
 typedef struct Pairs
 {
 	const Order *order;
@@ -323,7 +323,7 @@ pairs_end(Pairs *pairs)
 		pfree(pairs->filter);
 }
 
-/* The part of the filter column's values that a code lies in. */
+/* The leaf of the filter column's values that has a code. */
 static int
 leaf_of(const Column *filter, uint32 code)
 {
@@ -437,7 +437,7 @@ put_counted(Counted *counted, uint32 joined, uint32 filter, uint32 count)
 	sorted_put(counted->sorted, pair | count);
 }
 
-/* Goes through the rows by their joined value: for the nodes of ranges, and for the groups of the filter column, which are sorted then. */
+/* Goes through the rows in the order of the joined column. Counts for the nodes of ranges, and puts counted pairs into a sort by the filter. */
 static void
 count_pairs(Counting *counting, const Order *order, Counted *counted, Nodes *nodes)
 {
@@ -469,7 +469,7 @@ count_pairs(Counting *counting, const Order *order, Counted *counted, Nodes *nod
 	pairs_end(&pairs);
 }
 
-/* One list for each code of the filter column, and one for NULL though no row has it. Without a filter column all rows are one group. */
+/* One list for each code of the filter column, and one for NULL even if no row has it. Without a filter column all rows are one group. */
 static void
 put_groups(Counting *counting, Counted *counted)
 {

@@ -18,7 +18,7 @@
 #include "utils/rel.h"
 #include "utils/snapmgr.h"
 
-/* A sum has as many runs as all its lists. From this many on it is compressed. */
+/* A sum may have as many runs as all its lists. If it has more than this, it is compressed. */
 #define MANY_RUNS 64
 
 static Datum *
@@ -95,7 +95,7 @@ read_seen(Relation tables, HeapTuple tuple, Seen *seen)
 		seen->referred = array_referred(row[TABLE_REFERRED - 1]);
 }
 
-/* A table's row as a snapshot sees it; with NULL, as it is now. False where the table isn't kept. */
+/* What a snapshot sees of a table in kept_table; with NULL, what stands there now. False if the table isn't kept. */
 bool
 see_table(Oid relation, Snapshot snapshot, Seen *seen)
 {
@@ -120,7 +120,7 @@ see_table(Oid relation, Snapshot snapshot, Seen *seen)
 	return found;
 }
 
-/* The tables that are kept and followed where a statement on `source` may bring rows to them, as it is now. */
+/* The kept tables to which a statement on `source` may bring rows, as of now; if `source` is InvalidOid, all kept tables. */
 List *
 followers_of(Oid source)
 {
@@ -189,8 +189,8 @@ count_deltas(Oid relation, Snapshot snapshot)
 	return count;
 }
 
-/* The tables that a table refers to and that still are what they were when it was counted. Under one version deltas are only added,
-   so if there are as many as then, they are the same ones. */
+/* The tables that a table refers to and that are unchanged since it was counted. While a table has one version, deltas are only added, so
+   if there are as many as then, they are the same ones. */
 List *
 unchanged_references(const Seen *seen, Snapshot snapshot)
 {
@@ -309,8 +309,8 @@ same_ids(const Deltas *one, const Deltas *other)
 	return one && one->length == other->length && memcmp(one->ids, other->ids, one->length * sizeof(int64)) == 0;
 }
 
-/* The sum of the deltas that a snapshot sees, in a memory context of its own below the current one; `known` where these are the ones that
-   were summed there. */
+/* The sum of the deltas that a snapshot sees, in a memory context of its own below the current one. If `known` is already the sum of the
+   same deltas, it is answered. */
 Deltas *
 see_deltas(const Seen *seen, Snapshot snapshot, Deltas *known)
 {

@@ -1,4 +1,4 @@
-/* Expected rows of joins: PostgreSQL's own number, corrected by what the statistics tell beside bounds. */
+/* Expected rows of joins: PostgreSQL's own number, corrected by the lists along references and by counted numbers of distinct values. */
 #include "planning.h"
 
 #include <math.h>
@@ -209,7 +209,7 @@ whole_list(BoundedQuery *query, Var *var)
 }
 
 /* The share of rows that an index finds by the column `looked` for a value of the column `looking`. If `looking` is unique, each value is
-   looked for once. If it is the same column, each is looked for as often as it stands there. Else PostgreSQL's number stays: 0. */
+   looked for once. If it is the same column, each is looked for as often as it stands there. Otherwise 0: PostgreSQL's number stays. */
 static double
 share_found(BoundedQuery *query, Var *looked, Var *looking)
 {
@@ -243,7 +243,7 @@ share_of_scan(BoundedQuery *query, const IndexPath *path)
 	return left->varno == (int) path->indexinfo->rel->relid ? share_found(query, left, right) : share_found(query, right, left);
 }
 
-/* Costs of a scan that is repeated for each row of others. */
+/* Costs of a B-tree scan, corrected if it is repeated for each row of other relations. */
 static void
 cost_btree(PlannerInfo *root, IndexPath *path, double loops, Cost *startup, Cost *total, Selectivity *selectivity, double *correlation, double *pages)
 {

@@ -1,8 +1,8 @@
 /* The triggers of tables that are watched.
 
-   A statement trigger counts the rows that a statement wrote. From its beginning until then the table isn't known to this backend, since
-   a query within the statement may see rows that aren't counted yet; other backends don't see them before the commit. For rows that
-   a replica applies only row triggers run: they mark the table as not known. */
+   A statement trigger counts the rows that a statement wrote. From the statement's beginning until then the table isn't known to this
+   backend, since a query within the statement may see rows that aren't counted yet; other backends don't see them before the commit.
+   For rows that a replica applies only row triggers run: they mark the table as not known. */
 #include "watch.h"
 
 #include "access/xact.h"
@@ -105,7 +105,7 @@ is_part_of(Oid relation, Oid whole)
 	return get_rel_relispartition(relation) && list_member_oid(get_partition_ancestors(relation), whole);
 }
 
-/* Rows came that are not counted. */
+/* Marks that rows came which aren't counted. */
 void
 mark_not_counted(Oid relation)
 {
@@ -119,7 +119,7 @@ mark_not_counted(Oid relation)
 static Oid	applied_relation;
 static TransactionId applying_transaction;
 
-/* Rows came to a table, and so to what it is a part of. Once in a (sub)transaction is enough. */
+/* Marks that rows came to a table, and so to the tables that it is a part of. One mark in a (sub)transaction is enough. */
 static void
 mark_applied(Oid relation)
 {
@@ -138,7 +138,7 @@ mark_applied(Oid relation)
 	applying_transaction = GetCurrentTransactionId();
 }
 
-/* Who counts a table takes its marks away. */
+/* Counting a table deletes its marks, so rows that are applied later have to mark it again. */
 void
 marks_are_gone(void)
 {
@@ -154,7 +154,7 @@ typedef struct NewRows
 	Tuplestorestate *rows;
 	TupleTableSlot *slot;
 	uint64		length;
-	bool	   *counts;			/* which of them; NULL: all */
+	bool	   *counts;			/* by row: whether it counts; NULL: all count */
 	uint64		counted;
 } NewRows;
 
@@ -165,7 +165,7 @@ rewind_rows(Tuplestorestate *rows)
 	tuplestore_rescan(rows);
 }
 
-/* The column of the new rows that is a column of the table; NULL where there is none. A part may have its columns in another order. */
+/* The column of the new rows that is column `number` of the table; NULL if there is none. A part may have its columns in another order. */
 static Form_pg_attribute
 column_of(const NewRows *new, AttrNumber number)
 {
@@ -249,7 +249,7 @@ sort_values(NewRows *new, AttrNumber number, Tuplesortstate *sort)
 	return length;
 }
 
-/* The codes of sorted values: equal ones have the same. */
+/* The codes of sorted values: equal values have the same code. */
 static void
 code_values(Tuplesortstate *sort, Form_pg_attribute attribute, uint64 *codes)
 {

@@ -1,5 +1,5 @@
-"""A PostgreSQL with the extension, which leaves the machine's own unchanged: its programs are copied into a folder,
-and the rest is linked.
+"""A PostgreSQL with the extension. The machine's own PostgreSQL stays as it is: its programs are copied into a folder,
+and the rest is linked there.
 
 PostgreSQL finds its folders from the place of its program, so a copy of the program has extensions of its own.
 """
@@ -23,7 +23,7 @@ __all__ = ("SETTINGS", "Alone", "Installed", "lay_server", "missing", "programs"
 SETTINGS = ("session_preload_libraries=safebound", "jit=off")
 
 
-def told(word: str) -> str:
+def pg_config(word: str) -> str:
     return subprocess.run(["pg_config", word], check=True, text=True, stdout=subprocess.PIPE).stdout.strip()
 
 
@@ -31,9 +31,9 @@ def missing() -> str | None:
     """What tests need and isn't installed; None if all of it is."""
     if not shutil.which("pg_config") or not importlib.util.find_spec("psycopg"):
         return "pg_config or psycopg"
-    if not told("--version").startswith("PostgreSQL 15"):
-        return f"PostgreSQL 15 ({told('--version')} is)"
-    headers, folder = told("--includedir-server"), told("--bindir")
+    if not pg_config("--version").startswith("PostgreSQL 15"):
+        return f"PostgreSQL 15 ({pg_config('--version')} is)"
+    headers, folder = pg_config("--includedir-server"), pg_config("--bindir")
     if not os.path.exists(os.path.join(headers, "postgres.h")) or not os.path.exists(os.path.join(folder, "initdb")):
         return "PostgreSQL's server or its headers"
     return None
@@ -47,16 +47,16 @@ def link_all(source: str, into: str) -> None:
 
 def lay_server(root: str) -> str:
     """The folder of the copied programs, below `root`."""
-    folder = root + told("--bindir")
-    shutil.copytree(told("--bindir"), folder)
-    headers = told("--includedir")
+    folder = root + pg_config("--bindir")
+    shutil.copytree(pg_config("--bindir"), folder)
+    headers = pg_config("--includedir")
     os.makedirs(root + os.path.dirname(headers))
     os.symlink(headers, root + headers)
-    link_all(told("--pkglibdir"), root + told("--pkglibdir"))
-    link_all(told("--sharedir"), root + told("--sharedir"))
-    extensions = os.path.join(root + told("--sharedir"), "extension")
+    link_all(pg_config("--pkglibdir"), root + pg_config("--pkglibdir"))
+    link_all(pg_config("--sharedir"), root + pg_config("--sharedir"))
+    extensions = os.path.join(root + pg_config("--sharedir"), "extension")
     os.remove(extensions)
-    link_all(os.path.join(told("--sharedir"), "extension"), extensions)
+    link_all(os.path.join(pg_config("--sharedir"), "extension"), extensions)
     return folder
 
 

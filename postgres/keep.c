@@ -232,7 +232,7 @@ within(int value, int least, int most, const char *name)
 	return value;
 }
 
-/* Counts a table in a new snapshot. No columns: all that have an order. */
+/* Counts a table in a new snapshot. If `joined` or `filters` is NULL, it stands for all columns that have an order. */
 int64
 keep_table(Oid relation, Bitmapset *joined, Bitmapset *filters, int most_common, int most_leaves, int accuracy, bool folding)
 {

@@ -278,8 +278,8 @@ take_deltas(KeptTable *table, const Seen *seen, Snapshot snapshot)
 
 bool		kept_fresh_only = false;
 
-/* Whether a partitioned table still has the parts that it had when it was counted. Parts come without waiting for those who read, and
-   an older snapshot sees their rows and not that they came. */
+/* Whether a partitioned table still has the parts that it had when it was counted. A part is attached without waiting for readers. An
+   older snapshot then sees the part's rows, and not the mark that a part came. */
 static bool
 same_parts(const Seen *seen)
 {
@@ -287,7 +287,7 @@ same_parts(const Seen *seen)
 }
 
 /* The statistics of a table as the active snapshot sees them, or NULL. What is dropped meanwhile stays until no plan is in the making.
-   The memory of them is of one version, and a snapshot may see another one. */
+   This backend has one version of them in its memory, and a snapshot may see another one. */
 const KeptTable *
 kept_table(Oid relation)
 {
@@ -311,7 +311,7 @@ kept_table(Oid relation)
 	return view;
 }
 
-/* Why a table counts as unknown where only those that are watched are known, and what makes it known. */
+/* Why a table counts as unknown while only watched tables are known, and what makes it known. */
 char *
 why_not_known(Oid relation)
 {
@@ -331,7 +331,7 @@ kept_pair(const KeptTable *table, AttrNumber joined, AttrNumber filter)
 	return kept_pair_along(table, joined, filter, NULL);
 }
 
-/* The same along a reference; NULL: of the table's own column. */
+/* The same along a reference; without one (NULL) by a column of the table itself. */
 const KeptPair *
 kept_pair_along(const KeptTable *table, AttrNumber joined, AttrNumber filter, const Reference *reference)
 {

@@ -46,7 +46,7 @@ compressed(DegreeList list, int accuracy)
 	return few;
 }
 
-/* The list of rows of which each is in one or the other. */
+/* The list of rows of which each is among those of one list or of the other. */
 DegreeList
 summed(DegreeList one, DegreeList other)
 {
@@ -66,8 +66,8 @@ summed(DegreeList one, DegreeList other)
 	return both;
 }
 
-/* The list of rows that have any one of two values, whichever it is: at each rank the greater degree. It has runs of its own, since who
-   counts gives the memory of both back. */
+/* The list of rows that have any one of two values, whichever it is: at each rank the greater degree. It has runs of its own, since counting
+   frees the memory of both. */
 DegreeList
 greater_by_rank(DegreeList one, DegreeList other)
 {
@@ -152,7 +152,7 @@ dominates(const DegreeList *one, const DegreeList *other)
 	return one->rows >= other->rows;
 }
 
-/* Numbers of seven bits a byte, the least first. */
+/* A number as bytes with seven bits each, the lowest bits first. */
 void
 put_number(StringInfo into, uint64 number)
 {

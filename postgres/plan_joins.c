@@ -111,7 +111,7 @@ is_empty(Plan *plan)
 	return condition && IsA(condition, Const) && (((Const *) condition)->constisnull || !DatumGetBool(((Const *) condition)->constvalue));
 }
 
-/* What a scan names; 0 where the node is no scan of one entry. */
+/* The entry that a scan reads; 0 if the node is no scan of one entry. */
 static Index
 scanned(Plan *plan)
 {
@@ -151,8 +151,8 @@ leaf_scans(Plan *plan)
 	return (Scans) {NULL, is_empty(plan)};
 }
 
-/* The parent of a child in its own part of the planner; 0 where it is no child. In a finished plan the numbers of both are moved, like
-   those of all entries of the part, but the array still has the child at its old number. */
+/* The parent of a child in its own PlannerInfo; 0 where it is no child. In a finished plan the numbers of both are moved, like those of all
+   entries of this PlannerInfo, but the array still has the child at its old number. */
 static Index
 parent_of(PlannerInfo *root, Index child)
 {
@@ -161,7 +161,7 @@ parent_of(PlannerInfo *root, Index child)
 	return info ? info->parent_relid - (info->child_relid - child) : 0;
 }
 
-/* The number in `root` of an entry, or of the subquery of `root` in which the entry stands; 0 if it isn't below `root`. */
+/* The number that `root` has for an entry, or for its subquery in which the entry stands; 0 if the entry isn't below `root`. */
 static Index
 relid_in(PlannerInfo *root, const Origin *origin)
 {
@@ -194,7 +194,7 @@ origin_of(Search *search, int number)
 	return hash_search(search->origins, &names, HASH_FIND, NULL);
 }
 
-/* The numbers in `root` of all scans; NULL where one isn't below it. */
+/* The numbers that `root` has for all these scans; NULL if one isn't below it. */
 static Relids
 relids_in(Search *search, PlannerInfo *root, Bitmapset *numbers)
 {
@@ -213,7 +213,7 @@ relids_in(Search *search, PlannerInfo *root, Bitmapset *numbers)
 	return relids;
 }
 
-/* Finds the planner's part that made a join: the innermost one in which all scans of both sides have numbers. */
+/* Finds the PlannerInfo that made a join: the innermost one in which all scans of both sides have numbers. */
 static void
 note_join(Search *search, Bitmapset *outer, Bitmapset *inner, bool told)
 {
@@ -287,7 +287,7 @@ note_origins(Search *search, PlannerInfo *root)
 	}
 }
 
-/* All joins of a plan, over the parts of the planner that made paths for it. */
+/* All joins of a plan. `roots` has each PlannerInfo that made paths for it. */
 List *
 joins_of_plan(PlannedStmt *plan, List *roots)
 {

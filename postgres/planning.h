@@ -42,10 +42,10 @@ typedef struct JoinedColumn
 	List	   *narrowed;		/* of Narrowed: its lists in sets so far */
 } JoinedColumn;
 
-/* A joined column's list in sets that join its relation to ones that it refers to, under the conditions of those too. */
+/* A joined column's list in sets where its relation is joined to relations that it refers to, under the conditions on those too. */
 typedef struct Narrowed
 {
-	Bitmapset  *held;			/* the references that are joined along, by their places in `carried` */
+	Bitmapset  *held;			/* the references along which the set joins, by their places in `carried` */
 	DegreeList	list;
 } Narrowed;
 

@@ -1,4 +1,4 @@
-/* What the bounds of a plan's joins are made of, kept with the plan, so that they can be made again when it runs.
+/* What the bounds of a plan's joins are computed from, kept with the plan, so that they can be computed when it runs.
 
    A finished plan has no equivalence classes and no conditions as they were. They are copied into the plan, into an entry of its
    range table that nothing refers to. It is of the kind RTE_RESULT, and its values_lists hold them. Such an entry belongs to no table, takes
@@ -86,7 +86,7 @@ conditions_of(RelOptInfo *rel)
 	return conditions;
 }
 
-/* An equivalence class of columns; NIL where it is none. */
+/* An equivalence class of columns; NIL if it can't be used. */
 static List *
 class_lists(EquivalenceClass *class)
 {
@@ -105,7 +105,7 @@ class_lists(EquivalenceClass *class)
 	return list_make3(list_copy(class->ec_opfamilies), list_make1_oid(class->ec_collation), members);
 }
 
-/* Each clause stands at all of its relations: it is taken at the first. */
+/* PostgreSQL lists a clause at each of its relations. It is taken at the first one. */
 static List *
 clauses_of(RelOptInfo *rel)
 {
@@ -152,7 +152,7 @@ part_of_root(PlannerInfo *root, List *joins)
 	return part;
 }
 
-/* Keeps with a plan what the bounds of its joins are made of. The first value is how many joins have unknown relations. */
+/* Keeps with a plan what the bounds of its joins are computed from. The first value is how many joins have unknown relations. */
 void
 put_recipe(PlannedStmt *plan, List *joins)
 {
@@ -261,7 +261,7 @@ add_clause(PlannerInfo *root, Expr *clause, List *required)
 			root->simple_rel_array[relid]->joininfo = lappend(root->simple_rel_array[relid]->joininfo, info);
 }
 
-/* A part of the planner as far as bounded_query reads it, with the parameters of this run. */
+/* A PlannerInfo as far as bounded_query reads it, with the parameters of this run. */
 PlannerInfo *
 root_of_part(List *part, ParamListInfo parameters)
 {

@@ -1,5 +1,5 @@
-/* The rows of a table, or of all parts of a partitioned one, as the active snapshot sees them and always in the same order. Who counts
-   a table holds locks on it and its parts meanwhile, so that the parts stay the same. */
+/* The rows of a table, or of all parts of a partitioned one, as the active snapshot sees them and always in the same order. While a table
+   is counted it is locked with its parts, so that the parts stay the same. */
 #include "counting.h"
 
 #include "access/table.h"
@@ -23,7 +23,7 @@ struct Rows
 	TupleTableSlot *mapped;
 };
 
-/* The table itself, or what a partitioned table has of parts with rows of their own. */
+/* The table itself, or those parts of a partitioned table that have rows of their own. */
 static List *
 tables_with_rows(Relation whole)
 {

@@ -2,7 +2,7 @@
 \echo Use "CREATE EXTENSION safebound" to load this file. \quit
 
 -- The statistics of tables: kept_table has a row for each kept table, and kept_lists one for each joined column with each filter column.
--- They have values of the tables in them, so only the extension's owner may read them.
+-- Statistics have values of the tables in them, so only the extension's owner may read them.
 -- accuracy, common and ranges are what `keep` was called with.
 -- joined and filters are the numbers of the table's own columns that were counted as joined columns and as filter columns.
 -- version is a new number each time that the table is counted.
@@ -25,10 +25,10 @@ CREATE TABLE kept_table (
 );
 REVOKE ALL ON kept_table FROM PUBLIC;
 
--- A row has the degree lists of one joined column, for all rows and by the values of one filter column. Columns stand as numbers.
--- Where joined is 0, it has only how many rows each value of the filter column has. Where filter is 0, it has only the list of all rows.
--- Where along is 0, the filter column is one of the table itself. Else it is one of the table `referred`, to whose column `key` the column
--- `along` is a foreign key.
+-- A row has the degree lists of one joined column by the values of one filter column. Columns are given by their numbers.
+-- If joined is 0, it has only how many rows each value of the filter column has. If filter is 0, it has only the list of all rows.
+-- If along is 0, the filter column is one of the table itself. Otherwise it is one of the table `referred`, to whose column `key` the
+-- column `along` is a foreign key.
 CREATE TABLE kept_lists (
     relation regclass NOT NULL,
     joined smallint NOT NULL,
@@ -45,7 +45,7 @@ CREATE TABLE kept_lists (
 );
 REVOKE ALL ON kept_lists FROM PUBLIC;
 
--- The rows that came since a table was counted, one delta for each statement. Where rows is -1, some came that weren't counted.
+-- The rows that came since a table was counted, one delta for each statement. If rows is -1, some came that weren't counted.
 CREATE TABLE kept_delta (
     relation oid NOT NULL,
     id bigint NOT NULL,

@@ -68,14 +68,14 @@ written_through(Oid relation)
 	return sources;
 }
 
-/* Whether a replica may apply rows of a table by writing to a source of it itself. */
+/* Whether a replica that applies rows may write them to `source` itself, as rows of `relation`. */
 static bool
 applies_rows(Oid source, Oid relation)
 {
 	return get_rel_relkind(source) == RELKIND_RELATION && (source == relation || is_part_of(source, relation));
 }
 
-/* How many of a source's triggers for statements and for rows are there and fire always. */
+/* How many of our triggers a source has: for statements, if they always fire, and for rows, if they fire on replicas. */
 static void
 count_triggers(Oid source, int *statements, int *rows)
 {
@@ -145,8 +145,8 @@ lock_whole(Oid relation, LOCKMODE mode)
 		find_all_inheritors(relation, mode, NULL);
 }
 
-/* Locks a table against others that count it, and takes a new snapshot. Who counts other columns waits for all writers too, since their
-   triggers look at the columns. The deltas that the snapshot sees go: their rows are counted now. */
+/* Locks a table against others that count it, and takes a new snapshot. Counting that may be of other columns waits for all writers too,
+   since their triggers look at the columns. The deltas that the snapshot sees are deleted: their rows are counted now. */
 void
 begin_counting(Relation relation, bool folding, Seen *before, bool *was_followed)
 {
@@ -182,7 +182,7 @@ oid_array(List *oids)
 	return PointerGetDatum(construct_array(values, list_length(oids), OIDOID, 4, true, TYPALIGN_INT));
 }
 
-/* Says of the statistics that were just made which columns they are of, and who brings rows. */
+/* Notes with the statistics that were just made which columns they are of, and which tables bring rows. */
 static void
 note_sources(Oid relation, List *sources)
 {
@@ -204,8 +204,8 @@ columns_told(Oid relation, Seen *seen)
 	return bms_union(seen->joined, seen->filters);
 }
 
-/* What the lists along a reference were made of, as the active snapshot sees it: three numbers for each referred table, if all
-   changes to the columns that were used are followed. */
+/* The referred tables of which lists along a reference were made, as the active snapshot sees them. A table is left out if changes of a
+   column that was used aren't followed. */
 static List *
 references_told(Oid relation, uint64 rows, SPITupleTable *lists)
 {
@@ -503,7 +503,7 @@ check_all(void)
 	}
 }
 
-/* A materialized view that is refreshed has other rows. */
+/* Marks each materialized view that was refreshed, since it has other rows. */
 static void
 mark_refreshed(void)
 {
@@ -520,7 +520,7 @@ mark_refreshed(void)
 	}
 }
 
-/* The table whose rows ALTER TABLE writes anew, maybe with other values. */
+/* Marks the table whose rows ALTER TABLE writes anew, maybe with other values. */
 static void
 mark_rewritten(void)
 {

@@ -2,7 +2,7 @@
 
 `reorderable` are the entries that may be joined in any order; the others follow as they were written. `left_over` are
 conditions as text, each with the entries after which it is tested, or None if it is tested at the end. `not_used` are
-those that no bound takes into account. `order` is the order of all entries, once the block is planned.
+the conditions that no bound takes into account. `order` is the order of all entries, once the block is planned.
 """
 
 from __future__ import annotations
@@ -53,7 +53,8 @@ class Block:
                 self._condition(piece, of_on=True) if step.source in self.reorderable else self._of_step(step, piece)
 
     def _reorderable(self) -> list[int]:
-        """The entries that are joined first, in an order of the plan's: inner ones, before any RIGHT or FULL JOIN."""
+        """The entries that are joined first, in the order that the plan chooses. They are those of inner joins before
+        any RIGHT or FULL JOIN, if their ON names no other entries."""
         stop = next((at for at, step in enumerate(self.steps) if step.kind in ("RIGHT", "FULL")), len(self.steps))
         steps = [step for step in self.steps[:stop] if step.kind == "INNER"]
         while True:
@@ -67,12 +68,12 @@ class Block:
         return frozenset(column.entry for column in self.names.named(piece))
 
     def text(self, piece: Tokens) -> str:
-        """The tokens with the blocks within them in their planned order."""
+        """The tokens as text. A block within them has its joins in the planned order."""
         return self.plans.text_of(piece)
 
     def _condition(self, piece: Tokens, of_on: bool = False) -> None:
-        """A condition of WHERE or of an inner join's ON. With RIGHT or FULL JOIN rows may lack the entries that are
-        joined first: then a condition of WHERE is tested at the end, and one of ON after those entries."""
+        """A condition of WHERE or of an inner join's ON. After a RIGHT or FULL JOIN the entries that are joined first
+        may be NULL: then a condition of WHERE is tested at the end, and one of ON after those entries."""
         self._check(piece)
         entries = self._entries(piece)
         outer = self.names_outside(piece)
@@ -105,14 +106,15 @@ class Block:
             self.names.check_outputs_names(piece, self.outputs)
 
     def _edge(self, piece: Tokens, of: int | None = None) -> bool:
-        """Takes an equality for the bounds, if they can use it and if one of its columns is of the entry `of`."""
+        """Adds an equality to those that bounds use, if they can use it and one of its columns is of the entry `of`.
+        Answers whether it did."""
         sides = self.names.equated(piece)
         return sides is not None and (of is None or of in (sides[0].entry, sides[1].entry)) and (
             self.query.take_equality(*sides) is None
         )
 
     def names_outside(self, piece: Tokens) -> bool:
-        """Whether it may name an entry of a block outside of this one."""
+        """Whether the condition may name an entry of a block around this one."""
         aliases, columns = self.outside
         for at, token in enumerate(piece):
             behind = piece[at + 1 : at + 2]
@@ -129,7 +131,8 @@ class Block:
         return False
 
     def _counts(self, piece: Tokens) -> bool:
-        """Whether the rows that satisfy it may be counted: no subquery of it joins, names an entry or chooses rows."""
+        """Whether the rows that satisfy the condition may be counted. Its subqueries may not join, choose rows, name a
+        part of WITH, or name anything of the query around them."""
         for start, end in subqueries(piece):
             inner = piece[start + 1 : end - 1]
             parts = {self.dialect.key_of(part.name) for part in self.visible}
@@ -137,6 +140,6 @@ class Block:
                 return False
             if any(choosing(inner, self.dialect)):
                 return False
-            if self.plans.joins_within(inner) or self.catalog.stands_alone(inner):
+            if self.plans.joins_within(inner) or self.catalog.why_not_alone(inner):
                 return False
         return True

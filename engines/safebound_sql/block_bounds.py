@@ -1,7 +1,7 @@
 """The plan of a block: its entries are counted, its joins put in order, and each level bounded.
 
 After outer joins rows are of several kinds. A kind is a set of entries: those that have a row there, while all others
-are NULL. Its rows are at most those of the join of these entries, and the bounds of all kinds are added up.
+are NULL. A kind has at most as many rows as the join of its entries, and the bounds of all kinds are added up.
 """
 
 from __future__ import annotations
@@ -35,7 +35,7 @@ class BlockLevel:
 
 @dataclass
 class BlockPlan:
-    """A block's levels, and the most rows that it has; or why it isn't bounded."""
+    """A block's levels, and the most rows that the block has; or why it isn't bounded."""
 
     core: Core
     levels: list[BlockLevel] = field(default_factory=list)
@@ -80,7 +80,8 @@ class Bounding:
         return levels
 
     def _counted(self) -> Counts:
-        """The rows of each entry and the degrees of its joined columns; for a query in FROM, what its own plan says."""
+        """The rows of each entry and the degrees of its joined columns. Those of a query in FROM follow from its own
+        plan."""
         query, given = self.query, self.block.names.given
         own = [entry for entry in query.entries if entry.number not in given]
         asked = {entry.name: query.joined(entry.number) for entry in own}
@@ -99,7 +100,7 @@ class Bounding:
         return counts
 
     def _order(self, counts: Counts, lists: Lists) -> list[int]:
-        """The best order of what is joined first, and behind it the others as they were written."""
+        """The best order of the entries that are joined first, and then the others as they were written."""
         names, reorderable = [entry.name for entry in self.query.entries], self.block.reorderable
         some = {names[number] for number in reorderable}
         within = [(one, other) for one, other in equalities_of(self.query) if one[0] in some and other[0] in some]

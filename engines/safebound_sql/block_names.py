@@ -18,7 +18,7 @@ MOST_ROWS = 2**48
 
 
 class BlockNames(Names):
-    """A block's subqueries may name its entries."""
+    """Names of a block. A subquery may name entries of the block, so its tokens are looked at too."""
 
     looks_into_subqueries = True
 
@@ -51,7 +51,7 @@ class BlockNames(Names):
         return next((part for part in reversed(self.visible) if key(part.name) == name), None)
 
     def _given(self, number: int, query: Several, text: str, columns: Tokens, source: Source) -> Table:
-        """The columns of a query, of which the rows are bounded and not counted."""
+        """The columns of a query in FROM or WITH, whose rows are bounded by its own plan, and not counted."""
         rows = self.plans.rows_of(query)
         if rows is None or rows > MOST_ROWS:
             raise self.statement.refuse(

@@ -1,8 +1,8 @@
 """Plans of queries with several blocks, and of outer joins: each block is counted, planned and bounded by itself.
 
-The block above takes the bound of a query in FROM, and counts nothing of it: it has at most as many rows as its joins,
-and if it groups by one column, each value of this column stands there once. Entries are counted under their own
-conditions alone.
+For a query in FROM the block around it takes that query's bound, and counts nothing. If the query groups by one column,
+each value of this column stands once in its rows. Entries are counted under their own conditions alone, without
+semi-joins.
 """
 
 from __future__ import annotations
@@ -99,7 +99,8 @@ class Planner:
         return last.end if isinstance(last, Core) or last.end == query.end else last.end + 1
 
     def unique(self, query: Several, names: list[str]) -> set[str]:
-        """The columns of a query in which no value stands twice: the only one that it groups by."""
+        """The columns of a query in which no value stands twice. If the query groups by one column, it is this one; if
+        it is SELECT DISTINCT with one output, it is this output."""
         if (
             len(query.members) != 1
             or not isinstance(query.members[0], Core)
@@ -126,7 +127,7 @@ class Planner:
         return set(names) if only else set()
 
     def aliases_outside(self, core: Core) -> tuple[set[str], set[str]]:
-        """The aliases of the blocks outside of one, and the names of all their columns."""
+        """The aliases that the blocks around this one have in FROM, and the names of all their columns."""
         aliases: set[str] = set()
         columns: set[str] = set()
         while core.outside:
@@ -153,7 +154,7 @@ class Planner:
         return {self.dialect.key_of(token) for token in self.pieces if token.names}
 
     def joins_within(self, inner: Tokens) -> bool:
-        """Whether a block among these tokens has several entries."""
+        """Whether a block among these tokens has several entries, or has no plan."""
         first, last = inner[0].at, inner[-1].at
         return any(
             first <= self.pieces[core.start].at <= last
@@ -228,7 +229,7 @@ class Planner:
 
     @property
     def settings(self) -> tuple[str, ...]:
-        """What keeps the joins of all blocks in their order."""
+        """The settings that keep the joins of all blocks in their order."""
         return self.dialect.settings_for(entry.about for block in self.blocks.values() for entry in block.query.entries)
 
     def script(self) -> str:
@@ -242,8 +243,8 @@ class Planner:
         ]
 
     def true_rows(self) -> None:
-        """Asks for the rows of each level, of the blocks that stand by themselves and are no part of a WITH
-        RECURSIVE."""
+        """Counts the rows of each level of a block, if the block names nothing of those around it and is no part of a
+        WITH RECURSIVE."""
         self.connection.keep_order()
         for start, block in self.blocks.items():
             if any(part.query.refused and part.query.start <= start < part.query.end for part in self.query.parts):
@@ -262,7 +263,8 @@ class Planner:
 
 
 def several(text: str, engine: Engine) -> bool:
-    """Whether the text has blocks within its one SELECT, or joins that aren't inner ones."""
+    """Whether the text has to be planned in blocks. That is so if it has WITH, UNION or its like, an outer join, or a
+    query in FROM, or if a subquery joins or names an entry outside of itself."""
     pieces = tokens(text, engine.dialect.rules)
     query = Finder(text, pieces).found()
     core = query.members[0] if len(query.members) == 1 else None
@@ -283,7 +285,7 @@ def several(text: str, engine: Engine) -> bool:
             any(token.says("JOIN") for token in piece)
             or len(list(inner.cores())) > 1
             or _joins(text, piece, engine)
-            or engine.catalog.stands_alone(piece)
+            or engine.catalog.why_not_alone(piece)
         ):
             return True
     return False

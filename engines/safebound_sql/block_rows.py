@@ -1,4 +1,5 @@
-"""How many rows a block has at most, by those of its joins and by what stands above them."""
+"""The most rows that a block has, by the bound of its joins and by what stands above them: outputs, GROUP BY, HAVING
+and LIMIT."""
 
 from __future__ import annotations
 
@@ -10,7 +11,7 @@ SETS_OF_GROUPS = ("ROLLUP", "CUBE", "GROUPING")
 
 
 def most_rows(statement: Statement, joined: int) -> int | None:
-    """The most rows of the block; None where what stands above its joins may make more."""
+    """The most rows of the block; None if it groups by several sets of columns, which may make more rows."""
     above, outputs = statement.above, [token for piece in statement.outputs for token in piece]
     sets = any(
         token.says(*SETS_OF_GROUPS) or (token.says("(") and behind.says(")")) for token, behind in zip(above, above[1:])
@@ -45,7 +46,7 @@ def _aggregates(outputs: Tokens) -> bool:
 
 
 def limited(rows: int, above: Tokens) -> int:
-    """No more rows than LIMIT says, where it is the last word and says a number."""
+    """The lesser of `rows` and the number of LIMIT, if LIMIT and a number end the tokens; otherwise `rows`."""
     for at, token in enumerate(above[:-1]):
         if token.says("LIMIT") and above[at + 1].text.isdigit() and at + 2 == len(above):
             return min(rows, int(above[at + 1].text))

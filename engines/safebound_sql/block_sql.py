@@ -8,7 +8,7 @@ from .tokens import written
 
 
 def rows_of_levels(block: Block, levels: int) -> str:
-    """FROM and WHERE of so many levels, as they are bounded."""
+    """FROM and WHERE of the first `levels` levels, as they are bounded."""
     text, conditions = _join(block, levels)
     return text + where(conditions)
 

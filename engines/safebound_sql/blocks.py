@@ -1,5 +1,5 @@
-"""The blocks of a query: each SELECT of it with its FROM, by itself, in WITH, in FROM, in a condition or beside UNION
-and its kin."""
+"""The blocks of a query: each of its SELECTs with its FROM. A block may be the whole query, or stand in WITH, in FROM,
+in a condition, or beside UNION, INTERSECT or EXCEPT."""
 
 from __future__ import annotations
 
@@ -112,7 +112,7 @@ class Finder:
         return at
 
     def _member(self, query: Query, at: int, end: int, called: str, outside: Core | None) -> int:
-        """Reads one SELECT, or a query in parentheses. Answers what is behind it."""
+        """Reads one SELECT, or a query in parentheses. Answers the number of the token behind it."""
         called = f"{called}, {query.operators[-1]}" if query.operators else called
         if self.pieces[at].says("("):
             last = closing(self.pieces, at)
@@ -128,7 +128,7 @@ class Finder:
         return stop
 
     def _end_of_core(self, at: int, end: int, together: bool) -> int:
-        """Where a SELECT ends. ORDER BY and LIMIT behind several belong to all of them."""
+        """Where a SELECT ends. If UNION or its like connects several, ORDER BY and LIMIT belong to all of them."""
         stop = at
         while stop < end:
             token = self.pieces[stop]

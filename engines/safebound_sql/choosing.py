@@ -1,7 +1,8 @@
-"""Finds what may choose other rows, or another order of rows, each time it runs. It can't be bounded, since rows are
-counted in one statement and joined in another.
+"""Finds the words of a query that may choose other rows, or another order of rows, each time the query runs.
 
-This matters below the join alone, in subqueries and views: their rows have to be those that were counted.
+Rows are counted in one statement and joined in another, so nothing is bounded over rows that may change between them.
+Only subqueries and views are searched, since they stand below the join. Words above it, such as the query's own LIMIT,
+change no row that is joined.
 """
 
 from __future__ import annotations
@@ -27,7 +28,8 @@ BEHIND_GROUPS = ("HAVING", "WINDOW", "ORDER", "LIMIT", "UNION", "INTERSECT", "EX
 
 
 def choosing(pieces: Tokens, dialect: Dialect) -> Iterator[tuple[Token, str]]:
-    """Where and by what words a query chooses some of its rows. In SQLite a column beside GROUP BY chooses too."""
+    """The words by which a query chooses some of its rows, and where they are. In SQLite a column beside GROUP BY may
+    choose too."""
     for at, token in enumerate(pieces):
         if token.kind != "word" or part_of_name(pieces, at):
             continue
@@ -110,7 +112,7 @@ def _bare_columns(pieces: Tokens) -> Iterator[tuple[Token, str]]:
 
 
 def _outputs_and_groups(pieces: Tokens, start: int) -> tuple[Tokens, Tokens | None]:
-    """The outputs of the SELECT that stands there, and what it groups by, if it does."""
+    """The outputs of the SELECT at `start`, and its list of GROUP BY or None."""
     outputs: Tokens = []
     groups: Tokens | None = None
     into, at = outputs, start + 1

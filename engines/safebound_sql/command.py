@@ -32,7 +32,7 @@ NO_BLOCKS_COUNTED = "nothing is counted: --count is for queries of one block, wh
 
 
 class Words(argparse.ArgumentParser):
-    """A command line that isn't understood is a fault like others."""
+    """A parser that raises `Usage` for wrong words, as other faults are raised, and doesn't end the process."""
 
     def error(self, message: str) -> NoReturn:
         raise Usage(f"{message} (safebound-sql --help tells more)")
@@ -108,7 +108,7 @@ def _plan_words(command: argparse.ArgumentParser, name: str) -> None:
         )
     command.add_argument(
         "--count", action="store_true",
-        help="of PostgreSQL: also count each level's choices of rows, without joining them; a bound is then the least",
+        help="on PostgreSQL: also count each level's choices of rows without joining them, and lower its bound to that",
     )
     if name in ("plan", "sql"):
         command.add_argument("--counts", metavar="FILE", help="the answer of the counting statement, as CSV")

@@ -1,5 +1,5 @@
-"""Bounds that are counted: how many choices of rows the conditions of a level leave, where the engine has exact numbers
-of any size. One statement counts all levels by factors, and makes no row of a join.
+"""Bounds that are counted: how many choices of rows the conditions of a level leave, if the engine has exact numbers of
+any size. One statement counts all levels by factors, and makes no row of a join.
 """
 
 from __future__ import annotations
@@ -16,7 +16,7 @@ from .query import Equality, Named, Query, Reference, Text
 from .reducing import Parts, bracketed, own_conditions, where
 from .servers import rows_to_join
 
-# How many groups of two factors may meet. Where more would, a level isn't counted in this way.
+# How many pairs of groups a join of two factors may have. A level that needs a join with more isn't counted by it.
 MOST_PAIRS = 4_000_000
 
 
@@ -60,7 +60,7 @@ class Choices:
         self.conjuncts = conjuncts
         named = {named for conjunct in conjuncts for named in conjunct.columns}
         in_order = sorted(named, key=lambda one: (one.entry, one.column.name))
-        # By numbers, since a column of the query may be called as long as names can be.
+        # With numbers in place of names, since the name of a column may already have the most characters of a name.
         self.columns = {one: f"{prefix}{one.entry}_{at}" for at, one in enumerate(in_order)}
         columns = {
             entry.number: [c for c in entry.about.by_key.values() if Named(entry.number, c) in named]
@@ -72,8 +72,8 @@ class Choices:
         self.made: dict[Factor, Made] = {}
 
     def statement(self, levels: Iterable[tuple[int, Sequence[int]]]) -> str:
-        """The statement has one row for each level: its number, and how many choices there are of its entries. A level
-        for which too many pairs would meet has no row."""
+        """The statement answers one row for each level: its number, and how many choices there are of its entries. A
+        level for which too many pairs would meet has no row."""
         selects = [f"SELECT {number} AS level, {self._total(entries)}" for number, entries in levels]
         return self.dialect.with_parts(self.texts, "\nUNION ALL ".join(selects))
 
@@ -83,12 +83,12 @@ class Choices:
         return f"{self.number} FROM {made.name}{where(self._few(made.pairs))}"
 
     def _few(self, pairs: Iterable[str]) -> list[str]:
-        """The conditions that each of these numbers of pairs is within the limit. PostgreSQL tests it once and first,
-        and doesn't compute a part that nobody reads."""
+        """The conditions that each of these numbers of pairs is within the limit. PostgreSQL tests them once and before
+        all else, and doesn't compute a part that is then never read."""
         return [f"(SELECT {self.number} FROM {name}) <= {self.most_pairs}" for name in pairs]
 
     def _factor(self, factor: Factor, by: dict[Factor, Join]) -> Made:
-        """The part that computes this factor. It is the same whichever joins lead to it."""
+        """The part that computes this factor. Whichever joins lead to a factor, its part is the same."""
         if factor not in self.made:
             self.made[factor] = self._joined(by[factor], by) if factor in by else self._grouped(factor)
         return self.made[factor]
@@ -99,7 +99,7 @@ class Choices:
         return name
 
     def _grouped(self, factor: Factor) -> Made:
-        """The factor of one entry: its rows by its open columns."""
+        """The factor of one entry: how many of its rows have each choice of values of its open columns."""
         [number] = factor.entries
         entry = self.query.entries[number]
         rows, conditions = self.parts.rows.get(number), own_conditions(entry)
@@ -131,7 +131,7 @@ class Choices:
         return f"JOIN {rows} ON {' AND '.join(equal)}" if equal else f"CROSS JOIN {rows}"
 
     def _entries(self, join: Join, sides: dict[int, str]) -> str:
-        """Gives the columns that conditions name their own names again, under their entries' aliases."""
+        """Gives columns their own names again, under their entries' aliases, for the conditions that name them."""
         named = sorted(
             set[Named]().union(*(other.columns for other in join.others)), key=lambda named: named.column.name
         )
@@ -190,8 +190,8 @@ class Lowering:
                 self.plan.notes.append(f"level {number} is counted by equalities alone: by all conditions {past}")
 
     def _by_all(self, levels: list[int]) -> list[int]:
-        """Counts by all conditions. One may end in an error on rows that the query itself never tests; then equalities
-        alone are used."""
+        """Counts by all conditions. A condition may end in an error on rows that the query itself never tests; then
+        equalities alone are used."""
         try:
             left = self._lowered(levels, self.equalities + self.others, "all conditions")
         except EngineFault as fault:

@@ -1,5 +1,5 @@
 """The one statement that counts: each entry's rows under its own conditions, and how often the values of each joined
-column repeat. Reduced, it counts the rows that can take part.
+column repeat. With semi-joins (`reduce`) it leaves out rows that can't take part.
 """
 
 from __future__ import annotations
@@ -21,14 +21,14 @@ HEADER = ("entry", "column", "degree", "keys")
 
 @dataclass
 class Counts:
-    """How many rows each entry has, and of each joined column the runs of its degrees, falling."""
+    """How many rows each entry has, and of each joined column the runs of its degrees, the greatest degree first."""
 
     rows: dict[str, int]
     runs: dict[tuple[str, str], list[tuple[int, int]]]
 
 
 def prefix_for(texts: Iterable[str]) -> str:
-    """What the names of parts begin with: no name of the query does."""
+    """What the names of parts begin with. It stands nowhere in the texts, so no name of the query begins with it."""
     prefix = "safebound_"
     while any(prefix in text.lower() for text in texts):
         prefix += "_"
@@ -39,8 +39,8 @@ def counting(query: Query, dialect: Dialect, prefix: str, reduce: bool, known: C
     """The statement. Its rows are (entry, column, degree, keys): `keys` values of the column stand in `degree` rows
     each.
 
-    Degree 0 is that of rows without a value. A row with the column '' tells how many rows the entry has. Entries in
-    `known`, whose degrees are known already, are asked for this number alone.
+    Rows in which the column is NULL have degree 0. A row with the column '' says how many rows the entry has. Of
+    entries in `known`, whose degrees are known already, only this number is asked.
     """
     columns = {entry.number: [] if entry.number in known else query.joined(entry.number) for entry in query.entries}
     texts: list[tuple[str, str]] = []
@@ -106,7 +106,7 @@ def counts_among(asked: dict[str, list[Column]], rows: Iterable[Row]) -> Counts:
 
 
 def counts_of_file(query: Query, file: str) -> Counts:
-    """The counts of a CSV file with a header, as the statement's answer."""
+    """The counts of a CSV file that has a header and then the statement's answer."""
     try:
         with open(file, newline="", encoding="utf-8") as lines:
             records = list(csv.reader(lines))
@@ -119,5 +119,5 @@ def counts_of_file(query: Query, file: str) -> Counts:
     except ValueError:
         raise WrongCounts(f"{file}: a record isn't a name, a name and two numbers") from None
     if any(degree < 0 or keys < 1 for _, _, degree, keys in rows):
-        raise WrongCounts(f"{file}: a number is below 0, or no value has a degree")
+        raise WrongCounts(f"{file}: a degree is below 0, or keys are below 1")
     return counts_of(query, rows)

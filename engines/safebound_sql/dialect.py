@@ -12,7 +12,7 @@ from .tokens import Token, unquoted
 
 @dataclass(frozen=True)
 class Dialect:
-    """What a query is read and written by.
+    """How an engine's SQL is read and written.
 
     `comma_binds_less` says that a comma of FROM binds less than JOIN. `plain_words` are keywords elsewhere, and names
     to this engine. A `reserved` word is a column only in quotes. `settings` keep the joins of a statement in their
@@ -72,18 +72,20 @@ class Dialect:
         return self.key(unquoted(token) if quoted else token.text, quoted)
 
     def reads_clock(self, pieces: list[Token], at: int, below: bool = False) -> bool:
-        """Whether a function begins there that reads the clock, which may say another time at each statement.
+        """Whether a function that reads the clock begins at the token `at`: two statements may get two times.
 
         `below`: the tokens are those of a view, and it isn't known whose columns they name.
         """
         return False
 
     def clock_arguments(self, pieces: list[Token]) -> Iterator[tuple[Token, list[Token]]]:
-        """Functions that read the clock where the column that they get holds 'now', and the tokens of that column."""
+        """Date functions whose argument is a column, and the tokens of that column. They read the clock if the column
+        holds 'now'."""
         return iter(())
 
     def remote_in(self, value: str, column: Column, rows: str) -> str:
-        """A condition that a foreign server tests: the value is one of a column of these rows, which are sent to it."""
+        """A condition for a foreign server: the value is among those of this column of `rows`, which are sent to the
+        server."""
         raise NotImplementedError(f"{self.title} has no tables on other servers")
 
 

@@ -50,8 +50,8 @@ class Catalog(ABC):
         """Whether the engine orders the column's texts by code points."""
 
     def same_when_equal(self, column: Column) -> bool:
-        """Whether every function gives one result for all values that GROUP BY puts into one group. In a numeric column
-        it doesn't: 1.0 and 1.00 are one group, and their texts differ."""
+        """Whether every function gives one result for all values that GROUP BY puts into one group. A numeric column
+        has others: 1.0 and 1.00 are one group, and their texts differ."""
         return False
 
     def complaint(self, sql: str) -> str | None:
@@ -62,8 +62,8 @@ class Catalog(ABC):
             return str(fault)
         return None
 
-    def stands_alone(self, inner: list[Token]) -> str | None:
-        """None where the subquery runs on its own, so that it names nothing of the query around it; else why it
+    def why_not_alone(self, inner: list[Token]) -> str | None:
+        """None if the subquery runs on its own, so that it names nothing of the query around it; else why it
         doesn't."""
         return self.complaint(written(inner))
 

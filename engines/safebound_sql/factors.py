@@ -1,8 +1,8 @@
 """In which order the choices of rows of some entries are counted, so that the rows themselves are never joined.
 
-A factor of some entries tells for each choice of values of its open columns how many choices of rows have them. A
-choice has one row of each of these entries, and satisfies all conditions on these entries alone. A column is open as
-long as a condition that names it hasn't been tested. This is variable elimination.
+A factor of some entries says for each combination of values of its open columns how many choices of rows have these
+values. A choice has one row of each of these entries, and satisfies all conditions on these entries alone. A column is
+open as long as a condition that names it hasn't been tested. This is variable elimination.
 """
 
 from __future__ import annotations
@@ -49,7 +49,7 @@ Pair = Tuple[Factor, Factor]
 
 
 def joins(entries: Sequence[int], conjuncts: Iterable[Conjunct]) -> list[Join]:
-    """The joins that lead from factors of single entries to the one of all, which has no open column."""
+    """The joins that lead from factors of single entries to the factor of all, which has no open column."""
     left = [conjunct for conjunct in conjuncts if conjunct.entries <= frozenset(entries)]
     factors = [_factor(frozenset([entry]), left) for entry in entries]
     found: list[Join] = []
@@ -62,7 +62,7 @@ def joins(entries: Sequence[int], conjuncts: Iterable[Conjunct]) -> list[Join]:
 
 
 def _factor(entries: frozenset[int], left: list[Conjunct]) -> Factor:
-    """The factor of these entries, all of whose conditions are tested."""
+    """The factor of these entries, once all conditions on these entries alone are tested."""
     named = {
         named
         for conjunct in left
@@ -74,9 +74,8 @@ def _factor(entries: frozenset[int], left: list[Conjunct]) -> Factor:
 
 
 def _next(factors: list[Factor], left: list[Conjunct]) -> Join:
-    """Joins two factors: if there are any, the first two of which one has conditions with the other alone, and among
-    these first of all two whose join is `few`. Otherwise it joins the first two that an equality connects, or else any
-    condition."""
+    """Joins two factors. It wants two of which one has conditions with the other alone, best if their join is `few`. If
+    there are none, it takes two that an equality connects, or else two that any condition connects."""
 
     def ends_in(pair: Pair) -> bool:
         return all(c.entries <= pair[0].entries | pair[1].entries for c in left if c.entries & pair[0].entries)

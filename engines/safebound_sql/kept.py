@@ -62,7 +62,7 @@ def now() -> str:
 
 
 class Kept:
-    """The tables of a file of kept counts; there are none where the file doesn't exist yet."""
+    """The tables of a file of kept counts; none if the file doesn't exist yet."""
 
     def __init__(self, file: str, has_to_be_there: bool = True) -> None:
         self.file = file
@@ -73,10 +73,10 @@ class Kept:
     def _read(self) -> None:
         try:
             with open(self.file, encoding="utf-8") as text:
-                told = json.load(text)
-            if told["form"] != FORM:
+                content = json.load(text)
+            if content["form"] != FORM:
                 raise ValueError
-            for identity, about in told["tables"].items():
+            for identity, about in content["tables"].items():
                 self.tables[identity] = _table(about)
         except OSError as error:
             raise Unreadable(f"{self.file}: {error}") from None
@@ -106,7 +106,8 @@ class Kept:
         return found
 
     def keep(self, query: Query, engine: Engine) -> list[KeptTable]:
-        """Counts the query's tables without conditions: its joined columns, and those that were kept before."""
+        """Counts all rows of the query's tables, without its conditions: the joined columns, and those that were kept
+        before."""
         entries: dict[str, Entry] = {}
         columns: dict[str, list[Column]] = {}
         for entry in query.entries:
@@ -131,13 +132,13 @@ class Kept:
         return [self.tables[identity] for identity in entries]
 
     def _forget(self, identity: str) -> None:
-        """Forgets the table, and those of the same name that were there before it."""
+        """Forgets the table, and earlier tables of the same name."""
         place = identity.rpartition("#")[0]
         self.tables = {other: table for other, table in self.tables.items() if other.rpartition("#")[0] != place}
 
     def append(self, table: str, condition: str, engine: Engine) -> tuple[KeptTable, int]:
-        """Adds to a table's counts those of its rows under the condition, which came later. Answers how many these
-        are."""
+        """Adds to a table's kept counts the rows that came later, of which alone the condition is true. Answers the
+        table, and how many rows came."""
         query = Meaning(f"SELECT 1 FROM {table} WHERE {condition}", engine).query
         if len(query.entries) != 1 or str(query.above):
             raise WrongCounts("one table is needed, and a condition for its rows")
@@ -151,11 +152,11 @@ class Kept:
         parts = histograms(whole, [], engine.dialect) + histograms(new, columns, engine.dialect)
         counts = counts_among({"whole": [], "new": columns}, engine.connection.rows("\nUNION ALL ".join(parts)))
         if kept.rows + counts.rows["new"] != counts.rows["whole"]:
-            told = (
+            why = (
                 f"{kept.rows} rows are kept and {counts.rows['new']} come to them, but {table} has"
                 f" {counts.rows['whole']}"
             )
-            raise WrongCounts(f"{told}; keep its counts anew")
+            raise WrongCounts(f"{why}; keep its counts anew")
         for column in columns:
             kept.runs[column.name] = _appended(kept.runs[column.name], counts.runs["new", column.name])
         kept.rows, kept.time = counts.rows["whole"], now()
@@ -167,7 +168,7 @@ def _renamed(entry: Entry, name: str) -> Entry:
 
 
 def _appended(old: Runs, new: Runs) -> Runs:
-    """The library's rank-wise sum: it dominates the new list whichever values the old and the new rows share."""
+    """The library's rank-wise sum: it dominates the list of all rows, whichever values old and new rows share."""
     if not (old and new):
         return old or new
     with library_faults():
@@ -184,5 +185,5 @@ def _table(about: Dict[str, Any]) -> KeptTable:
 
 
 def _wrong(runs: Runs, rows: int) -> bool:
-    falls = all(before[0] >= behind[0] for before, behind in zip(runs, runs[1:]))
-    return not falls or any(degree < 1 or keys < 1 for degree, keys in runs) or _sum(runs) > rows
+    descends = all(before[0] >= behind[0] for before, behind in zip(runs, runs[1:]))
+    return not descends or any(degree < 1 or keys < 1 for degree, keys in runs) or _sum(runs) > rows

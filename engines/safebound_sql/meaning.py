@@ -30,8 +30,8 @@ def refuse_volatile(statement: Statement, pieces: Tokens, engine: Engine) -> Non
 
 
 def _calls(pieces: Tokens, engine: Engine) -> dict[str, Token]:
-    """The functions and operators, as the engine looks them up. A dot stands before one that is written with a schema,
-    and two dots before a column that may be a function of a row instead."""
+    """The functions and operators, as the engine looks them up. A name that is written with a schema gets a dot before
+    it. A column of a row that may be a function instead gets two dots."""
     found: dict[str, Token] = {}
     for at, token in enumerate(pieces):
         dot = "." if at and pieces[at - 1].says(".") else ""
@@ -57,7 +57,8 @@ def _tables(pieces: Tokens) -> dict[str, Token]:
 
 
 def _volatile_views(names: set[str], engine: Engine) -> Iterator[tuple[str, str]]:
-    """The names of tables and views that use something volatile, in their own text or below; and what it is."""
+    """The names of tables and views that use something volatile, in their own text or in that of a view which they
+    name; and what it is."""
     above = {name: name for name in names}
     todo = set(names)
     while todo:
@@ -129,7 +130,7 @@ class Meaning:
                     raise statement.refuse(token, self.dialect.why_clock)
 
     def _names_of_outputs(self, text: str) -> set[str]:
-        """The names by which SQLite may take an output in a condition."""
+        """The names that SQLite may take for an output within a condition."""
         if not self.dialect.outputs_in_conditions:
             return set()
         told = self.catalog.output_names(text)
@@ -247,7 +248,7 @@ class Meaning:
 
 
 def _groups(above: Tokens) -> range | None:
-    """From where to where in it the parts of GROUP BY stand."""
+    """The places of the tokens between GROUP BY and what follows its list."""
     if len(above) < 3 or not above[0].says("GROUP"):
         return None
     at = 2
@@ -259,7 +260,7 @@ def _groups(above: Tokens) -> range | None:
 
 
 def _frame(frame: list[Token | int | None]) -> Iterator[str | int]:
-    """FROM with the entries' numbers in their places. Conditions of ON are tested below."""
+    """FROM with the entries' numbers in their places. An ON has TRUE, since its condition is tested below."""
     for part in frame:
         if isinstance(part, int):
             yield part

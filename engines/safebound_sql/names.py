@@ -1,7 +1,7 @@
-"""Whose columns the parts of a query name.
+"""Which columns the parts of a query name.
 
-A column is named by a token with its name, so the tokens tell which columns a part may name. It may name fewer: a
-word that isn't clearly something else is taken for every column that it could be.
+The tokens of a part say which columns it may name. It may name fewer: a word that isn't clearly something else is taken
+for every column that it could be.
 """
 
 from __future__ import annotations
@@ -14,7 +14,7 @@ from .query import MOST_ENTRIES, Entry, Named, Reference, Table, Text
 from .reading import Source, Statement, Tokens
 from .tokens import Token, closing, gap_between, part_of_name, unquoted, written
 
-# After one of these words the last word of an output isn't its alias; nor is it where it is one of ENDS_OF_OUTPUTS.
+# An output's last word isn't its alias if one of these words is before it, or if it is one of ENDS_OF_OUTPUTS.
 NO_OPERAND = (
     "IS", "NOT", "AND", "OR", "LIKE", "ILIKE", "IN", "BETWEEN", "THEN", "ELSE", "WHEN", "CASE", "DISTINCT", "FROM",
     "ESCAPE", "COLLATE", "GLOB", "REGEXP", "MATCH", "SIMILAR", "TO", "ZONE", "OVER", "SYMMETRIC",
@@ -31,7 +31,7 @@ class Place(NamedTuple):
 
 
 def subqueries(piece: Tokens) -> Iterator[tuple[int, int]]:
-    """From where to where subqueries stand in the tokens, their parentheses included; not those within others."""
+    """Where subqueries begin and end in the tokens, with their parentheses. Those within others aren't listed."""
     at = 0
     while at < len(piece):
         if piece[at].says("(") and at + 1 < len(piece) and piece[at + 1].says("SELECT", "WITH", "VALUES"):
@@ -97,7 +97,8 @@ class Names:
         return self.catalog.table(source.table)
 
     def _without_schemas(self, piece: Tokens) -> Tokens:
-        """The tokens with schema.entry.column as entry.column: the entry may be a part, which is of no schema."""
+        """The tokens with schema.entry.column as entry.column: in the planned SQL the entry may be a part of WITH,
+        which is in no schema."""
         inside, kept, at = self._inside(piece), [], 0
         while at < len(piece):
             end = at
@@ -203,7 +204,8 @@ class Names:
                     yield Place(at, 1, found)
 
     def _place_inside(self, piece: Tokens, at: int) -> Iterator[Place]:
-        """What a token of a subquery may name of this query. It may as well be of an entry of its own."""
+        """What a token of a subquery may name of this query. It may also name a column of the subquery's own
+        entries."""
         token, behind = piece[at], piece[at + 1 : at + 3]
         if len(behind) == 2 and behind[0].says("."):
             number = self.by_alias.get(self.dialect.key_of(token)) if token.names else None
@@ -217,7 +219,7 @@ class Names:
             yield Place(at, 1, self._columns_called(token))
 
     def _is_a_word(self, piece: Tokens, at: int) -> bool:
-        """Whether it is clearly something else than a column: a function, a type before a text, a part of a date."""
+        """Whether the word is clearly no column: a function, a type before a text, a part of a date."""
         token, behind, before = piece[at], piece[at + 1 : at + 2], piece[max(at - 2, 0) : at]
         if behind and behind[0].says("("):
             return True
@@ -243,7 +245,7 @@ class Names:
         return named
 
     def _columns_called(self, token: Token) -> frozenset[Named]:
-        """The columns that a name without a table may be: the one into which USING merged all, or one of each entry."""
+        """The columns that a name without a table may be: the one that USING merged, or one of each entry."""
         key = self.dialect.key_of(token)
         if key in self.merged:
             return frozenset([self.merged[key]])
@@ -257,14 +259,14 @@ class Names:
         return found
 
     def side(self, piece: Tokens) -> Named | None:
-        """The column that these tokens are, and nothing else but parentheses."""
+        """The column, if the tokens are the name of one, perhaps in parentheses."""
         while len(piece) > 2 and piece[0].says("(") and piece[-1].says(")"):
             piece = piece[1:-1]
         place = next(self.places(piece), None) if len(piece) in (1, 3) else None
         return min(place.columns) if place and place.size == len(piece) and len(place.columns) == 1 else None
 
     def equated(self, piece: Tokens) -> tuple[Named, Named] | None:
-        """The two columns, where the condition is an equality of columns of two entries and nothing else."""
+        """The two columns, if the condition is an equality of columns of two entries and nothing else."""
         for at, token in enumerate(piece):
             if token.kind == "operator" and token.text in self.dialect.equals:
                 one, other = self.side(piece[:at]), self.side(piece[at + 1 :])
@@ -273,7 +275,8 @@ class Names:
         return None
 
     def spelled(self, piece: Tokens) -> Text:
-        """The tokens as text that knows where it names columns. What USING merged is named with its entry."""
+        """The tokens as a text that knows where it names columns. A column that USING merged is named with its
+        entry."""
         places = {place.at: place for place in self.places(piece) if len(place.columns) == 1}
         parts: list[str | Reference] = []
         at = 0
@@ -308,7 +311,7 @@ class Names:
                     yield piece[place.at], min(place.columns)
 
     def check_outputs_names(self, piece: Tokens, outputs: set[str]) -> None:
-        """Refuses an output's name in a condition, which SQLite would take."""
+        """Refuses a condition that has an output's name. SQLite would take the name for the output."""
         inside = self._inside(piece)
         for at, token in enumerate(piece):
             bare = token.names and at not in inside and not part_of_name(piece, at)
@@ -327,7 +330,7 @@ class Names:
             for token, what in choosing(inner, self.dialect):
                 why = "which rows a subquery takes may change from call to call; make a table of it"
                 raise self.statement.refuse(token, why, f"{what} of a subquery")
-            told = self.catalog.stands_alone(inner)
+            told = self.catalog.why_not_alone(inner)
             if told:
                 raise self.statement.refuse(
                     piece[start], f"only subqueries that stand alone are read ({told})", "the subquery"

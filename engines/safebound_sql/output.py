@@ -11,7 +11,7 @@ from .query import Named, Query
 
 
 def table(plan: Plan, title: str, true_rows: list[int] | None = None) -> str:
-    """The plan as lines: a level each, and what is worth knowing below them."""
+    """The plan as lines: one for each level, and below the levels what else is worth knowing."""
     heads = ["level", "joined", "of", "scan", "bound", f"{title} expects", "factor"]
     rows = [_row(plan, number, level) for number, level in enumerate(plan.levels, 1)]
     if all(level.expected is None for level in plan.levels):

@@ -21,7 +21,7 @@ from .writing import Writer
 
 
 def scans(statement: str, prefix: str) -> Counter[str]:
-    """How often each table is read where a part is computed again wherever it is named."""
+    """How often the statement reads each table, if the engine computes a part again wherever it is named."""
     read: dict[str, Counter[str]] = {}
     last: Counter[str] = Counter()
     for name, text in re.findall(
@@ -39,7 +39,7 @@ def scans(statement: str, prefix: str) -> Counter[str]:
 
 @contextlib.contextmanager
 def _explained(why: str) -> Iterator[None]:
-    """Says of a value that is to blame where it was met."""
+    """If a value of some row is to blame for a fault, adds `why` to its message."""
     try:
         yield
     except EngineFault as fault:
@@ -56,12 +56,12 @@ class Planner:
         self.query = self.meaning.query
         engine.connection.prepare_joins(entry.about for entry in self.query.entries)
         self.prefix = prefix_for([text])
-        self.note = self._fits()
+        self.note = self._why_not_reduced()
         self.reduce = self.reduce and not self.note
         self.writer = Writer(self.query, engine.dialect, self.prefix, self.reduce)
 
-    def _fits(self) -> str | None:
-        """Why semi-joins are left out: where parts aren't kept, the statement would read a table too often."""
+    def _why_not_reduced(self) -> str | None:
+        """Why semi-joins are left out, or None: an engine that doesn't keep parts would read a table too often."""
         dialect = self.engine.dialect
         if not self.reduce or dialect.most_scans is None:
             return None
@@ -93,7 +93,7 @@ class Planner:
         return plan
 
     def plan_by_kept(self, accuracy: int, budget: int, tree: bool, kept: Kept) -> Plan:
-        """Plans by kept counts where these are of as many rows as there are now, and counts the other entries."""
+        """Plans by the kept counts of tables that had as many rows then as now, and counts the other entries."""
         taken = kept.taken(self.query)
         answer = self._counted(taken)
         rows = {entry: degree for entry, column, degree, _ in answer if column == ""}
@@ -112,7 +112,7 @@ class Planner:
         return plan
 
     def _counted(self, known: Collection[int]) -> list[Row]:
-        told = "each condition is tested on all rows of its table, and the query itself may never come to this one"
+        told = "each condition is tested on all rows of its table, and the query itself may never reach this row"
         with self.progress.doing(f"counting the rows of {len(self.query.entries) - len(known)} entries"), _explained(
             f"while counting, {told}"
         ):
@@ -140,14 +140,14 @@ class Planner:
 
     @property
     def settings(self) -> tuple[str, ...]:
-        """What keeps the joins in their order."""
+        """The settings that keep the joins in their order."""
         return self.engine.dialect.settings_for(entry.about for entry in self.query.entries)
 
     def sql(self, plan: Plan) -> str:
         return self.writer.query_in_order(plan)
 
     def script(self, plan: Plan) -> str:
-        """The same with the settings before it that make the engine keep the order."""
+        """The planned SQL, after the settings that make the engine keep the order."""
         return as_script(*self.settings, self.sql(plan))
 
     def true_rows(self, plan: Plan) -> list[int]:

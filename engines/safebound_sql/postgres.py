@@ -46,8 +46,8 @@ ORDER BY a.attnum
 """
 
 # Volatile functions and operators among some names: visible ones by bare names, any by names with a schema, and
-# functions of a row, which may be written as columns. Some call themselves STABLE, but depend on the session or on what
-# goes on at the moment; these are found too.
+# functions of a row, which may be written as columns. Some functions call themselves STABLE, but depend on the session
+# or on what goes on at the moment; these are found too.
 VOLATILE = """
 WITH named AS (
     SELECT proname AS name, p.* FROM pg_proc p
@@ -65,7 +65,7 @@ FROM named WHERE provolatile = 'v'
     OR pronamespace <> 'pg_catalog'::regnamespace AND prosrc ~* 'current_setting|pg_settings|pg_show_all_settings'
 """
 
-# Row policies are a part of what a table is to a query.
+# A row policy may hide rows of its table from a query, as the conditions of a view do.
 VIEWS = """
 SELECT name, 'the view', pg_get_viewdef(oid) FROM unnest(%(names)s::text[]) AS name
     JOIN pg_class ON oid = to_regclass(name)
@@ -98,9 +98,9 @@ SELECT schema FROM path WHERE at < (SELECT at FROM path WHERE schema = 'pg_catal
 ORDER BY at
 """
 
-# The leaves of a partitioned table, at least one of which is a foreign table; or one foreign table. There are none if
-# asking them could answer other rows than the table: if the user may not read one, or a row policy hides rows. The
-# column is the partition key by which PostgreSQL sends each leaf a whole GROUP BY, if it does.
+# The leaves of a partitioned table, at least one of which is a foreign table; or one foreign table. Nothing is answered
+# if the leaves could have other rows than the table: if the user may not read a leaf, or a row policy hides rows. The
+# column is the partition key, if PostgreSQL sends each leaf a whole GROUP BY of it.
 SPREAD = """
 WITH leaves AS (
     SELECT relid, level FROM pg_partition_tree(%(table)s) WHERE isleaf
@@ -145,15 +145,15 @@ FROM pg_class c JOIN pg_namespace n ON n.oid = relnamespace WHERE c.oid = to_reg
 
 
 # PostgreSQL expects ten values of an array that is sent along. So it expects few rows, and would join them by nested
-# loops. Without nested loops it still uses them where there is no other way, and gives them so high a cost that it
-# would compile the statement.
+# loops. With enable_nestloop off it still uses them if there is no other way, at so high a cost that it would compile
+# the statement.
 NO_NESTED_LOOPS, NO_COMPILING = "enable_nestloop = off", "jit = off"
 FOR_SEVERAL_SERVERS = (NO_NESTED_LOOPS, NO_COMPILING)
 IN_ORDER = ("join_collapse_limit = 1",)
 
 # Equal values of these types are the same to every function: "char", bigint, boolean, bytea, date, integer, name, oid,
-# smallint, text, time and timestamp with and without a zone, uuid, varchar. 1.0 and 1.00 are equal as numeric, and are
-# two texts; of a declared scale they are the same, and so are texts of a declared length.
+# smallint, text, time and timestamp with and without a zone, uuid, varchar. Equal values of numeric may differ: 1.0 and
+# 1.00 are two texts. With a declared scale they don't, and nor do values of CHAR with a declared length.
 SAME_WHEN_EQUAL = (18, 20, 16, 17, 1082, 23, 19, 26, 21, 25, 1083, 1266, 1114, 1184, 2950, 1043)
 
 
@@ -191,7 +191,7 @@ class PostgresConnection(Connection):
     def __init__(self, url: str, timeout: int | None) -> None:
         if psycopg is None:
             raise Missing("PostgreSQL is asked through psycopg 3: run engines/setup, or install python3-psycopg")
-        with told():
+        with as_faults():
             self.connection = psycopg.connect(url, client_encoding="utf8")
             self.connection.isolation_level = psycopg.IsolationLevel.REPEATABLE_READ
             self.connection.read_only = True
@@ -204,23 +204,23 @@ class PostgresConnection(Connection):
         return value
 
     def rows(self, sql: str, given: Sequence[object] | Mapping[str, object] | None = None) -> list[Row]:
-        with told():
+        with as_faults():
             return self.connection.execute(sql, given).fetchall()
 
     def counted(self, sql: str, large: bool) -> list[Row]:
         """Large parts are joined by hashing, even if PostgreSQL expects few rows of them. Nothing is compiled."""
-        with told(), self.connection.transaction(force_rollback=True):
+        with as_faults(), self.connection.transaction(force_rollback=True):
             self._set((NO_NESTED_LOOPS, NO_COMPILING) if large else (NO_COMPILING,))
             return self.connection.execute(sql).fetchall()
 
     def stream(self, sql: str) -> Iterator[Row]:
-        with told(), self.connection.cursor("safebound") as cursor:
+        with as_faults(), self.connection.cursor("safebound") as cursor:
             cursor.execute(sql)
             yield from with_names(cursor, [column.name for column in cursor.description or ()])
 
     def csv(self, sql: str, null: str = "") -> Iterator[str]:
         decoder = codecs.getincrementaldecoder(self.connection.info.encoding)()
-        with told(), self.connection.cursor() as cursor:
+        with as_faults(), self.connection.cursor() as cursor:
             with cursor.copy(f"COPY ({sql}) TO STDOUT (FORMAT csv, HEADER, NULL {written_text(null)})") as answer:
                 for block in answer:
                     yield decoder.decode(bytes(block))
@@ -234,7 +234,7 @@ class PostgresConnection(Connection):
 
     def _set(self, settings: tuple[str, ...]) -> None:
         """Makes settings that last until the transaction ends."""
-        with told():
+        with as_faults():
             self.connection.execute("; ".join(f"SET LOCAL {setting}" for setting in settings))
 
     def close(self) -> None:
@@ -250,7 +250,7 @@ class PostgresCatalog(Catalog):
     @contextlib.contextmanager
     def _apart(self) -> Iterator[psycopg.Connection[Row]]:
         """The connection within a savepoint, so that a statement that fails leaves the transaction as it was."""
-        with told(), self.connection.connection.transaction():
+        with as_faults(), self.connection.connection.transaction():
             yield self.connection.connection
 
     def table(self, name: list[Token]) -> Table | None:
@@ -266,7 +266,8 @@ class PostgresCatalog(Catalog):
         )
 
     def described(self, sql: str) -> list[Column]:
-        """Nothing is run for it. A text's collation isn't told, so that texts have no kind."""
+        """The query is asked for its columns alone, and makes no row. The answer doesn't say which collation a text
+        has, so texts have no kind."""
         with self._apart() as connection:
             answer = connection.execute(f"SELECT q.* FROM (SELECT 1) AS one LEFT JOIN ({sql}\n) AS q ON false")
             columns = [(column.name, column.type_code) for column in answer.description or ()]
@@ -355,8 +356,8 @@ class PostgresCatalog(Catalog):
 
 
 @contextlib.contextmanager
-def told() -> Iterator[None]:
-    """Makes a fault of what psycopg raises."""
+def as_faults() -> Iterator[None]:
+    """Turns what psycopg raises into a fault."""
     try:
         yield
     except psycopg.Error as error:

@@ -13,7 +13,8 @@ MOST_EQUALITIES = 256
 
 
 class Column(NamedTuple):
-    """A table's column. Columns of one `kind` are compared as they are grouped; None where that isn't known."""
+    """A table's column. For columns of one `kind`, = compares values as GROUP BY does. It is None if that isn't
+    known."""
 
     name: str
     type: str
@@ -21,8 +22,8 @@ class Column(NamedTuple):
 
 
 class Spread(NamedTuple):
-    """Where the rows of a table lie, if they are on other servers: its parts, as SQL names them. `by` is a column of
-    which each value is in one part alone, if the engine groups by it part by part."""
+    """Where the rows of a table lie, if they are on other servers: its parts, as SQL names them. `by` is the column by
+    which the engine groups part by part, if there is one: each of its values is in one part alone."""
 
     parts: tuple[str, ...]
     by: str | None
@@ -73,7 +74,8 @@ class Text(NamedTuple):
 
 @dataclass
 class Entry:
-    """An entry of FROM. `table` and `alias` are texts of SQL as the query has them, `name` is the alias as a name."""
+    """An entry of FROM. `table` and `alias` are texts of SQL as the query has them. `name` is the alias as the engine
+    compares it with other names."""
 
     number: int
     name: str
@@ -84,7 +86,7 @@ class Entry:
 
 
 class Equality(NamedTuple):
-    """An equality of columns of two entries that is compared as it is grouped: an edge."""
+    """An equality of columns of two entries, which = compares as GROUP BY does: an edge of the join graph."""
 
     left: Named
     right: Named
@@ -101,10 +103,10 @@ class Condition(NamedTuple):
 class Query:
     """A query. `conditions` are those of several entries or none, equalities among them, in the order of the text.
 
-    What stands above the join is as it was written, but for a star, which is replaced by its columns. `named_above` are
-    the columns that may be named there. If USING merged columns, a name there has to mean the merged column alone. For
-    some engines `frame` then has FROM as it was written, with the entries' numbers in their places; for others
-    `renamed` has the columns that get other names.
+    Above the join stand DISTINCT, the outputs, GROUP BY, HAVING, ORDER BY and LIMIT. They are as they were written, but
+    a star is replaced by its columns. `named_above` are the columns that may be named there. If USING merged columns, a
+    name there has to mean the merged column alone. For some engines `frame` then has FROM as it was written, with the
+    entries' numbers in their places; for others `renamed` has the columns that get other names.
     """
 
     entries: list[Entry]
@@ -120,7 +122,7 @@ class Query:
     needed: set[Named] = field(default_factory=set)
 
     def take_equality(self, one: Named, other: Named) -> str | None:
-        """Takes an equality for the bounds, once. Answers why not, if they can't use it."""
+        """Adds an equality to those that bounds use, once. Answers why not, if they can't use it."""
         if one.column.kind is None or one.column.kind != other.column.kind:
             return f"{one.column.type} and {other.column.type} aren't compared as they are grouped"
         if Equality(one, other) in self.equalities or Equality(other, one) in self.equalities:
@@ -143,7 +145,8 @@ class Query:
         return [column for column in self.entries[entry].about.by_key.values() if column in some]
 
     def complete(self, entries: frozenset[int], before: tuple[frozenset[int], ...] = ()) -> list[Text]:
-        """The conditions that name some of these entries and no other, and that weren't complete in parts of them."""
+        """The conditions that name some of these entries and no other, but not those that only name entries of one set
+        of `before`."""
         return [
             condition.text
             for condition in self.conditions

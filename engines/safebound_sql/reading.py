@@ -1,8 +1,8 @@
-"""The parts of a query: outputs, entries, conditions, and what stands above the join. All as tokens, as they were
-written.
+"""The parts of a query: outputs, entries, conditions, and what stands above the join (GROUP BY, HAVING, ORDER BY,
+LIMIT). All as tokens, as they were written.
 
-Only the frame is read here: SELECT .. FROM .. WHERE .. and what follows. What is no inner join of named tables is
-refused by its name and place.
+Only the frame is read here: SELECT .. FROM .. WHERE .. and what follows. If FROM has more than inner joins of named
+tables, the query is refused, with the name and place of that part. A block may have outer joins and queries in FROM.
 """
 
 from __future__ import annotations
@@ -29,7 +29,7 @@ NO_ALIAS = (*IN_FROM, *BEHIND_FROM, "TABLESAMPLE", "INDEXED", "NOT", "INTO")
 class Source:
     """An entry as FROM has it: the table's name as tokens, and the alias, or the table's name if it has none.
 
-    Of a query in FROM `table` has its tokens with their parentheses, and `columns` may have its columns' names.
+    For a query in FROM, `table` has its tokens with their parentheses, and `columns` may have the names of its columns.
     """
 
     table: Tokens
@@ -45,7 +45,7 @@ class Source:
 class Step:
     """How a source is joined to those before it: INNER, LEFT, RIGHT or FULL, and the conditions of its ON.
 
-    In a statement that may have inner joins alone, these are among the statement's conditions.
+    If a statement may have inner joins alone, the conditions of ON are among the statement's conditions instead.
     """
 
     kind: str
@@ -55,7 +55,7 @@ class Step:
 
 @dataclass
 class Using:
-    """USING: the names, how many sources stand before it on its left side, and the source on its right."""
+    """USING: its names, the sources on its left side, and the source on its right."""
 
     names: Tokens
     left: range
@@ -66,7 +66,8 @@ class Using:
 class Statement:
     """A query's parts. A condition is a conjunct of WHERE or of an ON.
 
-    `frame` is FROM as it was written, with a source's number in its place, and None in that of an ON's condition.
+    `frame` is FROM as it was written, but with its number in place of a source, and None in place of the condition of
+    an ON.
     """
 
     text: str
@@ -84,7 +85,7 @@ class Statement:
 
 
 def conjuncts(condition: Tokens) -> list[Tokens]:
-    """The parts of a condition at AND, through parentheses. A condition with OR is one part."""
+    """The parts between a condition's ANDs, also between those in parentheses. A condition with OR is one part."""
     while (
         condition
         and condition[0].says("(")
@@ -231,7 +232,7 @@ class Reader:
         yield from self.pieces[start:end]
 
     def _joined(self, first: int) -> None:
-        """One part of FROM: a source and what is joined to it. Its left side begins with the source numbered
+        """One part of FROM: a source and what is joined to it. The left side of a USING begins with the source numbered
         `first`."""
         self._source()
         while True:
@@ -382,5 +383,5 @@ def at_commas(pieces: Tokens) -> Iterator[Tokens]:
 
 
 def read(text: str, pieces: Tokens, dialect: Dialect, in_blocks: bool = False) -> Statement:
-    """The parts of the query. `in_blocks` it may have outer joins and queries in FROM."""
+    """The parts of the query. With `in_blocks` it may have outer joins and queries in FROM."""
     return Reader(text, pieces, dialect, in_blocks).read()

@@ -1,8 +1,7 @@
-"""Rows that can take part: semi-joins up and down the equalities, and the parts of a statement that they are written
-as.
+"""Rows that can take part: semi-joins along the equalities, and the parts of a statement that they are written as.
 
-Reduced, an entry keeps those of its rows that meet a row of each entry that it is joined with. Each step is a
-materialised part of the statement, so that the engine computes it once.
+A semi-join keeps those rows of an entry that meet a row of each of some entries which it is joined with. The rows that
+are left are a materialised part of the statement, so that the engine computes them once.
 """
 
 from __future__ import annotations
@@ -19,7 +18,7 @@ from .query import Column, Entry, Query
 class Parts:
     """Materialised parts of a statement by their names, and for each entry where its rows are: a part, or its table.
 
-    `sizes` are how many parts a part names, with all that these name in turn.
+    `sizes` says how many parts are computed for the part of an entry, if each is computed wherever it is named.
     """
 
     texts: list[tuple[str, str]] = field(default_factory=list)
@@ -27,7 +26,7 @@ class Parts:
     sizes: dict[int, int] = field(default_factory=dict)
 
     def within(self, entry: int, others: list[int], most: int | None) -> list[int]:
-        """As many of the entries as a new part for this entry may name."""
+        """Those of the other entries that a new part of this entry may name, so that its size is at most `most`."""
         size, kept = self.sizes.get(entry, 0) + 1, []
         for other in others:
             if most is None or size + self.sizes[other] <= most:
@@ -82,7 +81,7 @@ def closes_a_cycle(joined: Joined, reached: list[tuple[int, int | None]]) -> boo
 
 
 def along_a_tree(reached: list[tuple[int, int | None]]) -> Iterable[tuple[int, list[int]]]:
-    """The semi-joins up the tree and down again. They are a full reducer: each row that is left meets one of every
+    """The semi-joins up the tree and down again. They are a full reducer: each row that is left meets a row of every
     entry."""
     yield from ((entry, [other for other, parent in reached if parent == entry]) for entry, _ in reversed(reached))
     yield from ((entry, [parent]) for entry, parent in reached if parent is not None)

@@ -1,9 +1,10 @@
-"""Tables whose rows lie on other servers: these filter and count their own rows, and send what is left of a column.
+"""Tables whose rows lie on other servers. The servers filter and count their own rows, and send the values of a column
+that are left.
 
 PostgreSQL sends a server a whole count or GROUP BY over one of its tables, and a comparison with the values of an
 array. It sends neither a semi-join nor a part of an aggregate, and would fetch the rows for it. So each part of a
-table is asked by itself, what the servers say of a value is added up here, and in place of a semi-join the values
-that are left of the other column go along.
+table is asked by itself, and what the servers say of a value is added up here. In place of a semi-join a server gets an
+array of the values that are left of the other column.
 """
 
 from __future__ import annotations
@@ -35,9 +36,10 @@ class Source:
         return "CAST(SUM(n) AS BIGINT)", f"FROM ({counts}) AS servers"
 
     def degrees(self, column: Column, dialect: Dialect) -> str:
-        """How many rows each value of the column has: those of all servers, unless each value is on one alone.
+        """How many rows each value of the column has. The numbers of all servers are added up, unless each value is on
+        one server alone.
 
-        COUNT of the column, not of rows: where it is NULL the degree is 0.
+        COUNT is of the column and not of rows, so that NULL has degree 0.
         """
         value = f"{self.entry.alias}.{dialect.quote(column.name)}"
         spread = self.entry.about.spread
@@ -62,7 +64,7 @@ class Source:
         return f" GROUP BY {values}" + (" HAVING COUNT(*) > 0" if self.entry.about.spread and not self.part else "")
 
     def _tables(self) -> tuple[str, ...]:
-        """What is asked one by one."""
+        """The tables that are asked, one by one."""
         spread = None if self.part else self.entry.about.spread
         return spread.parts if spread else (self.part or self.entry.table,)
 
@@ -81,7 +83,7 @@ class Limits:
         joined = partners(query)
         for entry, others in steps_elsewhere(query, joined):
             for other in others:
-                # Fewer rows of the other are left than before, so the new condition takes the place of the old one.
+                # No more rows of `other` are left than before, so the new condition takes the place of the old one.
                 self.among[entry][other] = self._among(entry, other, joined[entry][other])
 
     @property
@@ -134,7 +136,7 @@ def lies_elsewhere(query: Query) -> bool:
 def rows_to_count(
     query: Query, dialect: Dialect, columns: dict[int, list[Column]], prefix: str
 ) -> tuple[list[tuple[str, str]], dict[int, Source]]:
-    """Parts of a statement, and where by them each entry's reduced rows are."""
+    """Parts of a statement, and where each entry's reduced rows are if the statement has these parts."""
     if lies_elsewhere(query):
         limits = Limits(query, dialect, prefix)
         return limits.texts, {entry.number: Source(entry, limits.of(entry.number)) for entry in query.entries}

@@ -69,7 +69,7 @@ DIALECT = SqliteDialect(
     merged_columns_first=False,
     equals=("=", "=="),
     calls_without_parentheses=("CURRENT_DATE", "CURRENT_TIME", "CURRENT_TIMESTAMP"),
-    # SQLite reads a part again wherever it is named, and so the parts that it names in turn.
+    # SQLite reads a part again wherever it is named, and also the parts that it names.
     most_parts_of_a_part=200,
     join_word="CROSS JOIN",
     keeps_trees=False,
@@ -92,7 +92,7 @@ class SqliteConnection(Connection):
         self.unwritten: Row | None = None
         self.timeout: int | None = None
         self.ends: float | None = None
-        with self._told():
+        with self._as_faults():
             try:
                 self._open("mode=ro")
             except sqlite3.OperationalError:
@@ -122,8 +122,8 @@ class SqliteConnection(Connection):
         return self.ends is not None and time.monotonic() > self.ends
 
     @contextlib.contextmanager
-    def _told(self) -> Iterator[None]:
-        """Starts the time of a statement, and makes a fault of what sqlite3 raises."""
+    def _as_faults(self) -> Iterator[None]:
+        """Starts the time of a statement, and turns what sqlite3 raises into a fault."""
         self.ends = time.monotonic() + self.timeout if self.timeout else None
         try:
             yield
@@ -138,16 +138,16 @@ class SqliteConnection(Connection):
             )
 
     def rows(self, sql: str, given: Sequence[str | None] = ()) -> list[Row]:
-        with self._told():
+        with self._as_faults():
             return self.connection.execute(sql, given).fetchall()
 
     def names(self, sql: str) -> list[str]:
         """The names of the statement's columns."""
-        with self._told():
+        with self._as_faults():
             return [column[0] for column in self.connection.execute(sql).description]
 
     def stream(self, sql: str) -> Iterator[Row]:
-        with self._told():
+        with self._as_faults():
             cursor = self.connection.execute(sql)
             yield from with_names(cursor, [column[0] for column in cursor.description])
 
@@ -189,7 +189,7 @@ class SqliteCatalog(Catalog):
         return Table(tuple(column for column, hidden in columns if hidden != 1), by_key, identity)
 
     def _schema_version(self, schema: str) -> int:
-        """Another number after each change of a schema: a table has none of its own."""
+        """A number that each change of the schema changes. A table has no such number of its own."""
         return int(self.connection.rows(f"PRAGMA {DIALECT.quote(schema)}.schema_version")[0][0])
 
     def _column(self, table: str, name: str, declared: str, of_table: bool, strict: bool) -> Column:
@@ -199,7 +199,8 @@ class SqliteCatalog(Catalog):
         return Column(name, declared or "no type", kind)
 
     def _collation(self, table: str, name: str) -> str | None:
-        """A column's collation, found by whether 'a' equals 'A' or 'a ' by it: UNION compares by its first part's."""
+        """A column's collation, found by whether 'a' equals 'A' or 'a ' by it. UNION compares by the collation of its
+        first part."""
         values = f"SELECT {DIALECT.quote(name)} FROM {table} WHERE 0 UNION SELECT 'a' UNION SELECT ?"
         try:
             case, space = (
@@ -224,10 +225,10 @@ class SqliteCatalog(Catalog):
     def check(self, sql: str) -> None:
         self.connection.rows(f"EXPLAIN {sql}")
 
-    def stands_alone(self, inner: list[Token]) -> str | None:
+    def why_not_alone(self, inner: list[Token]) -> str | None:
         """SQLite takes a name in double quotes that it doesn't find for a text, so names get other quotes here."""
         in_quotes = {token: "`" + unquoted(token).replace("`", "``") + "`" for token in inner if token.text[0] == '"'}
-        return super().stands_alone([token._replace(text=in_quotes.get(token, token.text)) for token in inner])
+        return super().why_not_alone([token._replace(text=in_quotes.get(token, token.text)) for token in inner])
 
     def described(self, sql: str) -> list[Column]:
         return [Column(name, "no type", None) for name in self.output_names(sql)]
@@ -251,7 +252,7 @@ def opened(file: str, timeout: int | None) -> Engine:
 
 
 def _last(name: str) -> str:
-    """The last name of one with dots."""
+    """The last part of a name with dots."""
     return DIALECT.key(name.split(".")[-1].strip('"`[] '), True)
 
 
@@ -268,7 +269,7 @@ def affinity(declared: str, strict: bool) -> str:
 
 
 def _field(value: object, null: str) -> str:
-    """A value of CSV, in quotes where it would be read as another one, or as NULL."""
+    """A value of CSV, in quotes if it would otherwise be read as another value, or as NULL."""
     text = f"x'{value.hex()}'" if isinstance(value, bytes) else str(value)
     return '"' + text.replace('"', '""') + '"' if text == null or any(mark in text for mark in ',"\n\r') else text
 

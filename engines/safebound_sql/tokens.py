@@ -75,9 +75,9 @@ BACKTICKS = r"`[^`'\\.]+`"
 def dialect_rules(
     quoted: str, texts: str = "'", comments: str | None = None, suffixes: str = "(?!)"
 ) -> re.Pattern[str]:
-    """Rules that hold however an engine reads backslashes in texts and comments within comments: where that would
-    matter nothing is matched, and the query is refused. `texts` are the marks of texts, `suffixes` those of
-    numbers."""
+    """Rules that hold in whichever way an engine reads a backslash in a text, or a comment within a comment. If the way
+    would matter, nothing is matched, and the query is refused. `texts` are the quote marks of texts, and `suffixes` are
+    letters that may end a number."""
     text = "|".join(rf"(?!{mark * 3}){mark}(?:[^{mark}\\]|\\(?!{mark})|{mark}{mark})*{mark}" for mark in texts)
     return re.compile(
         "|".join(
@@ -102,7 +102,7 @@ _COMMENT_ENDS = re.compile(r"/\*|\*/")
 
 
 def place(text: str, at: int) -> str:
-    """Where that is, for a reader."""
+    """The line and column of a character of the text."""
     before = text[:at].split("\n")
     return f"line {len(before)}, column {len(before[-1]) + 1}"
 
@@ -146,7 +146,7 @@ def _end_of_comment(text: str, at: int) -> int:
 
 
 def _operator(run: str) -> str:
-    """PostgreSQL's rule: an operator ends in + or - only where it has a character of those below too."""
+    """PostgreSQL's rule: an operator may end in + or - only if it also has one of the characters below."""
     while len(run) > 1 and run[-1] in "+-" and not set(run) & set("~!@#%^&|`?"):
         run = run[:-1]
     return run

@@ -22,7 +22,7 @@ from .tokens import BACKTICKS, DOUBLE_QUOTES, Token, dialect_rules, part_of_name
 
 DAYS = ("now", "today", "tomorrow", "yesterday")
 
-# Words that are names only in quotes. With them rows are kept or left out in another way than by an inner join.
+# Without quotes these words keep or leave out rows in another way than an inner join does. As names they need quotes.
 NO_INNER_JOIN = (
     "QUALIFY", "PIVOT", "UNPIVOT", "LATERAL", "TABLESAMPLE", "SEMI", "ANTI", "ASOF", "POSITIONAL", "DIRECTED",
     "MATCH_RECOGNIZE", "UNNEST", "EXPLODE", "MINUS",
@@ -37,7 +37,7 @@ IN_LOWER_CASE = frozenset(word.lower() for word in RESERVED)
 
 @dataclass(frozen=True)
 class UnreachedDialect(Dialect):
-    """Where no settings make an engine keep the order, each level is a temporary table."""
+    """If no setting makes an engine keep the order, each level is a temporary table."""
 
     calls_without_parentheses: tuple[str, ...] = TIMES
     outputs_in_conditions: bool = True
@@ -53,7 +53,7 @@ class UnreachedDialect(Dialect):
     folds_tables: bool = True
 
     def with_parts(self, parts: list[tuple[str, str]], select: str) -> str:
-        """Where each level is a table, each part is one too, and the statement a script."""
+        """If each level is a table, each part is one too, and the statement is a script."""
         if not self.makes_tables:
             return super().with_parts(parts, select)
         return "".join(f"CREATE OR REPLACE TEMPORARY TABLE {name} AS\n{text};\n" for name, text in parts) + select
@@ -180,8 +180,8 @@ class SchemaFile(Catalog):
         if not isinstance(tree, sqlglot.exp.Select) or odd:
             raise Refused(f"the query has a part that isn't bounded: {', '.join(sorted(odd)) or 'it is no SELECT'}")
 
-    def stands_alone(self, inner: list[Token]) -> str | None:
-        """None if each name in it is of one of its own tables, or isn't a column's name at all; else why not."""
+    def why_not_alone(self, inner: list[Token]) -> str | None:
+        """None if each name in the subquery is of one of its own tables, or is no column's name; else why not."""
         if any(token.says("SELECT", "WITH", "VALUES") for token in inner[1:]):
             return "there is a subquery within it"
         try:

@@ -11,7 +11,7 @@ from .servers import rows_to_join
 
 
 class Writer:
-    """Writes statements over a query. Reduced, they join the rows that were counted."""
+    """Writes statements over a query. With `reduce` they join the rows that were counted, and without it the tables."""
 
     def __init__(self, query: Query, dialect: Dialect, prefix: str, reduce: bool) -> None:
         self.query, self.dialect, self.prefix = query, dialect, prefix
@@ -43,8 +43,8 @@ class Writer:
 
 
 class Writing:
-    """One statement while it is written. Where the engine keeps no trees, the right side of a join of several entries
-    is a part of its own, and `within` has the entries whose columns are those of a part."""
+    """One statement while it is written. If the engine doesn't keep the shape of a join tree, a side of a join that has
+    several entries becomes a part. `within` has the part of each entry whose columns are those of a part."""
 
     def __init__(self, writer: Writer) -> None:
         self.query, self.dialect, self.columns = writer.query, writer.dialect, writer.columns
@@ -70,7 +70,7 @@ class Writing:
         return self._name_within(named) if named in self.query.renamed else self.dialect.quote(named.column.name)
 
     def _elsewhere(self, named: Named) -> str | None:
-        """The column's name where it is one of a part with several entries, or goes by another name."""
+        """The column's name if it is a column of a part with several entries, or has been renamed."""
         part = self.within.get(named.entry)
         if part:
             return f"{part}.{self._name_within(named)}"
@@ -112,8 +112,7 @@ class Writing:
         return [named for column in self.columns[number] if (named := Named(number, column)) in self.query.named_above]
 
     def _entries_of_parts(self) -> str:
-        """Joins each entry whose columns are those of a part once more, under its own alias: by the number of the
-        part's row."""
+        """Joins each entry within a part once more, under its own alias. Rows meet by the number of the part's row."""
         again, numbered = "", f"{self.prefix}row"
         for number, part in sorted(self.within.items()):
             columns, alias = self._named_above(number), self.query.entries[number].alias
@@ -147,7 +146,8 @@ class Writing:
         return bracketed(self.text(text))
 
     def _alone(self, shape: Shape) -> list[str]:
-        """The own conditions of entries that are no parts yet, neither alone nor with others."""
+        """The own conditions of entries that nothing has tested yet: a part tests those of its entries, and a renamed
+        column comes from a subquery that does."""
         within = {*self.rows, *self.within, *(named.entry for named in self.query.renamed)}
         numbers = [number for number in entries_of(shape) if number not in within]
         return [text for number in numbers for text in own_conditions(self.query.entries[number])]

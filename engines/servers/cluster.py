@@ -23,8 +23,8 @@ OPTIONS = {"host": "127.0.0.1", "fetch_size": "10000", "batch_size": "1000", "as
 
 
 class Cluster:
-    """The cluster of a folder, by a database of its servers. It goes on running until `stop`, whichever process calls
-    that."""
+    """The cluster whose servers have their data in a folder, through one database of each server. It runs until `stop`,
+    whichever process calls that."""
 
     def __init__(self, folder: str, database: str = "postgres") -> None:
         self.folder = folder
@@ -95,7 +95,8 @@ class Cluster:
             coordinator.execute(f"CREATE FOREIGN TABLE {part} OPTIONS (table_name '{name}')")
 
     def on_servers(self, statement: str) -> None:
-        """Runs a statement on each server. It may name {number} of {servers}, from 0."""
+        """Runs a statement on each server. In it {number} stands for the number of the server, from 0, and {servers}
+        for how many servers there are."""
         texts = [
             statement.replace("{number}", str(number)).replace("{servers}", str(SERVERS)) for number in range(SERVERS)
         ]

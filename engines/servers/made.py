@@ -1,4 +1,4 @@
-"""Tables that the servers of a cluster fill themselves, or one server alone, at so many times a size."""
+"""Tables that the servers of a cluster fill themselves, or one server alone, at a multiple of a size."""
 
 from __future__ import annotations
 

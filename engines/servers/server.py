@@ -30,7 +30,7 @@ def owner() -> str | None:
 
 
 def own(path: str) -> None:
-    """Makes a file or a folder the servers' own."""
+    """Makes the user of the servers the owner of a file or a folder."""
     user = owner()
     if user:
         shutil.chown(path, user)
@@ -98,7 +98,7 @@ class Server:
             raise RuntimeError("PostgreSQL isn't installed")
         front = ["runuser", "-u", user, "--"] if user else []
         command = front + [os.path.join(folder, program), *words]
-        # To a file, since the server that pg_ctl starts would hold a pipe.
+        # To a file, since the server that pg_ctl starts would keep a pipe open.
         with tempfile.TemporaryFile("w+") as said:
             done = subprocess.run(command, cwd=self.folder, stdout=said, stderr=subprocess.STDOUT)
             if done.returncode:

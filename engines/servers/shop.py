@@ -1,4 +1,4 @@
-"""The shop of `bench/shop` at so many times its size."""
+"""The shop of `bench/shop` at a multiple of its size."""
 
 from __future__ import annotations
 

@@ -1,7 +1,7 @@
 """Skewed tables of films and people, and random queries over them.
 
-A few films have most parts, keywords, ratings and awards, and these films are recent. A few people have most parts,
-ratings and awards. Planners expect fewer rows, since they take columns for independent.
+A few films have most castings, keywords, ratings and awards, and these films are recent. A few people have most
+castings, ratings and awards. Planners expect fewer rows, since they take columns for independent.
 """
 
 from __future__ import annotations
@@ -21,12 +21,13 @@ CREATE TABLE award (person INTEGER NOT NULL, title INTEGER NOT NULL, kind INTEGE
 
 
 def _chance(number: int) -> str:
-    """SQL for a number of row i, from 0 to below 1. It looks random, and is the same on all servers."""
+    """SQL for a number that row i gets, at least 0 and below 1. It looks random, and is the same on all servers."""
     return f"((hashint8(i * 16 + {number}) & 2147483647) / 2147483648.0::float8)"
 
 
 def _few(most: str, power: float, number: int) -> str:
-    """SQL for a whole number of row i, from 0 to below `most`. Low ones are more frequent if `power` is above 1."""
+    """SQL for a whole number that row i gets, at least 0 and below `most`. If `power` is above 1, low numbers are more
+    frequent."""
     return f"floor({most} * power({_chance(number)}, {power}))::integer"
 
 
@@ -94,6 +95,6 @@ def query(number: int) -> str:
 
 
 def _ways(table: str) -> list[tuple[str, str, str]]:
-    """What a table is joined with: its own column, the other table, and that one's column."""
+    """What a table is joined with: its own column, the other table, and the other table's column."""
     forth = [(mine, other, theirs) for one, mine, other, theirs in EDGES if one == table]
     return forth + [(mine, other, theirs) for other, theirs, one, mine in EDGES if one == table]

@@ -1,4 +1,4 @@
-"""Databases of the tests, one on each engine, with a connection that writes and asks plainly."""
+"""Databases of the tests, one on each engine, with a connection of the engine's own driver, which may write."""
 
 from __future__ import annotations
 
@@ -25,7 +25,7 @@ CLUSTER = os.environ.get("SAFEBOUND_SQL_CLUSTER")
 # The database of this process. Roles and other databases, which all databases of a server share, have names made of it.
 DATABASE = os.environ.get("SAFEBOUND_SQL_DATABASE", "postgres")
 GATE = bool(os.environ.get("SAFEBOUND_SQL_GATE"))
-# What tests count, for the end of a run.
+# Numbers that tests add up. engines/test prints them at the end.
 COUNTED: Counter[str] = Counter()
 
 
@@ -132,7 +132,8 @@ class ClusterBase:
 
 
 class OnEachEngine(unittest.TestCase):
-    """Tests that run on SQLite, and on PostgreSQL by a class below them. `schema` and `fill` make the tables."""
+    """Tests that run on SQLite. `on_postgres` makes a class that runs them on PostgreSQL. `schema` and `fill` make the
+    tables."""
 
     base: Any
     base_class: type = SqliteBase
@@ -165,13 +166,13 @@ class OnEachEngine(unittest.TestCase):
         return planner, planner.plan(accuracy, budget, tree)
 
     def same_rows(self, planner: Planner, plan: Plan, text: str) -> None:
-        """The rows of the planned SQL are those of the query itself, each as often."""
+        """Checks that the rows of the planned SQL are those of the query itself, each as often."""
         connection = planner.engine.connection
         connection.keep_order()
         self.assertEqual(counted(connection.rows(planner.sql(plan))), counted(self.base.rows(text)), text)
 
     def never_under(self, planner: Planner, plan: Plan, text: str) -> list[int]:
-        """No level has more rows than its bound. Answers the rows of the levels."""
+        """Checks that no level has more rows than its bound. Answers the rows of the levels."""
         true = planner.true_rows(plan)
         for level, rows in zip(plan.levels, true, strict=True):
             self.assertLessEqual(rows, level.bound, f"{level.shape} of {text}\n{planner.sql(plan)}")

@@ -19,7 +19,8 @@ PACKAGE = Path(__file__).resolve().parents[1] / "safebound_sql"
 class Edit:
     """What goes wrong, in which file, by which edit, and the test that fails.
 
-    With `gate` the gate tries it too: a bound could be too low or a row wrong, and no other one of these is like it.
+    With `gate` the gate tries it too: a bound could be too low or a row wrong, and no other edit with `gate` is like
+    it.
     """
 
     name: str
@@ -336,12 +337,12 @@ EDITS = [
 
 
 def tried(edit: Edit) -> Done:
-    """Whether its test fails, in this process, in which nothing of safebound_sql is loaded."""
+    """Whether the edit's test fails. It runs in this process, in which nothing of safebound_sql is loaded."""
     begin = time.monotonic()
     with tempfile.TemporaryDirectory() as folder:
-        stands = _edited(edit, Path(folder))
-        if stands != 1:
-            return _answer(edit, begin, f"its text stands {stands} times")
+        times = _edited(edit, Path(folder))
+        if times != 1:
+            return _answer(edit, begin, f"its old text is found {times} times")
         os.environ["SAFEBOUND_SQL_PROGRAM"] = shutil.copy(PACKAGE.parent / "safebound-sql", folder)
         sys.path.insert(0, folder)
         results = tests([edit.test]).results
@@ -357,7 +358,7 @@ def tried(edit: Edit) -> Done:
 def _edited(edit: Edit, folder: Path) -> int:
     """Makes a package that has the edited file, and all others from the program's own.
 
-    Answers how often the text stands there.
+    Answers how often the file had the old text.
     """
     text = (PACKAGE / edit.file).read_text()
     package = folder / PACKAGE.name

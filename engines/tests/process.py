@@ -8,7 +8,7 @@ from typing import Any
 
 from bases import ROOT
 
-# Mutants are tried in a copy.
+# A test of a mutant runs a copy of the program.
 PROGRAM = os.environ.get("SAFEBOUND_SQL_PROGRAM", str(ROOT / "engines" / "safebound-sql"))
 
 

@@ -37,7 +37,8 @@ OUTPUTS = (
 
 
 def in_tens(queries: int) -> Callable[[type[OnEachEngine]], type[OnEachEngine]]:
-    """A test of a class for each ten random queries, which share their tables: its `ask` gets their numbers."""
+    """Gives a class one test for each ten random queries, which share their tables. The test calls the method `ask`
+    with the numbers of the queries."""
 
     def with_tests(test: type[OnEachEngine]) -> type[OnEachEngine]:
         for begin in range(SEED, SEED + queries, 10):
@@ -51,7 +52,7 @@ def in_tens(queries: int) -> Callable[[type[OnEachEngine]], type[OnEachEngine]]:
 
 @dataclass
 class RandomQuery:
-    """A query: its text, and of each condition the entries that it names."""
+    """A query: its text, and its conditions, each with the entries that it names."""
 
     entries: list[tuple[str, int]]
     conditions: list[tuple[str, frozenset[str]]] = field(default_factory=list)
@@ -130,7 +131,8 @@ class Randomly:
         found.conditions.append((text, frozenset((found.entries[left][0], found.entries[right][0]))))
 
     def _filled(self, found: RandomQuery, form: str, left: int, right: int) -> str:
-        """The form with columns of the left entry for small letters, of the right one for capitals."""
+        """The form with columns in place of letters: of the left entry for small ones, of the right one for
+        capitals."""
         values = {"c": self.random.randrange(5), "a": found.entries[left][0]}
         for name in TYPES:
             values[name] = self._column(found, left, name)
@@ -138,7 +140,7 @@ class Randomly:
         return form.format(**values)
 
     def _column(self, found: RandomQuery, entry: int, name: str) -> str:
-        """A column with its entry, or at times without where that is clear."""
+        """A column with its entry, or at times without it, if no other entry has this column."""
         alias, table = found.entries[entry]
         clear = sum(other == table for _, other in found.entries) == 1
         return f"{name}{table}" if clear and self.random.random() < 0.2 else f"{alias}.{name}{table}"

@@ -51,7 +51,7 @@ Place = Dict[str, str]
 def all_done(pieces: list[Piece[T]], places: list[Place]) -> Iterator[tuple[Piece[T], T | None]]:
     """The answer of each piece, as soon as it is there; None if its process ended without one.
 
-    A place is the environment of a process. At each time one process has it.
+    A place is the environment of a process. No two processes have the same place at the same time.
     """
     waiting, free = pieces[::-1], list(places)
     running: dict[Connection, tuple[Piece[T], Place]] = {}
@@ -89,7 +89,7 @@ def _received(receives: Connection) -> Any:
         receives.close()
 
 
-class Told(unittest.TestResult):
+class TimedResult(unittest.TestResult):
     """Results of tests, with the time that each took."""
 
     def __init__(self) -> None:
@@ -123,15 +123,15 @@ def _processor_time() -> float:
 
 def tests(names: list[str]) -> Done:
     """Runs tests by their names."""
-    told = Told()
-    unittest.defaultTestLoader.loadTestsFromNames(names).run(told)
+    result = TimedResult()
+    unittest.defaultTestLoader.loadTestsFromNames(names).run(result)
     bases = sys.modules.get("bases")
-    return Done(told.results(), bases.COUNTED if bases else Counter())
+    return Done(result.results(), bases.COUNTED if bases else Counter())
 
 
 def found(names: list[str], processes: int) -> list[tuple[str, list[str]]]:
-    """The tests of these names, or all, in pieces: those of a class together, or where they may be apart in a few
-    pieces."""
+    """The tests of these names, or all, in pieces. The tests of a class are one piece, or a few pieces if the class is
+    `apart`."""
     loader = unittest.defaultTestLoader
     suite = loader.loadTestsFromNames(names) if names else loader.discover(os.getcwd(), "test_*.py")
     classes: dict[str, dict[str, None]] = {}

@@ -19,7 +19,7 @@ QUERIES_OF_THE_ARCHIVE = ROOT / "bench" / "archive_queries"
 
 class InBlocks(OnEachEngine, Process):
     def tried_in_blocks(self, text: str, budget: int = MOST_BUDGET) -> block_plans.Planner:
-        """The plan of a query. Before that its rows and those of its levels are checked."""
+        """Plans a query, and checks its rows and those of its levels. Answers the planner."""
         engine = opened(self.base.url, None)
         try:
             self.assertTrue(block_plans.several(text, engine))
@@ -72,7 +72,7 @@ class Blocks(InBlocks):
         cls.base.fill("v", [(None,)] * 5)
 
     def bounds(self, text: str, *bounds: list[int]) -> None:
-        """The bounds of the blocks' levels, the inner blocks first, as they are counted by hand."""
+        """Checks the bounds of the blocks' levels, the inner blocks first, against those that are counted by hand."""
         with self.subTest(text):
             planner = self.tried_in_blocks(text)
             self.assertEqual(planner.unbounded, [])
@@ -249,7 +249,7 @@ class Tpch(InBlocks):
 
 @unittest.skipUnless(QUERIES_OF_THE_ARCHIVE.is_dir(), "no queries of the archive")
 class Archive(InBlocks):
-    """Queries over packages of which the program itself takes fewer: outer joins, WITH, UNION, subqueries."""
+    """Queries over packages that the program itself doesn't take: outer joins, WITH, UNION, subqueries."""
 
     @classmethod
     def fill(cls) -> None:

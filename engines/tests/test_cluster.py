@@ -123,7 +123,7 @@ class TheShop(OnCluster, Process):
         self.assertLess(sum(fetch.rows for fetch in grouped), 10_000)
 
     def test_entries_under_no_condition_tell_nothing_at_first(self) -> None:
-        """The 20,000 orders of the leaf would come if the way up began with them."""
+        """All 20,000 orders would be sent if the semi-joins began with this leaf of the tree."""
         text = (
             "SELECT 1 FROM product p JOIN item i ON i.product = p.id JOIN orders o ON o.id = i.order_id WHERE p.id ="
             " 1999"
@@ -155,7 +155,7 @@ class TheShop(OnCluster, Process):
 
 @unittest.skipUnless(CLUSTER, "no cluster")
 class OtherTables(OnCluster):
-    """Few rows in tables of many kinds, some of which PostgreSQL sends servers nothing of."""
+    """Small tables of many kinds. PostgreSQL doesn't send conditions of all kinds to the servers."""
 
     schema = """CREATE TABLE a (x INTEGER, y INTEGER, v VARCHAR(5), t TEXT);
 CREATE TABLE b (z INTEGER, x INTEGER, y INTEGER, v VARCHAR(9), t TEXT)"""

@@ -43,7 +43,7 @@ class Commands(OnEachEngine, Process):
         cls.base.fill("trip", trips)
 
     def done(self, command: str, *words: str, text: str | None = None, status: int = 0) -> str:
-        """What a command prints on standard output, or where it fails on standard error."""
+        """What a command prints on standard output, or on standard error if it has to fail."""
         ended = self.tried(command, *words, text=self.text if text is None else text)
         self.assertEqual(ended.returncode, status, ended.stderr)
         return ended.stderr if status else ended.stdout
@@ -234,7 +234,7 @@ class Commands(OnEachEngine, Process):
 
 
 class Installed(unittest.TestCase):
-    """pip lays the package and its command, which are those of the tree."""
+    """pip installs the package and its command, and the command runs."""
 
     @in_full
     @unittest.skipUnless(all(map(importlib.util.find_spec, ("setuptools", "pip"))), "no pip or no setuptools")

@@ -21,8 +21,8 @@ class Conditioned(OnEachEngine):
         cls.base.fill("b", [(n % 4, n, TEXTS[n % 5], f"2020-02-{n + 1:02}", f"2020-01-{n + 1:02}") for n in range(12)])
 
     def conditions(self, *conditions: tuple[str, int]) -> None:
-        """A join under each condition has the query's rows, and as many parts of the condition are an entry's own as is
-        given."""
+        """Checks the rows of a join under each condition, and how many of its conjuncts are on one entry alone: the
+        number beside it."""
         for condition, own in conditions:
             text = f"SELECT a.x, b.u, a.d FROM a JOIN b ON a.x = b.x WHERE {condition} ORDER BY 1, 2, 3"
             for reduce in (True, False):

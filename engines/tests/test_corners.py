@@ -29,7 +29,8 @@ class Corners(OnEachEngine, Process):
                 self.assertIn(word, str(raised.exception))
 
     def right(self, *texts: str) -> None:
-        """The rows are those of the query in the query's order, and no bound is too low, whatever the plan."""
+        """Checks for each kind of plan that the rows are those of the query, in the query's order, and that no bound is
+        too low."""
         for text in texts:
             for reduce, tree in WAYS:
                 with self.subTest(text, reduce=reduce, tree=tree):
@@ -44,7 +45,7 @@ class Corners(OnEachEngine, Process):
 
 
 class Names(Corners):
-    """What stands above the join means the same in the planned SQL."""
+    """What stands above the join (outputs, grouping, order) means the same in the planned SQL."""
 
     schema = """
     CREATE TABLE a (id INTEGER, qty INTEGER, name TEXT);
@@ -432,7 +433,7 @@ class Texts(Corners):
         cls.base.fill("b", [(1,), (2,)])
 
     def test_line_ends_stay(self) -> None:
-        """A text with a line's end is the one that was written, whichever line ends the file has."""
+        """A line end within a text stays as it was written."""
         text = "SELECT a.x\r\nFROM a, b\r\nWHERE a.x = b.x AND t = 'one\r\ntwo'\r\n"
         with tempfile.NamedTemporaryFile("wb", suffix=".sql") as file:
             file.write(b"\xef\xbb\xbf" + text.encode())

@@ -28,7 +28,7 @@ class CountedBounds(OnEachEngine):
         return planner, planner.plan_by_counting(1, MOST_BUDGET, tree)
 
     def bounds(self, text: str, reduce: bool = True) -> list[int]:
-        """The counted bounds. They are the numbers of rows, and are no more than the other bounds."""
+        """The counted bounds of the levels. Checks that they are the levels' rows, and at most the other bounds."""
         planner, plan = self.counted(text, reduce)
         self.assertEqual(planner.true_rows(plan), [level.bound for level in plan.levels], text)
         without = planner.plan(1, MOST_BUDGET, False)
@@ -138,7 +138,7 @@ class NotCounted(CountedBounds):
         cls.base.script("INSERT INTO hub SELECT 0, i FROM generate_series(1, 2001) AS i")
 
     def test_equal_values_that_differ(self) -> None:
-        """If a group had several values, the condition would be tested with one of them alone."""
+        """Rows are grouped by equal values, and a condition would be tested with one of the values alone."""
         for condition in (
             "p.n::text <> q.n::text", "p.u COLLATE \"C\" <> q.u", "p.f::text <> q.f::text", "p.i::text <> q.i::text",
             "p.o < q.o",
@@ -170,7 +170,7 @@ class NotCounted(CountedBounds):
         self.assertEqual(plan.notes, [told])
 
     def test_equalities_alone(self) -> None:
-        """By one of the two equalities alone there are more choices."""
+        """With one of the two equalities alone there would be more choices."""
         text = "SELECT 1 FROM three p, three q WHERE p.a = q.a AND p.b = q.b AND p.c < q.c"
         self.assertEqual(self.planned(text)[1].cost, 2002**2 + 1)
         plan = self.counted(text)[1]
@@ -255,7 +255,7 @@ class CommandsOfSqlite(OnEachEngine, Process):
 
 
 class RandomlyCounted(Randomly):
-    """Texts of v are equal in upper and lower case, and numbers of n have any scale. More conditions join."""
+    """Texts of v are equal in upper and lower case, numbers of n have any scale, and more conditions may join."""
 
     def schema(self) -> str:
         collation = (

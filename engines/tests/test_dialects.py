@@ -16,10 +16,10 @@ import unittest
 import sqlglot
 from sqlglot import exp
 
-import random_names
+import random_outputs
 from bases import COUNTED, OnEachEngine, counted, on_postgres
 from process import PROGRAM
-from random_names import RandomNames
+from random_outputs import QueriesOfNamedOutputs
 from random_queries import NAMED, QUERIES, TABLES, Randomly, RandomQuery, in_tens
 from safebound_sql.counting import Counts, counts_of
 from safebound_sql.faults import Refused
@@ -108,16 +108,16 @@ class RandomDialects(Dialects):
 
 
 @in_tens(min(NAMED, MOST // 3))
-class RandomNamesInDialects(Dialects):
-    """Outputs with names of columns, over USING: the script's rows are the query's, in its order."""
+class RandomOutputsInDialects(Dialects):
+    """Outputs named like columns, over USING: the script's rows are the query's, in its order."""
 
     def ask(self, numbers: range) -> None:
         for number in numbers:
-            randomly = RandomNames(number, "sqlite")
+            randomly = QueriesOfNamedOutputs(number, "sqlite")
             if number == numbers[0]:
                 schema = re.sub("REAL|NUMERIC", "INTEGER", randomly.schema())
                 self.base.script(schema)
-                for table in range(random_names.TABLES):
+                for table in range(random_outputs.TABLES):
                     self.base.fill(f"u{table}", randomly.rows())
             text = randomly.query().replace("offset", "total")
             for dialect in DIALECTS:
@@ -173,7 +173,7 @@ class Written(Dialects):
         return counts_of(planner.query, rows)
 
     def test_parts_that_would_be_computed_too_often(self) -> None:
-        """Where parts aren't kept, a statement that would read a table more than 100 times counts under own
+        """If the engine doesn't keep parts, a statement that would read a table more than 100 times counts under own
         conditions alone."""
         text = (
             "SELECT 1 FROM a AS e1, a AS e2, a AS e3, a AS e4, a AS e5 WHERE e1.y = e2.y AND e2.y = e3.y AND e3.y ="

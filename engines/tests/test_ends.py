@@ -156,7 +156,7 @@ class EndsOfPostgres(OnEachEngine, Process):
         )
 
     def test_rows_above_a_bound(self) -> None:
-        """A function that calls itself IMMUTABLE and answers otherwise the second time."""
+        """A function that calls itself IMMUTABLE, but is false for the first five calls and true afterwards."""
         self.base.script(
             """
             CREATE OR REPLACE FUNCTION changing(INTEGER) RETURNS boolean LANGUAGE plpgsql IMMUTABLE AS $$

@@ -1,4 +1,4 @@
-"""What is counted, what is an edge and what isn't, on small tables whose counts are told by hand."""
+"""What is counted, what is an edge and what isn't, on small tables whose counts are known by hand."""
 
 from __future__ import annotations
 
@@ -55,7 +55,7 @@ class Counted(OnEachEngine):
         self.assertEqual(self.counts(text, reduce=True).rows, {"p": 1, "q": 1})
 
     def test_a_column_without_values(self) -> None:
-        """Its rows join nothing. A list of one value would say that it joins the two rows of a's value 1."""
+        """Its rows join nothing. A list with one value would let it join the two rows of a in which x is 1."""
         text = "SELECT a.y FROM a, n WHERE a.x = n.x"
         for reduce, bounds in ((True, [0, 0]), (False, [3, 0])):
             for tree in (False, True):

@@ -5,9 +5,9 @@ from __future__ import annotations
 
 import unittest
 
-import random_names
+import random_outputs
 from bases import COUNTED, OnEachEngine, on_postgres
-from random_names import RandomNames
+from random_outputs import QueriesOfNamedOutputs
 from random_queries import NAMED, QUERIES, Randomly, RandomQuery, in_tens
 from safebound_sql.faults import Refused
 from safebound_sql.levels import entries_of
@@ -57,17 +57,17 @@ class RandomQueries(AnyQueries):
 
 @in_tens(NAMED)
 class RandomOutputs(OnEachEngine):
-    """Outputs with names of columns, over USING, in order. Each number has one query that is answered."""
+    """Outputs named like columns, over USING, with ORDER BY. For each number one query is answered."""
 
     def ask(self, numbers: range) -> None:
         done = 0
         for number in numbers:
-            randomly = RandomNames(number, self.base.engine)
+            randomly = QueriesOfNamedOutputs(number, self.base.engine)
             if number == numbers[0]:
                 self.doCleanups()
                 schema = randomly.schema()
                 self.base.script(schema)
-                for table in range(random_names.TABLES):
+                for table in range(random_outputs.TABLES):
                     self.base.fill(f"u{table}", randomly.rows())
             text = self.taken(randomly, schema)
             with self.subTest(number=number, query=text):
@@ -76,8 +76,8 @@ class RandomOutputs(OnEachEngine):
         COUNTED[f"random outputs answered on {self.base.engine}"] += done
         self.assertEqual(done, len(numbers))
 
-    def taken(self, randomly: RandomNames, schema: str) -> str:
-        """The first query that has to be planned. Those before it have to be refused, by their names."""
+    def taken(self, randomly: QueriesOfNamedOutputs, schema: str) -> str:
+        """The first query that has to be planned. Those before it have to be refused."""
         while True:
             text = randomly.query()
             if not randomly.converts_both(schema):
@@ -88,7 +88,7 @@ class RandomOutputs(OnEachEngine):
             _, _, why = str(raised.exception).partition(": ")
             COUNTED[f"random outputs refused on {self.base.engine}: {why}"] += 1
 
-    def check(self, randomly: RandomNames, text: str) -> None:
+    def check(self, randomly: QueriesOfNamedOutputs, text: str) -> None:
         choose = randomly.random.choice
         planner, plan = self.planned(text, choose((True, True, False)), choose((1, 8)), choose((False, False, True)))
         self.never_under(planner, plan, text)

@@ -52,7 +52,7 @@ FIRST_DAY = datetime.date(1992, 1, 1)
 
 
 def rows(seed: int = 1) -> dict[str, list[Row]]:
-    """The rows of all tables, the same for the same number."""
+    """The rows of all tables, the same for the same seed."""
     pick = random.Random(seed)
 
     def money(least: int, most: int) -> Decimal:

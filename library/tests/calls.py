@@ -74,7 +74,7 @@ class Call(NamedTuple):
 
 
 def module(name: str) -> Any:
-    """The module, or None where it isn't installed."""
+    """The module, or None if it isn't installed."""
     try:
         return importlib.import_module(name)
     except ImportError:

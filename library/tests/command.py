@@ -197,7 +197,7 @@ class Library(unittest.TestCase):
 
 
 class Memory(unittest.TestCase):
-    """From C, each request for memory refused in turn: the line, and no row is written."""
+    """From C: if a request for memory is refused, whichever it is, there is the line of that fault and no row."""
 
     def ends(self, refuse: int, words: list[str]) -> tuple[int, bytes, bytes]:
         with tempfile.TemporaryDirectory() as folder:

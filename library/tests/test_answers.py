@@ -41,7 +41,7 @@ def random_degrees(pick: random.Random) -> list[int]:
 
 class Lists(unittest.TestCase):
     def check(self, made: list[tuple[Call, list[int]]]) -> None:
-        """Pairs of a call and the list that its runs have to be of."""
+        """`made` has pairs of a call and of the degrees that its runs have to give."""
         for (call, expected), answer in zip(made, answers([call for call, _ in made])):
             self.assertEqual(answer, (Status.OK, len(runs_of(expected)), runs_of(expected)), call)
 
@@ -91,7 +91,7 @@ class Lists(unittest.TestCase):
         self.check(made)
 
     def test_lists_of_conditions_dominate(self) -> None:
-        """Over rows with a key, a colour and a size: what calls make of lists of these is never below true counts."""
+        """Rows have a key, a colour and a size. What calls make of lists of these rows is never below true counts."""
         calls, keys = [], []
         for seed in range(RUNS):
             pick = random.Random(seed)
@@ -130,8 +130,8 @@ class Lists(unittest.TestCase):
         """One value in 4,000,000,000 rows, one in 3,000,000,000, a thousand in 2,000,000 each, a billion in one row
         each.
 
-        At accuracy 1 the second degree isn't below half of the first, so the head stays: rows 1 to 8,000,000,000 have
-        it, in two elements. They lie within the first two values and 500 of the thousand, so 500 of these are left.
+        At accuracy 1 the second degree isn't below half of the first, so the list begins with the first degree twice:
+        8,000,000,000 rows. The first two values and 500 of the thousand have as many rows, so 500 of these are left.
         """
         table = [(4_000_000_000, 1), (3_000_000_000, 1), (2_000_000, 1000), (1, 1_000_000_000)]
         self.check_runs([
@@ -146,7 +146,7 @@ class Lists(unittest.TestCase):
 
 
 class GivenLists(reading.ListBounds):
-    """The bounds of the reading over lists that are given."""
+    """Bounds as cases/reading.py computes them, over given lists."""
 
     def __init__(self, equalities: list[Equality], rows: list[int], lists: DegreeLists) -> None:
         self.all, self.rows, self.lists = equalities, rows, lists
@@ -196,7 +196,8 @@ class RandomQuery:
         self.lists = {side: self.list_of(*side) for equality in self.equalities for side in equality}
 
     def list_of(self, entry: int, column: int) -> list[int]:
-        """The column's degree list over the table or over one with more rows, as it is, compressed, or in two parts."""
+        """A list that dominates the column: the degrees over the table or over one with more rows, as they are,
+        compressed, or appended from two parts."""
         values = [row[column] for row in self.whole[entry] if row[column] is not None]
         shape, degrees = self.pick.random(), list(reading.falling(values))
         if shape < 0.3:
@@ -417,7 +418,7 @@ def place_of(tree: Tree) -> Place:
 
 
 def joins_of(tree: Tree, bounds: list[int], joins: list[tuple[int, int, int]], entries: int) -> int:
-    """The number of a tree's root, its joins behind the others."""
+    """Puts a tree's joins behind the others. Answers the number of its root."""
     if not isinstance(tree, tuple):
         return tree
     left, right = joins_of(tree[0], bounds, joins, entries), joins_of(tree[1], bounds, joins, entries)
@@ -451,7 +452,7 @@ def random_bounds(pick: random.Random, entries: int) -> list[int]:
 
 class Plans(unittest.TestCase):
     def check(self, name: str, best: Callable[[list[int], int], tuple[int, Sequence[Any]]]) -> None:
-        """Each with a budget that is just enough, one too small, and the greatest."""
+        """Plans random bounds with a budget that is just enough, with one less, and with the greatest."""
         calls, expected = [], []
         for seed in range(2 * RUNS):
             pick = random.Random(seed)

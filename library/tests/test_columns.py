@@ -1,6 +1,6 @@
 """Columns of all kinds, beside a count of their values: what Python, numpy, pandas and Arrow's protocol give.
 
-numpy and pandas are tested where they are there; library/test runs this file once more with a Python that has them.
+numpy and pandas are tested if they are installed; library/test runs this file once more with a Python that has them.
 """
 
 from __future__ import annotations
@@ -119,8 +119,8 @@ class Python(Columns):
 
 
 class ArrowLike:
-    """What a column of Arrow offers: `to_pylist`, and scalars where it is walked through, which aren't None where they
-    are null."""
+    """What a column of Arrow offers: `to_pylist`, and an iterator over scalars, which aren't None where the column is
+    null."""
 
     shape: tuple[int, ...]
 

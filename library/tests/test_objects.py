@@ -1,5 +1,5 @@
-"""The objects of the Python package as values: how they are shown, compared, pickled and typed, and that what is of one
-query stays with it."""
+"""The objects of the Python package as values: how they are shown, compared, pickled and typed, and that a query
+refuses the plans of another one."""
 
 from __future__ import annotations
 
@@ -187,7 +187,7 @@ class OfOneQuery(unittest.TestCase):
             self.assertIn(words, str(caught.exception))
 
     def test_another_query_s_plan(self) -> None:
-        """Each takes other bytes, though entries, places and even levels are the same."""
+        """The other plans take other numbers of bytes, though entries, places and even levels are the same."""
         query = pair()
         others = [
             pair(row_bounds={"r": 60, "s": 5}),
@@ -206,8 +206,8 @@ class OfOneQuery(unittest.TestCase):
         self.assertEqual(query.memory(pair().best_tree(12)), 507)
 
     def test_plans_put_together_by_hand(self) -> None:
-        """Those with this query's entries and bounds are its plans, and no others: no number is cut to 64 bits or to a
-        whole one."""
+        """Plans with this query's entries and bounds are taken, and no others: no number is cut to 64 bits or rounded
+        to a whole one."""
         query = pair()
         self.assertEqual(query.memory(Order(("s", "r"), (5, 12))), 556)
         self.assertEqual(query.memory(Tree(("r", "s"), (Join(0, 1, 12),))), 507)
@@ -338,7 +338,7 @@ class Numbers(unittest.TestCase):
 
 
 class Typed(unittest.TestCase):
-    """typed.py is a caller: mypy takes it, and finds fault with each line that says so there."""
+    """typed.py calls the package. mypy finds errors in just those of its lines that end in `# wrong`."""
 
     def test_mypy(self) -> None:
         if shutil.which("mypy") is None:

@@ -14,7 +14,7 @@ from calls import MOST_BUDGET, MOST_ROWS, NO_VALUES, Answer, Call, Status, answe
 
 _E = TypeVar("_E")
 Pair = Tuple[int, int]
-# An entry and a column, twice; and of a list an entry, a column, its first run and how many it has.
+# Of an equality an entry and a column, twice. Of a list an entry, a column, its first run and how many runs it has.
 Equality = Tuple[int, int, int, int]
 
 WRONG_LISTS = [
@@ -60,7 +60,7 @@ def bounds_of(
 
 class WrongValues(unittest.TestCase):
     def check(self, made: list[tuple[Call, int, Optional[int]]]) -> None:
-        """Triples of a call, its status and its detail. Nothing else is answered."""
+        """`made` has triples of a call, its status and its detail. Nothing else may be answered."""
         for (call, status, detail), got in zip(made, answers([call for call, _, _ in made])):
             self.assertEqual(got, Answer(status, detail, []), call)
 
@@ -203,7 +203,7 @@ class WrongValues(unittest.TestCase):
         )
 
     def test_what_comes_first(self) -> None:
-        """Where several statuses apply, the one that is told is the first of the header's list."""
+        """If several statuses apply, the first of the header's list is answered."""
         wrong: dict[str, Any] = dict(
             rows=[MOST_ROWS + 1] * 13, equalities=[(0, 0, 0, 0)] * 257, lists=[(0, 0, 9, 9)], runs=[(0, 0)], room=0
         )
@@ -310,7 +310,7 @@ class Memory(unittest.TestCase):
         self.assertGreater(told, 10)
 
     def test_python(self) -> None:
-        """A column for which a process of its own has no memory."""
+        """A process of its own, with too little memory for a column."""
         if not sys.platform.startswith("linux"):
             self.skipTest("limits of memory are those of Linux")
         done = subprocess.run([sys.executable, "-c", WITHOUT_MEMORY], capture_output=True, text=True, timeout=120)

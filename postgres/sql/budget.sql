@@ -1,4 +1,4 @@
--- x stands 5, 3 and 1 times in r, and 3, 2, 2 and 1 times in s: at most 5 * 3 + 3 * 2 + 1 * 2 rows join.
+-- The values of x occur 5, 3 and 1 times in r, and 3, 2, 2 and 1 times in s: at most 5 * 3 + 3 * 2 + 1 * 2 rows join.
 CREATE TABLE r (x integer, c text);
 INSERT INTO r VALUES (8, 'a'), (8, 'a'), (8, 'a'), (8, 'b'), (8, 'b'), (2, 'a'), (2, NULL), (2, 'a'), (5, 'b'), (NULL, 'b');
 CREATE TABLE s (x bigint);
@@ -22,7 +22,7 @@ SELECT count(*) FROM r;
 -- EXPLAIN runs nothing, so it isn't refused. EXPLAIN ANALYZE is.
 EXPLAIN (COSTS OFF) SELECT FROM r JOIN s USING (x);
 EXPLAIN (ANALYZE, COSTS OFF) SELECT FROM r JOIN s USING (x);
--- With a condition: of the rows with a, x stands 3 and 2 times, of those with b 2, 1 and 0 times.
+-- With a condition: in the rows with a the values of x occur 3 and 2 times, in those with b 2, 1 and 0 times.
 SET safebound.budget = 12;
 SELECT count(*) FROM r JOIN s USING (x) WHERE c = 'b';
 SELECT count(*) FROM r JOIN s USING (x) WHERE c = 'a';
@@ -43,7 +43,7 @@ EXECUTE without_budget('a');
 SET safebound.budget = 12;
 EXECUTE without_budget('a');
 RESET plan_cache_mode;
--- Cursors, functions' own queries, and what writes.
+-- Cursors, queries within functions, and statements that write.
 BEGIN;
 DECLARE c CURSOR FOR SELECT FROM r JOIN s USING (x);
 ROLLBACK;
@@ -55,7 +55,7 @@ SELECT in_sql();
 CREATE TABLE made AS SELECT FROM r JOIN s USING (x);
 CREATE TABLE made AS SELECT FROM r JOIN s USING (x) WITH NO DATA;
 DELETE FROM r USING s WHERE r.x = s.x;
--- Joins in parts of a query.
+-- Joins in subqueries, WITH and UNION.
 SELECT (SELECT count(*) FROM r JOIN s USING (x));
 WITH w AS MATERIALIZED (SELECT FROM r JOIN s USING (x)) SELECT count(*) FROM w;
 SELECT count(*) FROM (SELECT x FROM r JOIN s USING (x) OFFSET 0) AS o;

@@ -19,7 +19,7 @@ SELECT rows_of('SELECT FROM r WHERE c = ''a''') = 5 AS one_value, rows_of('SELEC
 SELECT rows_of('SELECT FROM r WHERE c IN (''a'', ''b'')') = 9 AS two_values, rows_of('SELECT FROM r WHERE c IS NULL OR c = ''b''') = 5 AS either;
 -- In the rows of r with c = 'a', the values of x occur 3 and 2 times.
 SELECT rows_of('SELECT FROM r JOIN s USING (x) WHERE c = ''a''') = 3 * 3 + 2 * 2 AS filtered;
--- The row of table one matches five rows of r.
+-- The one row of the table `one` matches five rows of r.
 CREATE TABLE one (x integer);
 INSERT INTO one VALUES (8);
 SELECT safebound.keep('one') > 0 AS one;

@@ -8,7 +8,7 @@ SELECT safebound.keep('r', accuracy => 65);
 SELECT safebound.forget('r'), safebound.forget('r');
 SELECT count(*) FROM safebound.kept;
 DROP TABLE r;
--- What doesn't fit into the memory is sorted by PostgreSQL, and the lists are the same.
+-- Numbers that don't fit into the memory are sorted by PostgreSQL, and the lists are the same.
 CREATE TABLE wide AS SELECT i % 40000 AS x, i * 7 % 1009 AS c, CASE WHEN i % 50 > 0 THEN i % 300 END AS n FROM generate_series(1, 50000) i;
 SELECT safebound.keep('wide') > 0 AS wide;
 CREATE TEMP TABLE in_memory AS SELECT * FROM safebound.kept_lists;

@@ -17,7 +17,7 @@ ALTER TABLE parts ATTACH PARTITION part_2 FOR VALUES IN (2);
 CREATE TABLE part_3 PARTITION OF parts FOR VALUES IN (3, 4) PARTITION BY LIST (k);
 CREATE TABLE part_3a PARTITION OF part_3 FOR VALUES IN (3);
 CREATE TABLE part_3b PARTITION OF part_3 FOR VALUES IN (4);
--- x stands 4 times in three parts, and 2 times; NULL stands once. 'a' stands in 5 of 8 rows.
+-- The values of x occur 4 times (in three parts), 2 times and once; NULL occurs once. 'a' is in 5 of 8 rows.
 INSERT INTO parts VALUES (8, 'a', 1), (8, 'a', 2), (8, 'b', 2), (8, 'a', 3), (2, 'a', 4), (2, 'b', 4), (NULL, 'b', 1), (5, 'a', 1);
 CREATE TABLE s (x integer);
 INSERT INTO s VALUES (8), (8), (8), (2), (5), (1);
@@ -28,16 +28,16 @@ SELECT most('SELECT FROM parts') = 8 AS whole, most('SELECT FROM parts WHERE c =
        most('SELECT FROM parts JOIN s USING (x) WHERE k = 4') = 2 * 3 AS one_part_joined, most('SELECT FROM parts WHERE k > 2') = 3 AS parts_of_its_own,
        most('SELECT FROM parts p LEFT JOIN s USING (x)') = 15 + 8 AS left_join, most('SELECT FROM parts p JOIN parts q USING (x)') = 4 * 4 + 2 * 2 + 1 AS self;
 SELECT count(*) FROM parts JOIN s USING (x);
--- A part that is named has statistics of its own, or none.
+-- A part that a query names has statistics of its own, or none.
 SELECT relations, statistics FROM safebound.bounds('SELECT FROM part_2 JOIN s USING (x)');
 SELECT relations, bound, statistics FROM safebound.bounds('SELECT FROM parts JOIN s USING (x) WHERE k = 4');
--- An index for each row of another table: the plan has no fewer rows than the join.
+-- An index scan for each row of another table: the plan has no fewer rows than the join.
 CREATE INDEX ON parts (x);
 SET enable_hashjoin = off; SET enable_mergejoin = off; SET enable_seqscan = off;
 SELECT most('SELECT FROM parts JOIN s USING (x)') = 15 AS indexed;
 RESET enable_hashjoin; RESET enable_mergejoin; RESET enable_seqscan;
 
--- Rows that come, by the whole, by a part, by a part of a part, and between parts.
+-- Rows that come through the whole, through a part, through a part of a part, and from one part to another.
 SELECT safebound.watch('parts') > 0 AS parts, safebound.watch('s') > 0 AS s, known('parts');
 SELECT triggers('parts') AS parts, triggers('part_1') AS part_1, triggers('part_3') AS part_3, triggers('part_3a') AS part_3a;
 INSERT INTO parts VALUES (8, 'a', 1), (9, 'a', 4);
@@ -71,7 +71,7 @@ SET safebound.budget = 1;
 SELECT count(*) FROM parts JOIN s USING (x);
 SET safebound.budget = 1000;
 SELECT count(*) FROM parts JOIN s USING (x);
--- Queries in the midst of a statement on a part.
+-- Queries within a statement on a part.
 CREATE FUNCTION asks() RETURNS trigger LANGUAGE plpgsql AS $$ BEGIN PERFORM count(*) FROM parts JOIN s USING (x); RETURN NEW; END $$;
 CREATE TRIGGER asks AFTER INSERT ON part_2 FOR EACH ROW EXECUTE FUNCTION asks();
 \set SHOW_CONTEXT never
@@ -80,7 +80,7 @@ INSERT INTO part_1 (x, k) VALUES (1, 1);
 DROP TRIGGER asks ON part_2;
 RESET safebound.budget;
 
--- A part that comes or goes makes the whole unknown, until it is watched anew;
+-- If a part comes or goes, the whole is unknown until it is watched anew.
 CREATE TABLE part_5 PARTITION OF parts FOR VALUES IN (5);
 SELECT known('parts'), safebound.watch('parts') > 0 AS watched, known('parts'), triggers('part_5') AS part_5;
 DROP TABLE part_5;
@@ -94,12 +94,12 @@ SET safebound.budget = 1000000;
 SELECT count(*) FROM parts JOIN s USING (x);
 RESET safebound.budget;
 SELECT known('parts'), safebound.watch('parts') > 0 AS watched, known('parts'), most('SELECT FROM parts') = (SELECT count(*) FROM parts) AS exact;
--- one of a part too.
+-- The same for a part of a part.
 ALTER TABLE part_3 DETACH PARTITION part_3b;
 SELECT known('parts'), safebound.watch('parts') > 0 AS watched, known('parts');
 ALTER TABLE part_3 ATTACH PARTITION part_3b FOR VALUES IN (4);
 SELECT known('parts'), safebound.watch('parts') > 0 AS watched, known('parts');
--- A trigger of a part that is dropped, rows that are written anew, by the whole too.
+-- The same if a trigger of a part is dropped, or if ALTER TABLE on the whole writes rows anew.
 DROP TRIGGER safebound_insert ON part_3a;
 SELECT known('parts'), safebound.watch('parts') > 0 AS watched, known('parts');
 DROP TRIGGER safebound_applied ON part_3a;
@@ -129,7 +129,7 @@ INSERT INTO things SELECT CASE WHEN i IN (7, 8) THEN 1 ELSE 2 + i % 2 END, i FRO
 SELECT safebound.watch('kinds') > 0 AS kinds, safebound.watch('things') > 0 AS things;
 SELECT most('SELECT FROM things t JOIN kinds ON t.kind = id WHERE kinds.kind = ''rare''') = 2 AS rare;
 DROP TABLE things, kinds;
--- The counted number of distinct values, where ANALYZE has a lower one of the whole.
+-- The counted number of distinct values is used, though ANALYZE has a lower one for the whole.
 CREATE TABLE many (k integer, x integer) PARTITION BY HASH (k);
 CREATE TABLE many_0 PARTITION OF many FOR VALUES WITH (MODULUS 2, REMAINDER 0);
 CREATE TABLE many_1 PARTITION OF many FOR VALUES WITH (MODULUS 2, REMAINDER 1);

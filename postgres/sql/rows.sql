@@ -16,7 +16,7 @@ SELECT known('r');
 SELECT safebound.watch('r') > 0 AS r, safebound.watch('s') > 0 AS s;
 SELECT known('r'), most('SELECT FROM r'), most('SELECT FROM r JOIN s USING (x)'), most('SELECT FROM r WHERE c = ''a''');
 
--- INSERT: of the three new rows two have one value. x stood 3 and 1 times, now at most 5 and 2 times.
+-- INSERT: two of the three new rows have one value. The values of x occurred 3 and 1 times, now at most 5 and 2 times.
 INSERT INTO r VALUES (1, 'a'), (1, 'b'), (8, 'c');
 SELECT most('SELECT FROM r') = 8 AS r, most('SELECT FROM r JOIN s USING (x)') = 7 AS joined, most('SELECT FROM r WHERE c = ''a''') = 6 AS a, deltas('r');
 -- UPDATE of a column that isn't kept brings nothing, and of a kept one brings the row under its new values.
@@ -50,7 +50,7 @@ UPDATE s SET x = x + 5000 WHERE x IN (1, 200);
 SELECT most('SELECT FROM child') = 3 + 3 AS cascaded, deltas('child');
 UPDATE s SET x = x - 5000 WHERE x IN (5001);
 SELECT most('SELECT FROM child') = 3 + 3 + 1 AS cascaded, deltas('child');
--- DELETE and TRUNCATE need nothing.
+-- DELETE and TRUNCATE write no delta.
 DELETE FROM r WHERE x = 7;
 SELECT most('SELECT FROM r') = 11 AS r;
 TRUNCATE child;
@@ -70,7 +70,7 @@ INSERT INTO r VALUES (6, 'z');
 RESET session_replication_role;
 SELECT most('SELECT FROM r') = 12 AS replica;
 
--- Lists along a foreign key: they hold while what is referred to is as it was, and take the rows that came to the table itself.
+-- Lists along a foreign key are used while the referred table is unchanged. Rows that came to the referring table are added to them.
 CREATE TABLE kinds (id integer PRIMARY KEY, kind text, note text);
 INSERT INTO kinds VALUES (1, 'rare'), (2, 'usual'), (3, 'usual');
 CREATE TABLE things (kind integer REFERENCES kinds);
@@ -82,7 +82,7 @@ SELECT filters FROM safebound.kept_table WHERE relation = 'things'::regclass;
 CREATE VIEW rare AS SELECT FROM things t JOIN kinds k ON t.kind = k.id WHERE k.kind = 'rare';
 SELECT most('SELECT FROM rare') = 1 AS one;
 INSERT INTO things VALUES (1), (2);
--- One kind is rare, and stood once: it stands at most twice.
+-- One kind is rare, and occurred once. It now occurs at most twice.
 SELECT most('SELECT FROM rare') = 2 AS twice;
 -- Another kind is rare now, without a statement on things: the lists along the reference aren't taken until things is counted.
 UPDATE kinds SET kind = 'rare' WHERE id = 2;
@@ -94,7 +94,7 @@ SELECT safebound.fold('things') > 0 AS things;
 SELECT count(*), most('SELECT FROM rare') = count(*) AS exact FROM rare;
 RESET safebound.budget;
 
--- Queries in the midst of a statement: the table isn't known to them, since they see rows that aren't counted yet.
+-- Queries within a statement: the table isn't known to them, since they see rows that aren't counted yet.
 SELECT safebound.fold('r') > 0 AS folded;
 CREATE FUNCTION asks() RETURNS trigger LANGUAGE plpgsql AS $$ BEGIN PERFORM count(*) FROM r JOIN s USING (x); RETURN NEW; END $$;
 CREATE TRIGGER asks AFTER INSERT ON r FOR EACH ROW EXECUTE FUNCTION asks();
@@ -103,14 +103,14 @@ SET safebound.budget = 1000000;
 INSERT INTO r VALUES (6, 'z');
 SELECT count(*) FROM r JOIN s USING (x);
 DROP TRIGGER asks ON r;
--- A trigger that asks once all rows are counted is answered.
+-- A trigger that asks after all rows are counted gets an answer.
 CREATE TRIGGER z_asks AFTER INSERT ON r FOR EACH STATEMENT EXECUTE FUNCTION asks();
 INSERT INTO r VALUES (6, 'z');
 DROP TRIGGER z_asks ON r;
 RESET safebound.budget;
 SELECT known('r'), deltas('r');
 
--- What no trigger sees makes the table unknown, until it is watched anew: a trigger that is disabled, also if it is enabled again;
+-- What no trigger sees makes the table unknown until it is watched anew. So does a trigger that is disabled, even if it is enabled again.
 ALTER TABLE r DISABLE TRIGGER safebound_insert;
 SELECT known('r');
 SET safebound.budget = 1000000;
@@ -121,19 +121,19 @@ SELECT known('r');
 SELECT safebound.watch('r') > 0 AS watched, known('r');
 ALTER TABLE r ENABLE TRIGGER safebound_insert;
 SELECT known('r');
--- counted anew without its triggers it isn't watched;
+-- If the table is counted anew without its triggers, it isn't watched.
 SELECT safebound.keep('r') > 0 AS kept, known('r');
 SELECT safebound.watch('r') > 0 AS watched, known('r');
 DROP TRIGGER safebound_update ON r;
 SELECT known('r'), safebound.watch('r') > 0 AS watched, known('r');
--- rows that are written anew, with a type or without;
+-- ALTER TABLE writes rows anew, with the same type or with another one.
 ALTER TABLE r ALTER x TYPE integer USING x % 2;
 SELECT known('r'), safebound.watch('r') > 0 AS watched, known('r');
 ALTER TABLE r ALTER x TYPE bigint;
 SELECT known('r'), safebound.watch('r') > 0 AS watched, known('r');
 ALTER TABLE r ADD more integer;
 SELECT known('r') AS "a new column changes nothing";
--- a table above that brings rows.
+-- The table inherits from another one, through which rows may come.
 CREATE TABLE above (LIKE r);
 ALTER TABLE r INHERIT above;
 SELECT known('r'), safebound.watch('r') > 0 AS watched, known('r');
@@ -143,13 +143,13 @@ SELECT safebound.watch('above') > 0 AS watched, known('above'), known('r');
 SELECT safebound.unwatch('above'), known('above'), known('r'), safebound.forget('above');
 UPDATE above SET c = 'from above';
 SELECT deltas('r'), most('SELECT FROM r') = 2 * (SELECT count(*) FROM r) AS twice;
--- The delta of such rows has no values, so all of them may have one value.
+-- The delta of rows that come through the table above has no values, so all of them may have one value.
 CREATE TABLE one (x integer);
 INSERT INTO one VALUES (1), (2), (3), (4);
 SELECT safebound.watch('one') > 0 AS watched, most('SELECT FROM r JOIN one USING (x)') = (SELECT count(x) + count(*) FROM r) AS all_of_one;
 ALTER TABLE r NO INHERIT above;
 SELECT known('r'), safebound.watch('r') > 0 AS watched, known('r');
--- Partitions: rows that are put into the table above, and straight into a partition.
+-- Partitions: rows that are inserted into the table above, and straight into a partition.
 CREATE TABLE parts (x integer, c text) PARTITION BY RANGE (x);
 CREATE TABLE part_a PARTITION OF parts FOR VALUES FROM (0) TO (100);
 INSERT INTO parts VALUES (1), (2);
@@ -168,7 +168,7 @@ CREATE MATERIALIZED VIEW m AS SELECT * FROM r;
 SELECT safebound.watch('m') > 0 AS watched, known('m');
 REFRESH MATERIALIZED VIEW m;
 SELECT known('m'), safebound.watch('m') > 0 AS watched, known('m');
--- A table that is dropped and made anew has no statistics, under whatever number.
+-- No statistics are left of a table that is dropped.
 CREATE TABLE gone (x integer);
 SELECT safebound.watch('gone') > 0 AS watched;
 SELECT 'gone'::regclass::oid AS gone \gset
@@ -209,7 +209,7 @@ SELECT most('SELECT FROM torn');
 SELECT contexts - :before AS more FROM memory;
 DROP VIEW memory;
 DROP TABLE torn;
--- Only its owner counts and watches a table; who writes to it needs no right for it.
+-- Only its owner counts and watches a table; a user who writes to it needs no right on the extension's tables.
 CREATE ROLE rows_user;
 GRANT USAGE ON SCHEMA safebound TO rows_user;
 GRANT INSERT ON r TO rows_user;
@@ -221,7 +221,7 @@ INSERT INTO r VALUES (6, 'z');
 SELECT * FROM safebound.kept_delta;
 RESET ROLE;
 SELECT deltas('r');
--- Where no new snapshot can be taken, a watched table isn't counted.
+-- If no new snapshot can be taken, a watched table isn't counted.
 BEGIN ISOLATION LEVEL REPEATABLE READ;
 SELECT safebound.fold('r');
 ROLLBACK;

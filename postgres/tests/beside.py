@@ -5,8 +5,8 @@
 For each of SETS sets of tables QUERIES queries are asked while three other sessions insert, update, delete, copy,
 truncate and fold. Half of them run in REPEATABLE READ, where the plan's numbers are bounds of the snapshot in which it
 runs. The others are prepared and run in READ COMMITTED under a budget that is near their bound: what is admitted has no
-join with more rows. With --unwatched nobody follows the rows that come, which shows what the test would see; joins
-above their bound are expected then.
+join with more rows. With --unwatched nobody follows the rows that come. Then joins have to be above their bound, which
+shows that the test would see it.
 """
 
 from __future__ import annotations
@@ -99,7 +99,7 @@ class Writer(threading.Thread):
 
 
 class Asking:
-    """The session that asks, and what it saw."""
+    """The session that asks, and how often it saw what."""
 
     def __init__(self, connection: Connection, r: random.Random, watched: bool) -> None:
         self.connection, self.r, self.watched = connection, r, watched

@@ -183,7 +183,7 @@ def apply(edit: Edit, folder: Path) -> None:
     text = file.read_text()
     for old, new in edit.edits:
         if text.count(old) != 1:
-            raise SystemExit(f"{edit.name}: stands {text.count(old)} times in {edit.file}: {old}")
+            raise SystemExit(f"{edit.name}: found {text.count(old)} times in {edit.file}: {old}")
         text = text.replace(old, new)
     file.write_text(text)
 

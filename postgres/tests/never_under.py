@@ -4,9 +4,9 @@
 
 The server at URL has the extension installed. For each of TABLES sets of tables QUERIES queries are planned with
 safebound.estimates = bound and run by EXPLAIN ANALYZE, which counts the rows of each node. Tables are plain,
-partitioned or have children; queries read them alone, by a view, a subquery or WITH. Where a join reads what isn't
-known, PostgreSQL's own number stands, and isn't looked at. The statements of a set are sent in few texts, so that
-thousands of sets take no longer than their queries do.
+partitioned or have children; queries read them alone, by a view, a subquery or WITH. If a join reads what isn't known,
+the plan has PostgreSQL's own number for it, which isn't looked at. The statements of a set are sent in few texts, so
+that thousands of sets take no longer than their queries do.
 """
 
 from __future__ import annotations
@@ -58,9 +58,9 @@ DO $$ BEGIN CREATE DOMAIN small AS integer CHECK (VALUE < 100000); EXCEPTION WHE
 
 
 def limited(queries: str) -> str:
-    """Queries with a limit of time, since some would take minutes; the statements that make tables have none. Where a
-    query ends just as the limit is reached, PostgreSQL cancels the statement after it, so the last one stands in the
-    same text."""
+    """Queries with a limit of time, since some would take minutes; the statements that make tables have none. If a
+    query ends just as the limit is reached, PostgreSQL cancels the statement after it. So the statement that lifts the
+    limit is in the same text."""
     return f"SET LOCAL statement_timeout = '1s'; {queries}; SET LOCAL statement_timeout = 0"
 
 
@@ -310,15 +310,16 @@ def is_known(plan: Plan, known: set[str]) -> bool:
 
 
 def is_read_again(join: Plan, below: Plan) -> bool:
-    """Whether rows are counted as often as a join reads them: a merge join goes back in a scan to where it has been,
-    also through a Result, which looks once at a condition without columns."""
+    """Whether the rows below are counted as often as the join reads them again. A nested loop reads its inner side for
+    each outer row. A merge join may go back in its inner scan, also through a Result, which tests a condition without
+    columns once."""
     again = {"Nested Loop": True, "Merge Join": below["Node Type"] in (*SCANS, *APPENDS, "Result")}
     return below["Parent Relationship"] == "Inner" and again.get(join["Node Type"], False)
 
 
 def nodes(plan: Plan, known: set[str], repeated: bool = False) -> Iterator[Plan]:
-    """The scans and joins whose bound stands for all of their rows, which aren't repeated for each row of others. Parts
-    that are read together have one bound, as a whole."""
+    """The scans and joins whose bound is for all rows that they have: those that aren't repeated for each row of
+    others. Parts that are read together have one bound, as a whole."""
     kind = plan["Node Type"]
     if not repeated and plan["Actual Loops"] == 1 and kind in (*JOINS, *SCANS, *APPENDS) and is_known(plan, known):
         yield plan
@@ -365,7 +366,7 @@ class Counting:
             print(text, error)
 
     def ask(self, asked: list[Asked]) -> None:
-        """Queries in one text. Where one of them isn't run, each goes out by itself."""
+        """Sends queries in one text. If one of them isn't run, each is sent by itself."""
         explain = "EXPLAIN (ANALYZE, TIMING OFF, FORMAT JSON)"
         try:
             cursor = self.connection.execute(limited("; ".join(f"{explain} {text}" for text, _ in asked)))

@@ -2,8 +2,8 @@
 
     postgres/tests/sanitized.py
 
-PostgreSQL itself isn't built so: what is seen is the extension's stack and globals, and memory that it or the library
-takes by malloc.
+PostgreSQL itself isn't built like that. So faults are seen in the extension's stack and globals, and in memory that the
+extension or the library takes by malloc.
 """
 
 from __future__ import annotations
@@ -22,9 +22,10 @@ sys.path[:0] = [str(HERE.parent)]
 from installed import SETTINGS, Alone, lay_server
 
 FLAGS = "-fno-sanitize=alignment -fno-sanitize-recover=undefined"
-# AddressSanitizer starts at the first malloc and looks for this function. If it is missing, it asks for the error's
-# text, which is translated. If the first malloc is itself of the C library's translations, their lock is then released
-# twice, and whoever takes it next waits forever.
+# AddressSanitizer starts at the first malloc and looks for this function. If the function is missing, AddressSanitizer
+# asks the C library for the text of that error, and the C library translates the text. If the first malloc was called
+# by the C library's translation code, the lock of that code is then released twice, and the next one to take it waits
+# forever.
 DEMANGLES_NOTHING = "char *swift_demangle(void) { return 0; }"
 
 
@@ -33,14 +34,14 @@ def libraries(root: str) -> str:
     words = ["gcc", "-print-file-name=libasan.so"]
     sanitizer = subprocess.run(words, check=True, text=True, stdout=subprocess.PIPE).stdout.strip()
     own = os.path.join(root, "demangles_nothing.so")
-    compiled = ["gcc", "-shared", "-fPIC", "-x", "c", "-", "-o", own]
-    subprocess.run(compiled, input=DEMANGLES_NOTHING, check=True, text=True)
+    compiling = ["gcc", "-shared", "-fPIC", "-x", "c", "-", "-o", own]
+    subprocess.run(compiling, input=DEMANGLES_NOTHING, check=True, text=True)
     return f"{sanitizer}:{own}"
 
 
 def starts(preload: dict[str, str]) -> bool:
-    """Whether PostgreSQL comes up below AddressSanitizer. It may hang in a library of the machine's, long before the
-    extension."""
+    """Whether the program postgres runs under AddressSanitizer (`postgres -V`). It may hang in a library of the
+    machine's, long before the extension."""
     try:
         done = subprocess.run(["postgres", "-V"], stdout=subprocess.DEVNULL, env={**os.environ, **preload}, timeout=60)
         return done.returncode == 0
@@ -59,7 +60,7 @@ def main() -> int:
         preload = {"LD_PRELOAD": libraries(root), "ASAN_OPTIONS": "detect_leaks=0:abort_on_error=1"}
         whole = starts(preload)
         if not whole:
-            print("PostgreSQL doesn't start below AddressSanitizer: only undefined behaviour is looked for", flush=True)
+            print("PostgreSQL doesn't start under AddressSanitizer: only undefined behaviour is looked for", flush=True)
         options = f"COPT=-fsanitize={'address,' if whole else ''}undefined {FLAGS}"
         for target in ("all", "install"):
             subprocess.run(["make", "-s", "-C", str(folder), options, target], check=True)
@@ -69,7 +70,7 @@ def main() -> int:
             failed = subprocess.run(["make", "-s", "-C", str(folder), "installcheck"], env=reach).returncode
             with open(os.path.join(server.folder, "log"), encoding="utf-8", errors="replace") as log:
                 found = [line for line in log if "Sanitizer" in line or "runtime error" in line]
-    print("".join(found) or f"no fault of {'memory' if whole else 'this kind'} was seen")
+    print("".join(found) or f"no {'fault of memory and no ' if whole else ''}undefined behaviour was seen")
     return 1 if failed or found else 0
 
 

@@ -19,7 +19,7 @@ HERE = os.path.dirname(os.path.abspath(__file__))
 sys.path[:0] = [os.path.join(HERE, "..")]
 from installed import Alone, Installed, programs
 
-# No library in each session: tests say themselves where it is loaded.
+# The library isn't loaded in each session: tests say themselves where it is.
 SETTINGS = ("session_preload_libraries=", "wal_level=logical", "max_prepared_transactions=2",
             "wal_receiver_status_interval=1")
 JOIN = "SELECT count(*) FROM r JOIN s USING (x)"
@@ -103,7 +103,7 @@ class Loaded(Connected):
                 pass
             self.refused(asker)
 
-    def test_a_user_can_begin_without_no_library(self) -> None:
+    def test_no_user_can_begin_without_the_library(self) -> None:
         user = self.role("session_preload_libraries = 'safebound'", "safebound.budget = 9999")
         with self.assertRaises(psycopg.OperationalError):
             self.connect(user, options="-c session_preload_libraries=")
@@ -168,7 +168,7 @@ class Running(Connected):
 
 class Restored(Connected):
     def test_a_dump(self) -> None:
-        """Statistics aren't dumped: what is restored isn't known, takes rows, and is watched anew."""
+        """Statistics aren't dumped: a restored table isn't known, takes rows, and can be watched anew."""
         words = [os.path.join(programs() or "", "pg_dump"), server.url]
         dump = subprocess.run(words, check=True, capture_output=True, text=True).stdout
         self.assertIn("safebound_insert", dump)
@@ -230,7 +230,7 @@ class Replicated(Connected):
         self.applied()
 
     def test_what_a_replica_applies_to_parts(self) -> None:
-        """Rows come to the whole there, and are put into a part."""
+        """A replica applies rows to the partitioned table, which puts them into a part."""
         self.subscriber.execute("DROP TABLE r; CREATE TABLE r (x integer) PARTITION BY HASH (x)")
         for i in range(2):
             values = f"VALUES WITH (MODULUS 2, REMAINDER {i})"

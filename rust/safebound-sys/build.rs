@@ -1,7 +1,7 @@
-//! Finds the library: in the folder that SAFEBOUND_LIBRARY_DIR names, and then no other; by pkg-config, where `make install`
-//! laid it; or in a clone of the repository, where `make library` leaves it. The archive is taken where it is there, so
-//! that the program needs no library when it runs; else the shared object. With the feature `command` the library for the
-//! whole program is taken from the same folder.
+//! Finds the library. If SAFEBOUND_LIBRARY_DIR names a folder, it is looked for there and nowhere else. Otherwise pkg-config
+//! finds it where `make install` put it, or it is in a clone of the repository, where `make library` leaves it. The archive is
+//! taken if it is there, so that the program needs no library when it runs, and otherwise the shared object. With the feature
+//! `command` the library for the whole program is taken from the same folder.
 
 use std::env;
 use std::path::{Path, PathBuf};
@@ -37,7 +37,7 @@ fn folder() -> PathBuf {
     })
 }
 
-/// What pkg-config says of this version. Another version's statuses may mean something else.
+/// The folder where pkg-config finds the library of this version. Another version's statuses may mean something else.
 fn installed() -> Option<PathBuf> {
     let program = env::var_os("PKG_CONFIG").unwrap_or_else(|| "pkg-config".into());
     let package = format!("safebound = {}", env!("CARGO_PKG_VERSION"));

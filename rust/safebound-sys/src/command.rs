@@ -1,9 +1,9 @@
-//! The declarations of safebound_command.h, the whole program over files in memory. The feature `command` has them, and links
-//! libsafebound_command as well.
+//! The declarations of safebound_command.h, the whole program over files in memory. They are there with the feature `command`,
+//! which links libsafebound_command as well.
 
 use core::ffi::c_char;
 
-/// So many bytes.
+/// `length` bytes.
 #[repr(C)]
 #[derive(Clone, Copy, Debug)]
 pub struct safebound_text {
@@ -13,20 +13,20 @@ pub struct safebound_text {
     pub length: usize,
 }
 
-/// A file: its name and what it has.
+/// A file: its name and its bytes.
 #[repr(C)]
 #[derive(Clone, Copy, Debug)]
 pub struct safebound_file {
-    /// The name by which words and tables ask for it.
+    /// The name by which the words of the command line ask for it, or a table's name in lower case and .csv.
     pub name: safebound_text,
-    /// What it has.
+    /// Its bytes.
     pub bytes: safebound_text,
 }
 
 macro_rules! exits {
     ($($name:ident = $number:literal, $meaning:literal;)*) => {
         $(#[doc = $meaning] pub const $name: u32 = $number;)*
-        /// Each exit status by name, for tests beside the header.
+        /// Each exit status by name, for tests that compare them with the header.
         pub const EXITS: &[(&str, u32)] = &[$((stringify!($name), $number)),*];
     };
 }
@@ -42,14 +42,14 @@ exits! {
     SAFEBOUND_EXIT_BUDGET = 8, "The best plan passes the budget.";
     SAFEBOUND_EXIT_PAST_BITS = 9, "Each order has a level whose bound passes 128 bits.";
     SAFEBOUND_EXIT_WRITE = 10, "A room is too small.";
-    SAFEBOUND_EXIT_NO_MEMORY = 11, "Memory was wanting.";
+    SAFEBOUND_EXIT_NO_MEMORY = 11, "There was too little memory.";
     SAFEBOUND_EXIT_STATS = 14, "A text of statistics is refused, or lacks what the query needs.";
     SAFEBOUND_EXIT_WORDS = 15, "A word isn't UTF-8.";
     SAFEBOUND_EXIT_MEMORY_LIMIT = 16, "The plan's buffers take more bytes than --memory says.";
 }
 
 extern "C" {
-    /// Runs a command line over files, and writes the program's two streams into two rooms. The exit status.
+    /// Runs a command line over files, and writes the program's two streams into two rooms. Returns the exit status.
     pub fn safebound_command(
         words: *const safebound_text,
         words_length: usize,

@@ -3,7 +3,7 @@
 //!
 //! # Safety
 //!
-//! Of each call: a pointer is aligned and not null, also where its length is 0, and lies at as many elements as its length
+//! For each call: a pointer is aligned and not null, even if its length is 0, and points to as many elements as its length
 //! or its room says. What is written overlaps nothing else that the call gets, and no other thread changes what it reads.
 
 #![no_std]
@@ -26,28 +26,28 @@ pub const SAFEBOUND_MOST_ACCURACY: u64 = 64;
 pub const SAFEBOUND_MOST_ROWS: u64 = 1 << 48;
 /// The greatest budget, in rows.
 pub const SAFEBOUND_MOST_BUDGET: u64 = 1 << 59;
-/// A bound that stands for itself and for all that 64 bits don't tell: no bound is known.
+/// No bound is known. It also stands for every bound that 64 bits don't hold.
 pub const SAFEBOUND_NO_BOUND: u64 = u64::MAX;
-/// What stands in `first` of the list of a column in which no row has a value.
+/// What the list of a column in which no row has a value has as `first`.
 pub const SAFEBOUND_NO_VALUES: u64 = u64::MAX;
 
-/// What a call answers; the number behind `detail` goes with it.
+/// What a call answers. It says what the number is that the call writes to `*detail`.
 pub type safebound_status = u32;
 
 macro_rules! statuses {
     ($($name:ident = $number:literal, $meaning:literal;)*) => {
         $(#[doc = $meaning] pub const $name: safebound_status = $number;)*
-        /// Each status by name, for tests beside the header.
+        /// Each status by name, for tests that compare them with the header.
         pub const STATUSES: &[(&str, safebound_status)] = &[$((stringify!($name), $number)),*];
     };
 }
 
 statuses! {
-    SAFEBOUND_OK = 0, "`detail` is how many elements were written.";
+    SAFEBOUND_OK = 0, "`detail` is how many elements were written, or the number that the call is asked for.";
     SAFEBOUND_ROOM = 1, "The room is too small; `detail` is what is needed.";
-    SAFEBOUND_NO_MEMORY = 2, "Memory was wanting.";
-    SAFEBOUND_BUDGET = 3, "The best plan passes the budget; `detail` is the least that would do.";
-    SAFEBOUND_PAST_BITS = 4, "Each plan has a part without a bound.";
+    SAFEBOUND_NO_MEMORY = 2, "There was too little memory.";
+    SAFEBOUND_BUDGET = 3, "The best plan passes the budget; `detail` is the least budget that would do.";
+    SAFEBOUND_PAST_BITS = 4, "Each plan has a part without a bound, or the number has more than 64 bits.";
     SAFEBOUND_WORK = 5, "The work passes the limit; `detail` is the limit that would do.";
     SAFEBOUND_BAD_KEYS = 16, "`detail` is the number of keys.";
     SAFEBOUND_BAD_ACCURACY = 17, "`detail` is the accuracy.";
@@ -81,13 +81,13 @@ pub const SAFEBOUND_SEMI_JOIN: u64 = 4;
 /// The rows of the left side that are not joined.
 pub const SAFEBOUND_ANTI_JOIN: u64 = 5;
 
-/// So many keys stand in `degree` rows each.
+/// A number of keys, each of which stands in `degree` rows.
 #[repr(C)]
 #[derive(Clone, Copy, Debug, Default, PartialEq, Eq, Hash)]
 pub struct safebound_run {
     /// In how many rows each key stands.
     pub degree: u64,
-    /// How many keys these are.
+    /// How many keys there are.
     pub keys: u64,
 }
 
@@ -95,27 +95,27 @@ pub struct safebound_run {
 #[repr(C)]
 #[derive(Clone, Copy, Debug, Default, PartialEq, Eq, Hash)]
 pub struct safebound_equality {
-    /// From 0.
+    /// The number of the left entry, from 0.
     pub left_entry: u32,
-    /// Any number.
+    /// Any number that tells the columns of the left entry apart.
     pub left_column: u32,
-    /// From 0.
+    /// The number of the right entry, from 0.
     pub right_entry: u32,
-    /// Any number.
+    /// Any number that tells the columns of the right entry apart.
     pub right_column: u32,
 }
 
-/// The list of an entry's column: so many elements of `runs` of the call, from the element `first` on.
+/// The list of an entry's column: `length` elements of the call's `runs`, from the element `first` on.
 #[repr(C)]
 #[derive(Clone, Copy, Debug, Default, PartialEq, Eq, Hash)]
 pub struct safebound_list {
-    /// From 0.
+    /// The number of the entry, from 0.
     pub entry: u32,
-    /// As in the equalities.
+    /// The column's number, as in the equalities.
     pub column: u32,
     /// Its first element of `runs`, or `SAFEBOUND_NO_VALUES`.
     pub first: u64,
-    /// At least 1, or 0 where no row has a value.
+    /// How many runs it has: at least 1, or 0 if no row has a value.
     pub length: u64,
 }
 
@@ -141,7 +141,7 @@ pub struct safebound_join {
     pub bound: u64,
 }
 
-/// What a request for memory gives (safebound_memory.h): `at` counts where `given` is true.
+/// What a request for memory gives (safebound_memory.h): `at` is only looked at if `given` is true.
 #[repr(C)]
 #[derive(Clone, Copy, Debug)]
 pub struct rattle_memory {
@@ -229,7 +229,7 @@ extern "C" {
         detail: *mut u64,
     ) -> safebound_status;
 
-    /// The same, if its work is within a limit.
+    /// The bounds of all sets of entries, if the work is within a limit.
     pub fn safebound_bounds_within(
         rows: *const u64,
         entries: usize,
@@ -291,7 +291,7 @@ extern "C" {
         detail: *mut u64,
     ) -> safebound_status;
 
-    /// How many bytes they take for a join tree.
+    /// How many bytes these buffers take for a join tree.
     pub fn safebound_tree_memory(
         rows: *const u64,
         entries: usize,

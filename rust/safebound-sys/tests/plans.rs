@@ -1,4 +1,4 @@
-//! The header's examples of calls over bounds, which the crate `safebound` makes of queries only.
+//! The header's examples of calls over bounds. The crate `safebound` makes these calls over the bounds of a query alone.
 
 use safebound_sys::*;
 

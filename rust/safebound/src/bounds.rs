@@ -7,8 +7,8 @@ use safebound_sys as sys;
 use std::fmt;
 use std::sync::Arc;
 
-/// At most so many rows, or no bound: what 64 bits don't tell. No bound is the greatest, so that `bound <= Bound::Rows(n)` is
-/// true only where at most n rows are promised.
+/// At most so many rows, or no bound, if 64 bits don't hold the number. No bound is the greatest, so that
+/// `bound <= Bound::Rows(n)` is true only if at most n rows are promised.
 #[derive(Clone, Copy, Debug, PartialEq, Eq, Hash, PartialOrd, Ord)]
 pub enum Bound {
     /// At most so many rows.
@@ -18,7 +18,7 @@ pub enum Bound {
 }
 
 impl Bound {
-    /// The number of rows, where there is one.
+    /// The number of rows, if there is a bound.
     pub fn rows(self) -> Option<u64> {
         match self {
             Bound::Rows(rows) => Some(rows),
@@ -47,7 +47,7 @@ impl fmt::Display for Bound {
     }
 }
 
-/// What bounds are: the names of the entries, and a number for each set. Their plans share it.
+/// What `Bounds` are made of: the names of the entries, and a number for each set. Plans over these bounds share it.
 #[derive(Debug, PartialEq, Eq, Hash)]
 pub(crate) struct Known {
     entries: Vec<String>,
@@ -100,9 +100,9 @@ impl Bounds {
         Ok(self.of_set(set))
     }
 
-    /// The bound of the set whose bit i is 1 where entry i is in it. The empty set has bound 1.
+    /// The bound of a set, given as the number whose bit i is 1 if entry i is in the set. The empty set has bound 1.
     ///
-    /// A search for a join order asks this of each set that it looks at. It is no call of the library.
+    /// A search for a join order asks this for each set that it looks at. It reads a table and doesn't call the library.
     ///
     /// ```
     /// # use safebound::{Bound, Query};
@@ -116,7 +116,7 @@ impl Bounds {
     ///
     /// # Panics
     ///
-    /// Where a bit is of no entry.
+    /// If a bit is of no entry.
     pub fn of_set(&self, set: usize) -> Bound {
         Bound::of_number(self.0.numbers[set])
     }
@@ -126,13 +126,14 @@ impl Bounds {
         self.0.numbers.iter().enumerate().map(|(set, &number)| (set, Bound::of_number(number)))
     }
 
-    /// The best left-deep order: the least greatest level, then the least sum of levels, then the first by `entries`.
+    /// The best left-deep order: the least greatest level, then the least sum of levels, then the first by the numbers of its
+    /// entries.
     ///
     /// `budget` is the most rows that the bound of a level may say, 0 to 2^59.
     ///
     /// # Errors
     ///
-    /// [`Error::BudgetExceeded`] with the least budget that would do; [`Error::PastBits`] where each order has a level without
+    /// [`Error::BudgetExceeded`] with the least budget that would do; [`Error::PastBits`] if each order has a level without
     /// a bound; [`Error::BadBudget`], [`Error::OutOfMemory`].
     pub fn best_order(&self, budget: u64) -> Result<Order, Error> {
         let levels = calls::order(&self.0.numbers, budget).map_err(Error::from_refusal)?;
@@ -143,8 +144,8 @@ impl Bounds {
         })
     }
 
-    /// The best join tree of any shape: the least greatest bound of its joins, then their least sum. How ties end stands in
-    /// safebound.h.
+    /// The best join tree of any shape: the least greatest bound of its joins, then their least sum. safebound.h says how ties
+    /// are decided.
     ///
     /// `budget` is the most rows that the bound of a join may say, 0 to 2^59.
     ///
@@ -162,8 +163,8 @@ impl Bounds {
         Ok(Tree { entries: self.entries().to_vec(), joins, known: self.0.clone() })
     }
 
-    /// How many bytes the buffers of SafeBound's own engine take for an order of these entries: of each buffer its capacity times
-    /// the size of an element, and of each list of buffers its own. It is the same number on every machine.
+    /// How many bytes the buffers of SafeBound's own engine take for an order of these entries. Each buffer counts with its
+    /// capacity times the size of an element, and each list of buffers with its own. The number is the same on every machine.
     ///
     /// ```
     /// # use safebound::Query;
@@ -176,8 +177,8 @@ impl Bounds {
     ///
     /// # Errors
     ///
-    /// [`Error::BadPlan`] where other bounds made the order, or its entries or levels were changed; [`Error::PastBits`] where 64
-    /// bits don't tell the number.
+    /// [`Error::BadPlan`] if other bounds made the order, or if its entries or levels were changed; [`Error::PastBits`] if the
+    /// number has more than 64 bits.
     pub fn memory_of_order(&self, order: &Order) -> Result<u64, Error> {
         let levels = self.levels(order).ok_or(Error::BadPlan)?;
         calls::memory(&self.0.rows(), &levels).map_err(Error::from_refusal)
@@ -193,7 +194,7 @@ impl Bounds {
         calls::tree_memory(&self.0.rows(), &joins).map_err(Error::from_refusal)
     }
 
-    /// The levels of an order, where it is one of these bounds.
+    /// The levels of an order, if these bounds made it and it wasn't changed.
     fn levels(&self, order: &Order) -> Option<Vec<sys::safebound_level>> {
         let mut set = 0;
         let mut level = |(name, &bound): (&String, &u64)| {
@@ -207,7 +208,7 @@ impl Bounds {
         is_whole.then_some(levels)
     }
 
-    /// The joins of a tree, where it is one of these bounds.
+    /// The joins of a tree, if these bounds made it and it wasn't changed.
     fn joins(&self, tree: &Tree) -> Option<Vec<sys::safebound_join>> {
         let mut sets: Vec<usize> = (0..self.entries().len()).map(|entry| 1 << entry).collect();
         let mut node = |&Join { left, right, bound }: &Join| {

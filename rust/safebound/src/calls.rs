@@ -6,13 +6,13 @@ use crate::lists::Run;
 use safebound_sys as sys;
 use std::mem::{align_of, size_of};
 
-/// What a call answered in place of elements.
+/// The status and the detail of a call that was refused.
 pub(crate) struct Refusal {
     pub(crate) status: sys::safebound_status,
     pub(crate) detail: u64,
 }
 
-/// A type of which the library writes elements: plain numbers, so that any bytes are right.
+/// A type of which the library writes elements. It consists of plain numbers, so that any bytes are a right value.
 pub(crate) trait Element: Copy {}
 impl Element for u8 {}
 impl Element for u64 {}
@@ -20,12 +20,12 @@ impl Element for Run {}
 impl Element for sys::safebound_level {}
 impl Element for sys::safebound_join {}
 
-/// The elements that a call writes, with room for so many, and for more where the library asks for more.
+/// The elements that a call writes, with room for `room` elements, and for more if the library asks for more.
 ///
 /// # Safety
 ///
-/// The call takes the place, the room and the place of the detail, and hands them to a function of the library with the
-/// pointers and lengths of slices that live.
+/// The call gets pointers to the elements and to the detail, and the room. It has to hand them to a function of the library,
+/// with the pointers and lengths of slices that live.
 unsafe fn answer<E: Element>(
     mut room: usize,
     call: impl Fn(*mut E, usize, *mut u64) -> sys::safebound_status,
@@ -49,7 +49,7 @@ unsafe fn answer<E: Element>(
 }
 
 // SAFETY, of each call below: pointers and lengths are of slices, which are aligned, not null, and borrowed for the call. A
-// `Run` lies as a `safebound_run` does.
+// `Run` has the layout of a `safebound_run`.
 const _: () = assert!(size_of::<Run>() == size_of::<sys::safebound_run>());
 const _: () = assert!(align_of::<Run>() == align_of::<sys::safebound_run>());
 
@@ -243,7 +243,7 @@ fn text(bytes: &[u8]) -> sys::safebound_text {
     sys::safebound_text { bytes: bytes.as_ptr().cast(), length: bytes.len() }
 }
 
-/// Runs a command line, and puts into both vectors what was written, as far as they have room without growing.
+/// Runs a command line. Puts into both vectors what was written, as far as their capacity goes; they don't grow.
 #[cfg(feature = "command")]
 pub(crate) fn command(words: &[&[u8]], files: &[(&[u8], &[u8])], out: &mut Vec<u8>, notes: &mut Vec<u8>) -> Ended {
     let words: Vec<_> = words.iter().map(|word| text(word)).collect();

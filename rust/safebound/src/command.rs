@@ -10,9 +10,9 @@ const GROWS: usize = 8;
 
 /// A command line of the program, over files in memory.
 ///
-/// The words are those of its command line, without its own name; files go by the names by which words and tables ask for
-/// them. Both texts, the exit statuses and the limits are the program's: docs/USING.md and docs/ERRORS.md of the repository
-/// say them.
+/// The words are those of its command line, without its own name. A file has the name by which a word asks for it; a table's
+/// file has the table's name in lower case, and .csv. Both texts, the exit statuses and the limits are the program's:
+/// docs/USING.md and docs/ERRORS.md of the repository describe them.
 ///
 /// ```
 /// use safebound::Command;
@@ -37,7 +37,7 @@ pub struct Command<'a> {
 /// What a run answers.
 #[derive(Clone, Debug, PartialEq, Eq, Hash)]
 pub struct Output {
-    /// The program's exit status: 0 where it is done.
+    /// The program's exit status: 0 if the run is done.
     pub status: u32,
     /// What it wrote on standard output.
     pub out: Vec<u8>,
@@ -46,7 +46,7 @@ pub struct Output {
 }
 
 impl<'a> Command<'a> {
-    /// A command line over no files yet.
+    /// A command line, as yet without files.
     pub fn new<W: AsRef<[u8]> + ?Sized + 'a>(words: impl IntoIterator<Item = &'a W>) -> Command<'a> {
         Command { words: words.into_iter().map(AsRef::as_ref).collect(), files: Vec::new() }
     }
@@ -65,8 +65,8 @@ impl<'a> Command<'a> {
     ///
     /// # Errors
     ///
-    /// [`OutOfMemory`](Error::OutOfMemory) where there is no memory for both texts. Want of memory in the run itself is its
-    /// exit status 11.
+    /// [`OutOfMemory`](Error::OutOfMemory) if there is no memory for both texts. If the run itself has too little memory, its
+    /// exit status is 11.
     pub fn run(&self) -> Result<Output, Error> {
         let (mut out, mut notes) = (Vec::new(), Vec::new());
         let (mut room, mut notes_room) = (LEAST_OUT, LEAST_NOTES);
@@ -74,7 +74,7 @@ impl<'a> Command<'a> {
             out.try_reserve_exact(room).map_err(|_| Error::OutOfMemory)?;
             notes.try_reserve_exact(notes_room).map_err(|_| Error::OutOfMemory)?;
             let ended = calls::command(&self.words, &self.files, &mut out, &mut notes);
-            // A line that finds too little room is cut at any status.
+            // A line that doesn't fit into its room is cut, whatever the status.
             if ended.notes == notes.capacity() {
                 notes_room = notes.capacity().saturating_mul(GROWS);
             } else if ended.status == sys::SAFEBOUND_EXIT_WRITE && ended.out == out.capacity() {

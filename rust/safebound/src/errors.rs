@@ -1,4 +1,4 @@
-//! What a call answers in place of a result: one case for each status of the library.
+//! What a call answers in place of a result, with the names of the query and not its numbers.
 
 use crate::calls::Refusal;
 use crate::lists::Run;
@@ -38,7 +38,7 @@ pub enum WrongRun {
     Rises {
         /// The degree of the run before it.
         before: u64,
-        /// Its own.
+        /// Its own degree.
         degree: u64,
     },
     /// With it the list sums to more than 2^48 rows.
@@ -76,7 +76,7 @@ pub enum WrongList {
     UnknownEntry,
     /// It has no runs.
     NoRuns,
-    /// Its column has one already.
+    /// Its column has another list already.
     Repeated,
 }
 
@@ -96,7 +96,7 @@ pub enum WrongEquality {
 pub enum Error {
     /// The best plan passes the budget.
     BudgetExceeded {
-        /// The least budget that would do, in rows. It may be above 2^59, which no budget is.
+        /// The least budget that would do, in rows. It may be above 2^59, the greatest budget that is taken.
         least: u64,
     },
     /// The work passes the limit.
@@ -104,10 +104,10 @@ pub enum Error {
         /// The least limit that would do.
         least: u64,
     },
-    /// Each plan has a part without a bound: one that 64 bits don't tell.
+    /// Each plan has a part without a bound, or a number has more than 64 bits.
     PastBits,
-    /// Memory was wanting in the library, or for what it answers. Where Rust's own collections want it, as for the numbers
-    /// of values or the names of a query, the program ends as usual.
+    /// There was too little memory in the library, or for what it answers. If Rust's own collections have too little, as for
+    /// the numbers of values or the names of a query, the program ends as usual.
     OutOfMemory,
 
     /// There are more than 2^48 keys.
@@ -124,9 +124,9 @@ pub enum Error {
     BadRun {
         /// The run's number in its list, from 0.
         place: usize,
-        /// Which list of a query it is; nothing outside of a query.
+        /// The column whose list it is; `None` outside of a query.
         column: Option<Column>,
-        /// Which of these it is.
+        /// What is wrong with it.
         why: WrongRun,
     },
     /// As [`BadRun`](Error::BadRun), in the second of two lists.
@@ -138,7 +138,7 @@ pub enum Error {
     },
     /// What two lists make has more than 2^48 rows.
     BadSum {
-        /// How many.
+        /// How many rows it has.
         sum: u64,
     },
     /// A query has no entry, or more than twelve.
@@ -176,21 +176,21 @@ pub enum Error {
         left: Column,
         /// Its right side.
         right: Column,
-        /// Which of these it is.
+        /// What is wrong with it.
         why: WrongEquality,
     },
     /// A list is of an entry that isn't there, has no runs, or is the second of its column.
     BadList {
         /// The list's column.
         column: Column,
-        /// Which of these it is.
+        /// What is wrong with it.
         why: WrongList,
     },
     /// A column that an equality names has no list.
     MissingList {
         /// The equality's number, from 0.
         place: usize,
-        /// The column: its left side, if that has none.
+        /// The column without a list. If both sides have none, it is the left one.
         column: Column,
     },
     /// The budget is above 2^59.
@@ -198,9 +198,9 @@ pub enum Error {
         /// What it is.
         budget: u64,
     },
-    /// The order or the tree isn't one of these bounds: others made it, or its entries, nodes or numbers were changed.
+    /// The order or the tree isn't a plan over these bounds: others made it, or its entries, nodes or numbers were changed.
     BadPlan,
-    /// The library answers what this crate doesn't know, so it is of another version.
+    /// The library answers a status that this crate doesn't know, so it is of another version.
     OtherVersion {
         /// The status that it answered.
         status: u32,
@@ -208,7 +208,7 @@ pub enum Error {
 }
 
 impl Error {
-    /// A run that is refused in a list, of a query's column or outside of a query.
+    /// A run that is refused in the list of a query's column, or in a list outside of a query.
     pub(crate) fn bad_run(runs: &[Run], place: usize, column: Option<Column>) -> Error {
         Error::BadRun { place, column, why: WrongRun::of(runs, place) }
     }
@@ -223,7 +223,7 @@ impl Error {
         }
     }
 
-    /// What a refusal says, where its place needs no names and no runs.
+    /// What a refusal says, if its place needs no names and no runs.
     pub(crate) fn from_refusal(Refusal { status, detail }: Refusal) -> Error {
         let place = detail as usize;
         match status {

@@ -32,11 +32,11 @@ impl JoinKind {
     }
 }
 
-/// How many rows an outer join, a semi-join or an anti-join has at most: `inner` and what the join adds to it; of a semi-join
-/// the lesser of `inner` and `left`, and of an anti-join `left`.
+/// How many rows an outer join, a semi-join or an anti-join has at most. For an outer join that is the sum of `inner` and of the
+/// bound of each side that it keeps whole. For a semi-join it is the lesser of `inner` and `left`, and for an anti-join `left`.
 ///
 /// `inner` is a bound of the inner join of both sides by the same condition. `left` and `right` are bounds of all rows of the
-/// sides: an outer join and an anti-join keep rows that their own condition (ON) leaves out, also where it names that side alone.
+/// sides: an outer join and an anti-join keep rows that their own condition (ON) leaves out, even if it names that side alone.
 ///
 /// ```
 /// use safebound::{joined_rows, Bound, JoinKind};
@@ -48,7 +48,7 @@ impl JoinKind {
 ///
 /// # Errors
 ///
-/// [`Error::OtherVersion`] alone.
+/// Only [`Error::OtherVersion`].
 pub fn joined_rows(kind: JoinKind, inner: Bound, left: Bound, right: Bound) -> Result<Bound, Error> {
     let rows = calls::joined_rows(kind.number(), inner.number(), left.number(), right.number());
     rows.map(Bound::of_number).map_err(Error::from_refusal)

@@ -1,7 +1,7 @@
 //! Row bounds of joins that are never too low, and the best plans by them.
 //!
-//! Rust's side of SafeBound's library. What is known of a query is how many rows each entry has at most, and how often the
-//! values of each joined column repeat:
+//! SafeBound's library for Rust. You say of a query how many rows each entry has at most, and how often the values of each
+//! joined column repeat:
 //!
 //! ```
 //! use safebound::{degree_sequence, Bound, Query};

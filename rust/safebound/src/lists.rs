@@ -5,17 +5,17 @@ use crate::errors::Error;
 use std::collections::HashMap;
 use std::hash::Hash;
 
-/// So many keys of a column, each of which stands in so many rows.
+/// A number of keys of a column, each of which stands in `degree` rows.
 ///
 /// A list of runs says how often the values of a column repeat, the most frequent first: (5, 1), (2, 3) is one value in five
-/// rows and three values in two rows each. It is right where each number is at least 1, no degree is above the one before
+/// rows and three values in two rows each. A list is right if each number is at least 1, no degree is above the one before
 /// it, and all degrees sum to at most 2^48.
 #[repr(C)]
 #[derive(Clone, Copy, Debug, Default, PartialEq, Eq, Hash, PartialOrd, Ord)]
 pub struct Run {
     /// In how many rows each key stands.
     pub degree: u64,
-    /// How many keys these are.
+    /// How many keys there are.
     pub keys: u64,
 }
 
@@ -55,7 +55,7 @@ pub fn degree_sequence<V: Hash + Eq>(values: impl IntoIterator<Item = V>) -> Res
     degree_sequence_of_keys(&keys)
 }
 
-/// The degree sequence of a column whose values are numbers already: any 64 bits are a key. It is read where it lies.
+/// The degree sequence of a column whose values are numbers already: any 64 bits are a key. The column isn't copied.
 ///
 /// ```
 /// let runs = safebound::degree_sequence_of_keys(&[8, 8, 8, 8, 8, 2, 2, 2, 5])?;
@@ -67,15 +67,15 @@ pub fn degree_sequence<V: Hash + Eq>(values: impl IntoIterator<Item = V>) -> Res
 ///
 /// As [`degree_sequence`].
 pub fn degree_sequence_of_keys(keys: &[u64]) -> Result<Vec<Run>, Error> {
-    // n different degrees are of n (n + 1) / 2 keys at least.
+    // n different degrees sum to at least n (n + 1) / 2.
     let room = (2.0 * keys.len() as f64).sqrt() as usize;
     calls::degrees(keys, room).map_err(Error::from_refusal)
 }
 
-/// Few runs that dominate a list, so that bounds over them stay true and are made fast.
+/// Few runs that dominate a list, so that bounds over them stay true and are computed fast.
 ///
-/// The sum of the list is kept. At `accuracy` K, from 1 to 64, each degree is at most (K + 1) / K times what stood at its
-/// rank, and there are at most K times as many runs as the first degree has binary digits, and one more.
+/// The sum of the list is kept. At `accuracy` K, from 1 to 64, each degree is at most (K + 1) / K times the list's degree at
+/// the same rank. There are at most K times as many runs as the first degree has binary digits, and one more.
 ///
 /// ```
 /// use safebound::{compress, Run};
@@ -92,9 +92,11 @@ pub fn compress(runs: &[Run], accuracy: u64) -> Result<Vec<Run>, Error> {
     calls::compress(runs, accuracy).map_err(|refusal| Error::of_lists(refusal, runs, &[]))
 }
 
-/// The rank-wise sum of two lists: a list of a column's old rows and of rows that came later, whichever values repeat.
+/// The rank-wise sum of two lists. From a list of a column's old rows and one of rows that came later, it makes a list of all
+/// these rows, whichever values repeat.
 ///
-/// It is also a list for the rows that satisfy at least one of two conditions (OR), from a list of those that satisfy each.
+/// From a list of the rows that satisfy condition A and a list of those that satisfy condition B, it makes a list of those that
+/// satisfy A OR B.
 ///
 /// ```
 /// use safebound::{append, Run};
@@ -106,16 +108,17 @@ pub fn compress(runs: &[Run], accuracy: u64) -> Result<Vec<Run>, Error> {
 ///
 /// # Errors
 ///
-/// [`Error::BadRun`] for a run of the first list, [`Error::BadOtherRun`] for one of the second, [`Error::BadSum`] where both
+/// [`Error::BadRun`] for a run of the first list, [`Error::BadOtherRun`] for one of the second, [`Error::BadSum`] if both
 /// together have more than 2^48 rows, [`Error::OutOfMemory`].
 pub fn append(runs: &[Run], others: &[Run]) -> Result<Vec<Run>, Error> {
     calls::append(runs, others).map_err(|refusal| Error::of_lists(refusal, runs, others))
 }
 
-/// A list for the rows that satisfy two conditions (AND), from a list of those that satisfy each.
+/// The lesser of two lists. From a list of the rows that satisfy condition A and a list of those that satisfy condition B, it
+/// makes a list of those that satisfy A AND B.
 ///
-/// At each rank its degrees sum, from the first on, to the lesser of what those of the two lists sum to. The lesser degree at
-/// each rank would be too low.
+/// The sum of its first r degrees is the lesser of the sums of the two lists' first r degrees. (The lesser degree at each rank
+/// would be too low.)
 ///
 /// ```
 /// use safebound::{lesser, Run};
@@ -132,7 +135,7 @@ pub fn lesser(runs: &[Run], others: &[Run]) -> Result<Vec<Run>, Error> {
     calls::lesser(runs, others).map_err(|refusal| Error::of_lists(refusal, runs, others))
 }
 
-/// A list for the rows of any one of two values, whichever it is, from a list of the rows of each.
+/// A list for the rows of any one of two values, whichever it is, from a list of the rows of each value.
 ///
 /// It is the greater degree at each rank. For the rows of both values together take [`append`].
 ///
@@ -146,14 +149,14 @@ pub fn lesser(runs: &[Run], others: &[Run]) -> Result<Vec<Run>, Error> {
 ///
 /// # Errors
 ///
-/// [`Error::BadRun`] for a run of the first list, [`Error::BadOtherRun`] for one of the second, [`Error::BadSum`] where the
+/// [`Error::BadRun`] for a run of the first list, [`Error::BadOtherRun`] for one of the second, [`Error::BadSum`] if the
 /// greater degrees sum to more than 2^48 rows, [`Error::OutOfMemory`].
 pub fn greater(runs: &[Run], others: &[Run]) -> Result<Vec<Run>, Error> {
     calls::greater(runs, others).map_err(|refusal| Error::of_lists(refusal, runs, others))
 }
 
-/// The list of at most so many rows that a list dominates: its degrees as far as they sum to that number, and then what is
-/// left of it.
+/// A list that is cut at a number of rows. It dominates any rows that the list dominates, if there are at most so many of them.
+/// Its degrees are those of the list as far as they sum to that number, and then what is left of it.
 ///
 /// ```
 /// use safebound::{cut, Run};

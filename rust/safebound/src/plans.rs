@@ -4,14 +4,15 @@ use crate::bounds::Known;
 use std::fmt;
 use std::sync::Arc;
 
-/// A left-deep order: `levels[k]` is the bound of the first k + 1 of `entries`, in rows. It knows the bounds that it is a plan of.
+/// A left-deep order: `levels[k]` is the bound of the first k + 1 of `entries`, in rows. The order knows the bounds over which it
+/// is a plan.
 #[derive(Clone, PartialEq, Eq, Hash)]
 pub struct Order {
     /// The entries in the order in which they are joined.
     pub entries: Vec<String>,
-    /// A bound for each.
+    /// A bound for each entry with those before it.
     pub levels: Vec<u64>,
-    /// The bounds that it is a plan of.
+    /// The bounds over which it is a plan.
     pub(crate) known: Arc<Known>,
 }
 
@@ -33,20 +34,20 @@ pub struct Join {
     pub bound: u64,
 }
 
-/// A join tree over n entries. The nodes 0 to n - 1 are `entries`, and node n + i is `joins[i]`; each stands behind those
-/// below it, and the last is the root. It knows the bounds that it is a plan of.
+/// A join tree over n entries. The nodes 0 to n - 1 are `entries`, and node n + i is `joins[i]`; each join stands behind those
+/// below it, and the last is the root. The tree knows the bounds over which it is a plan.
 #[derive(Clone, PartialEq, Eq, Hash)]
 pub struct Tree {
     /// The entries in the query's order.
     pub entries: Vec<String>,
-    /// One less than entries.
+    /// The joins, one fewer than entries.
     pub joins: Vec<Join>,
-    /// The bounds that it is a plan of.
+    /// The bounds over which it is a plan.
     pub(crate) known: Arc<Known>,
 }
 
 impl Tree {
-    /// The greatest bound of its joins, or of an entry alone its own: the least budget for this tree.
+    /// The greatest bound of its joins, or the bound of its only entry: the least budget for this tree.
     ///
     /// ```
     /// # let query = safebound::Query::new().entry("a", 9).entry("b", 2);

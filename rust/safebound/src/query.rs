@@ -8,16 +8,16 @@ use crate::plans::{Order, Tree};
 use safebound_sys as sys;
 use std::collections::HashMap;
 
-/// The number of an entry that isn't there; the library refuses it in its turn.
+/// The number for an entry that isn't there. The library refuses it, after what its checks find before.
 const NO_ENTRY: u32 = u32::MAX;
 
 /// A query of up to twelve entries, by what is known of their rows: the entries with their row bounds, the equalities, and a
 /// list for each column that an equality names.
 ///
-/// Other conditions aren't said: a condition on one entry shows in its row bound and its lists, and what is left out makes
-/// no bound too low. Whatever isn't right is told by [`bounds`](Query::bounds).
+/// Other conditions aren't given. A condition on one entry shows in its row bound and its lists, and a condition that is left
+/// out makes no bound too low. If something isn't right, [`bounds`](Query::bounds) answers an error.
 ///
-/// Each part takes the query and gives it back, so that a query is made in one expression; in a loop write
+/// Each method that adds a part takes the query and gives it back, so that a query is made in one expression. In a loop write
 /// `query = query.entry(..)`.
 ///
 /// ```
@@ -48,7 +48,7 @@ impl Query {
 
     /// One more entry, and how many rows it has at most: 0 to 2^48. A table that is joined with itself is two entries.
     ///
-    /// The row bound is no estimate: each promise stands on it. What is always true is the number of rows of the table.
+    /// The row bound is no estimate: each bound rests on it. The number of rows of the table is always right.
     pub fn entry(mut self, name: impl Into<String>, row_bound: u64) -> Query {
         self.entries.push((name.into(), row_bound));
         self
@@ -63,8 +63,8 @@ impl Query {
     /// The list of a column: runs that dominate its values, as [`degree_sequence`](crate::degree_sequence),
     /// [`compress`](crate::compress) and [`append`](crate::append) give them.
     ///
-    /// Where it sums to less than the entry's row bound, the other rows are taken for rows without a value, which join with
-    /// nothing; where it sums to more, it is cut there, so that the list of a whole table serves for some of its rows. One
+    /// If the list sums to less than the entry's row bound, the other rows are taken for rows without a value, which join with
+    /// nothing. If it sums to more, it is cut there, so that the list of a whole table serves for some of its rows. A list
     /// without runs is taken for forgotten, unless the row bound is 0: for a column in which no row has a value there is
     /// [`no_values`](Query::no_values).
     pub fn list(mut self, column: impl Into<Column>, runs: &[Run]) -> Query {
@@ -72,7 +72,7 @@ impl Query {
         self
     }
 
-    /// In this column no row has a value. It stands in place of the column's list.
+    /// Says that no row has a value in this column, in place of the column's list.
     pub fn no_values(mut self, column: impl Into<Column>) -> Query {
         self.lists.push((column.into(), None));
         self
@@ -82,17 +82,17 @@ impl Query {
     ///
     /// # Errors
     ///
-    /// `BadEntries`, `RepeatedEntry`, `BadRows`, `BadEqualities`, `BadEquality`, `BadList`, `BadRun`, `MissingList`: a value
-    /// isn't right. [`Error::OutOfMemory`].
+    /// If a value isn't right, `BadEntries`, `RepeatedEntry`, `BadRows`, `BadEqualities`, `BadEquality`, `BadList`, `BadRun` or
+    /// `MissingList`. [`Error::OutOfMemory`].
     pub fn bounds(&self) -> Result<Bounds, Error> {
         let names = self.names()?;
         let numbers = calls::bounds(&self.numbers()).map_err(|refusal| self.error(refusal))?;
         Ok(Bounds::new(names, numbers))
     }
 
-    /// The bounds of all sets of entries, if the work is within a limit. It is counted before it begins: for each set, and for
-    /// each of at most 16 ways in which it is looked at where equalities close a cycle, 1 and the runs of both lists of each
-    /// of its equalities.
+    /// The bounds of all sets of entries, if the work is within a limit. The work is counted before it begins. Each set is
+    /// looked at in as many turns as it has equalities, but in one at least and in 16 at most. A turn counts 1, and 1 for each
+    /// run of both lists of each of the set's equalities.
     ///
     /// # Errors
     ///
@@ -103,7 +103,7 @@ impl Query {
         Ok(Bounds::new(names, numbers))
     }
 
-    /// The bound of one set of entries alone, which [`bounds`](Query::bounds) has there too, in the time of this set. A name
+    /// The bound of one set of entries: the same as [`bounds`](Query::bounds) has for it, but no other set is bounded. A name
     /// may come again.
     ///
     /// # Errors
@@ -132,7 +132,7 @@ impl Query {
         Ok(names)
     }
 
-    /// The best left-deep order: [`Bounds::best_order`]. Who wants a tree too asks [`bounds`](Query::bounds) once.
+    /// The best left-deep order: [`Bounds::best_order`]. If you want a tree too, ask [`bounds`](Query::bounds) once for both.
     ///
     /// # Errors
     ///
@@ -176,7 +176,7 @@ impl Query {
         made
     }
 
-    /// Whether no row has a value in a column. An entry without rows has lists without runs, which aren't forgotten.
+    /// Whether no row has a value in a column. In an entry without rows a list without runs isn't taken for forgotten.
     fn has_no_values(&self, column: &Column, runs: &Option<Vec<Run>>) -> bool {
         let is_empty = |entry: &(String, u64)| entry.0 == column.entry && entry.1 == 0;
         match runs {
@@ -233,7 +233,7 @@ impl Query {
         self.entries.iter().any(|(name, _)| name == entry)
     }
 
-    /// The list in which a run lies, and its number there.
+    /// The error for a run, by its number among the runs of all lists: it names the list and the number there.
     fn bad_run(&self, mut place: usize) -> Error {
         for (column, runs) in &self.lists {
             let own = runs.as_deref().unwrap_or(&[]);
@@ -246,7 +246,7 @@ impl Query {
     }
 }
 
-/// Numbers for names. Those of columns are of the whole query, so each entry's are different.
+/// Numbers for names. Columns are numbered through the whole query, so those of one entry have different numbers.
 struct Names<'a> {
     entries: &'a [(String, u64)],
     columns: HashMap<&'a Column, u32>,

@@ -1,5 +1,5 @@
-//! Random queries: their bounds, orders and trees are what the C program library/tests/calls.c gets, which
-//! SAFEBOUND_CALLS names. The query is written for both here, with other numbers of columns than the crate has.
+//! Random queries: the crate gets the same bounds, orders and trees as the C program library/tests/calls.c, which
+//! SAFEBOUND_CALLS names. Each query is written here for both, with other numbers for columns than the crate uses.
 
 use safebound::{append, compress, cut, degree_sequence_of_keys, greater, lesser, Bounds, Error, Query, Run};
 use std::io::Write;
@@ -19,7 +19,7 @@ impl Pick {
         ((mixed ^ (mixed >> 31)) % count as u64) as usize
     }
 
-    /// A falling list of at least one run.
+    /// A list of at least one run, the greatest degree first.
     fn runs(&mut self) -> Vec<Run> {
         let large = self.below(5) == 0;
         let mut degrees: Vec<u64> =
@@ -115,7 +115,7 @@ fn tree_as_written(bounds: &Bounds, budget: u64) -> Vec<u64> {
     })
 }
 
-/// The program that SAFEBOUND_CALLS names; library/test names one.
+/// The program that SAFEBOUND_CALLS names. library/test sets it.
 fn program() -> Option<String> {
     let named = std::env::var("SAFEBOUND_CALLS").ok();
     if named.is_none() {

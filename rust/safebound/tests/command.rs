@@ -1,4 +1,4 @@
-//! The program over files in memory: texts that find too little room at first, refusals, words and names of any bytes.
+//! The program over files in memory: texts that don't fit into the first room, refusals, words and names of any bytes.
 #![cfg(feature = "command")]
 
 use safebound::{Command, Output};

@@ -10,7 +10,7 @@ fn runs<const N: usize>(pairs: [(u64, u64); N]) -> Vec<Run> {
     pairs.map(Run::from).to_vec()
 }
 
-/// Entries 0 to n - 1 whose bounds are these, as far as they follow from rows: no equalities, so each is a product.
+/// Entries 0 to n - 1 with these rows and no equalities, so that the bound of each set is a product.
 fn products(rows: &[u64]) -> Query {
     let mut query = Query::new();
     for (at, &number) in rows.iter().enumerate() {
@@ -124,7 +124,7 @@ fn no_bound_is_above_each_number() -> Result<(), Error> {
     Ok(())
 }
 
-/// An empty table has lists without runs. Of a column with the list (1, 1) one row has a value, and at most that one is joined.
+/// An empty table has lists without runs. In a column with the list (1, 1) one row has a value, and at most this row is joined.
 #[test]
 fn no_rows_and_no_values() -> Result<(), Error> {
     for (rows, list, joined) in [(0, vec![], 0), (6, runs([(1, 1)]), 2)] {

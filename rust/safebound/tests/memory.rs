@@ -1,5 +1,5 @@
-//! A program's own functions for memory, where the archive is linked: each request that is refused is told as want of
-//! memory, or the answer is whole without it; and all memory is given back.
+//! A program's own functions for memory, with the archive linked. If a request is refused, the call answers that there was too
+//! little memory, or it does without and gives the whole answer. All memory is given back.
 #![cfg(target_os = "linux")]
 
 use safebound::{compress, degree_sequence_of_keys, Error, Query, Run};
@@ -52,7 +52,7 @@ unsafe extern "C" fn rattle_dealloc(at: *mut c_void) {
     unsafe { free(at) }
 }
 
-/// How many refusals of a call were told, once each of its requests was refused.
+/// Makes a call with each of its requests refused in turn. Answers how often it said that there was too little memory.
 fn refuse_each<T: PartialEq + std::fmt::Debug>(call: impl Fn() -> Result<T, Error>) -> usize {
     let counted = |refused| {
         REQUESTS.with(|requests| requests.set(0));

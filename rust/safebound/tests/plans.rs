@@ -1,4 +1,5 @@
-//! Plans belong to the bounds that made them: their memory is asked of no others, and of none that were changed.
+//! Plans belong to the bounds that made them: other bounds refuse to tell their memory, and so do the same bounds for plans that
+//! were changed.
 
 use safebound::{Bounds, Error, Query, Run};
 
@@ -11,13 +12,13 @@ fn joined(rows: [(&'static str, u64); 2], degree: u64) -> Query {
     query.list(("r", "x"), &[Run { degree, keys: 2 }]).list(("s", "x"), &[(2, 2), (1, 1)].map(Run::from))
 }
 
-/// What the memory of both plans of some bounds is by others.
+/// What the bounds `of` answer for the memory of both plans over the bounds `plans`.
 fn memory(of: &Bounds, plans: &Bounds) -> Result<(Result<u64, Error>, Result<u64, Error>), Error> {
     let (order, tree) = (plans.best_order(1 << 59)?, plans.best_tree(1 << 59)?);
     Ok((of.memory_of_order(&order), of.memory_of_tree(&tree)))
 }
 
-/// Each takes other bytes, though entries, places and even levels are the same.
+/// The other plans take other numbers of bytes, though entries, places and even levels are the same.
 #[test]
 fn of_other_bounds() -> Result<(), Error> {
     let own = joined([("r", 6), ("s", 5)], 3).bounds()?;

@@ -1,4 +1,4 @@
-//! Each wrong value, told with its place.
+//! Each wrong value gives an error that names its place.
 
 use safebound::{
     append, compress, cut, greater, lesser, Column, Error, Query, Run, WrongEquality, WrongList, WrongRun,
@@ -48,7 +48,7 @@ impl Chain {
         query
     }
 
-    /// What all three calls tell.
+    /// The error that all three calls answer.
     fn error(&self) -> Error {
         let query = self.query();
         let told = query.bounds().expect_err("a wrong value");
@@ -155,7 +155,7 @@ fn lists() {
     }
 }
 
-/// The run is told with its list and its place there, also behind a list of an entry without rows.
+/// The error names the run's list and its place there, even behind a list of an entry without rows.
 #[test]
 fn runs_of_queries() {
     for (list, length) in [2, 1, 2, 1].into_iter().enumerate() {

@@ -1,5 +1,5 @@
-"""Random queries over USING, with ORDER BY and outputs that have names of columns: what stands above the join has to
-mean the same in the planned SQL."""
+"""Random queries over USING or ON, with ORDER BY, and with outputs named like columns of the tables. What stands above
+the join (outputs, grouping, order, limit) has to mean the same in the planned SQL."""
 
 from __future__ import annotations
 
@@ -15,13 +15,14 @@ TYPES_OF_ID = {
     "sqlite": ("INTEGER", "INTEGER", "REAL", "NUMERIC"),
     "postgres": ("INTEGER", "INTEGER", "BIGINT", "NUMERIC", "NUMERIC(7, 1)"),
 }
-# PostgreSQL converts a value of one of these types to a later one. If a digit is then behind the point, it converts
-# both to NUMERIC.
+# If USING merges columns of two of these types, PostgreSQL converts the earlier type to the later one. But if INTEGER
+# or BIGINT meets NUMERIC(7, 1), it converts both to NUMERIC.
 WIDER = ("INTEGER", "BIGINT", "NUMERIC(7, 1)", "NUMERIC")
 
 
-class RandomNames:
-    """Tables and queries from a number, the same each time. Every query puts its rows in a whole order."""
+class QueriesOfNamedOutputs:
+    """Tables and queries from a number, the same each time. Every query has ORDER BY over all its outputs, so that the
+    order of its rows is determined."""
 
     def __init__(self, number: int, engine: str) -> None:
         self.random = random.Random(f"names {number} {engine}")
@@ -68,8 +69,8 @@ class RandomNames:
         return choose((self._plain, self._plain, self._grouped))(sources, where)
 
     def converts_both(self, schema: str) -> bool:
-        """Whether USING merges two columns into one that is neither of them: a whole number with one of a digit
-        behind the point."""
+        """Whether USING merges an INTEGER or BIGINT column with a later NUMERIC(7, 1) one. The type of the merged
+        column is then neither of theirs."""
         if self.engine == "sqlite" or "id" not in self.merged:
             return False
         types = re.findall(r"\(id (.*?), k", schema)
