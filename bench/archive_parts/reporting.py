@@ -55,7 +55,7 @@ def tried(found: Lines) -> list[Flags]:
 
 
 def counted(runs: Lines, names: set[str]) -> list[float]:
-    """What `--count` prints of whole queries that it admits, over PostgreSQL's rows."""
+    """For each whole query that `--count` admits, its printed bound divided by PostgreSQL's rows."""
     counts = [one for one in runs if one["flags"] == COUNT.name and one["question"] in names]
     both = [(one["last"], one["postgres_rows"]) for one in counts if one["last"] and one["postgres_rows"]]
     return [int(last) / max(int(rows), 1) for last, rows in both]
@@ -99,11 +99,11 @@ def check(sets: Lines, runs: Lines) -> None:
 
 
 REFUSED = ("refused at 20,000,000", "at 1,000,000")
-WHOLE = ["bound over rows of the whole query", "median", "75th", "90th percentile", "worst", *REFUSED]
+WHOLE = ["whole query: bound / rows", "median", "75th", "90th percentile", "worst", *REFUSED]
 
 
 def whole_queries(sets: Lines, runs: Lines) -> None:
-    """The bound of each whole query over its rows, and what budgets refuse."""
+    """Tables: the bound of each whole query divided by its rows, and how many queries budgets refuse."""
     whole = [one for one in sets if one["whole"] == "1"]
     for title, chosen in (("all", ("0", "1")), ("without cycles", ("0",)), ("with cycles", ("1",))):
         asked = [one for one in whole if one["cyclic"] in chosen]
@@ -122,7 +122,7 @@ def whole_by(flags: Flags, asked: Lines, runs: Lines) -> list[str]:
 
 def by_size(sets: Lines) -> None:
     sizes = sorted({int(one["size"]) for one in sets})
-    print("Median, and 90th percentile, of bound over rows by the number of entries:\n")
+    print("Median, and 90th percentile, of bound / rows by the number of entries:\n")
     rows = []
     for flags in ALL:
         spreads = [spread(bounded([one for one in sets if int(one["size"]) == size], flags.name)) for size in sizes]
