@@ -1,7 +1,7 @@
 PROGRAM := crates/safebound_cli/out/safebound_cli
 LIBRARY := library/out
 
-# Where `make install` lays what was built, and `make uninstall` takes it away.
+# Where `make install` puts what was built, and `make uninstall` removes it.
 PREFIX ?= /usr/local
 
 # Where `make deb` leaves the packages.
@@ -21,16 +21,16 @@ COMPILE :=
 ##                now, of which nothing is proved)
 ## make archive   fetches what Debian's archive says of itself by apt (55 MB), makes tables of 2,400,000 rows of it, and answers one
 ##                question, with bounds, rows and a picture (about two minutes; Debian only)
-## make build     proves and builds the program (the first time 18 minutes, when there were 54 crates; it says how long is left)
+## make build     proves and builds the program (the first time 18 minutes, when it had 54 crates; it says how long it still takes)
 ## make library   proves and builds the library for C, Python and Rust (docs/EMBEDDING.md; under ten minutes the first time)
-## make command   proves and builds the whole program as a library over files in memory (a minute, once make build has been)
-## make install   lays what was built, program and libraries, below PREFIX, /usr/local (2 seconds); make uninstall takes it away;
+## make command   proves and builds the whole program as a library over files in memory (a minute, once make build has run)
+## make install   installs what was built, program and libraries, below PREFIX, /usr/local (2 seconds); make uninstall removes it;
 ##                with PG_CONFIG=pg_config the extension too, for that PostgreSQL 15
-## make deb       makes Debian packages of all that make install lays, in out/ (3 seconds, once they are built)
+## make deb       makes Debian packages of all that make install installs, in out/ (3 seconds, once it is built)
 ## make engines   tests safebound-sql on SQLite and on a PostgreSQL of its own, over the library (docs/ENGINES.md; minutes)
 ## make postgres  builds the extension for PostgreSQL 15 over the library, or where it isn't built over the release's, and tests it on a
 ##                server of its own (docs/POSTGRES.md; minutes)
-## make release   builds the last commit twice, from clean clones, and lays the result in dist/ (minutes, where the proofs are kept)
+## make release   builds the last commit twice, from clean clones, and puts the result into dist/ (minutes, where the proofs are kept)
 ## make test      the gate: every proof, the gate's own edits, every test (from nothing about 75 minutes, eight where all is kept; it says how far it is)
 ## make checks    the gate's tests of what is built, side by side (five minutes)
 ## make edits     every wrong body that a contract must refuse (two hours); make edits CRATES="plans set_bounds" some of them
@@ -86,13 +86,13 @@ command:
 test:
 	.ci/run
 
-# What the gate does behind its proofs, side by side, the longest first: each reads what was built, and writes into folders of its own.
+# What the gate does after its proofs, side by side, the longest first: each reads what was built, and writes into folders of its own.
 CHECKS := engines postgres library command install heads friendly browser differential process pages cases examples memory-there uncalled python release
 FEATURES := run,plan,audit,stats,append,many-entries,filters,words,accuracy,reduce,count,bushy,keys
 
 .PHONY: $(CHECKS:%=check-%)
 
-# A make that a test calls knows nothing of this one's jobs.
+# A make that a test calls must not share the jobs of this one.
 unexport MAKEFLAGS
 
 checks:
@@ -171,7 +171,7 @@ bench: build library
 	bench/keys
 	bench/library
 
-# Runs over memory, with each request for memory refused in turn, and what a reservation asks for, in bytes. It takes minutes.
+# Runs over devices in memory, with each request for memory refused in turn; and how many bytes a reservation asks for. It takes minutes.
 memory:
 	@cd crates/memory_runs && rt run > build.log 2>&1 || { cat build.log; exit 1; }
 	tools/memory

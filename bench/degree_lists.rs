@@ -1,6 +1,6 @@
 //! What `falling` of crate degree_lists is measured against: a copy, the standard sort, and a walk over the runs.
 //! Build with `rustc -O bench/degree_lists.rs`. It prints the time in milliseconds for four million keys, or for as many
-//! as its word says, that are all different, all equal, and about as unequal as words of a text.
+//! as its word says: all different, all equal, and about as unequally frequent as words of a text.
 use std::time::Instant;
 
 const KEYS: usize = 4_000_000;
@@ -15,7 +15,7 @@ fn keys_of(kind: &str, count: usize) -> Vec<u64> {
         keys.push(match kind {
             "different" => state,
             "equal" => 7,
-            // each range of twice the size is about as likely
+            // A key below 2^k: each k from 0 to 21 is about as likely, so small keys are frequent.
             _ => (state & 0xffff_ffff) >> (32 - (state >> 58) % 22),
         });
     }

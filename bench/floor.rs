@@ -11,7 +11,7 @@ fn words(text: &str) -> Vec<String> {
         .collect()
 }
 
-/// The fields of one record, side by side, and where each ends. It is used again for each record.
+/// The bytes of one record's fields, one after another, and where each field ends. The buffers are used again for each record.
 #[derive(Default)]
 struct Record {
     bytes: Vec<u8>,

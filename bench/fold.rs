@@ -1,7 +1,6 @@
-//! What `set_bound` of bound_fold and, with a word, `bounds_of_sets` of set_bounds are measured against: the same steps
-//! over plain vectors.
-//! Build with `rustc -O bench/fold.rs`. It prints for each measure the shape, the entries, the pieces of each list, the
-//! trees, the bound, the nanoseconds of one bound, the least of several, and the pieces of the lists of a tree's nodes.
+//! What `set_bound` of bound_fold is measured against, and with any word on its command line `bounds_of_sets` of set_bounds: the same steps
+//! over plain vectors. Build with `rustc -O bench/fold.rs`. It prints for each measure the shape, the number of entries, of pieces of each
+//! list and of trees, the bound, the nanoseconds of one bound (the least of several), and how many pieces the lists of a tree's nodes have.
 use std::collections::HashMap;
 use std::time::Instant;
 
@@ -42,7 +41,7 @@ fn put(list: &mut Pieces, value: u128, count: u64) {
     }
 }
 
-// Elements ahead at a place, and the place after some of them.
+// The value at a place of a list, and how many equal elements are from there on. `passed` gives the place after some of them.
 fn ahead(list: &[(u128, u64)], (at, used): (usize, u64)) -> (u128, u64) {
     list.get(at).map_or((0, u64::MAX), |&(value, count)| (value, count - used))
 }
@@ -87,7 +86,7 @@ fn total(list: &[(u128, u64)]) -> u128 {
     list.iter().fold(0, |sum: u128, &(value, count)| sum.saturating_add(value.saturating_mul(u128::from(count))))
 }
 
-// One block over several pieces of weights.
+// The sum of the next `rows` weights, which may be in several pieces, and the place after them.
 fn block(weights: &[(u128, u64)], mut place: (usize, u64), rows: u128) -> (u128, (usize, u64)) {
     let (mut sum, mut left) = (0u128, rows);
     while left > 0 && place.0 < weights.len() {
@@ -140,7 +139,7 @@ fn kept(equalities: &[Edge], turn: usize) -> Vec<Edge> {
     kept
 }
 
-// The columns of the equalities in order, each with the name of its class.
+// The columns of the equalities, in the order of the equalities, each with the name of its class.
 fn classes(edges: &[Edge]) -> Vec<(Place, Place)> {
     let mut columns: Vec<Place> = edges.iter().flat_map(|&(left, right)| [left, right]).collect();
     columns.sort();
@@ -248,7 +247,7 @@ fn turn_bound(query: &Query, set: u16, equalities: &[Edge], turn: usize) -> u128
     product
 }
 
-// The least entry with all that equalities connect with it.
+// The set's first entry, with all entries that equalities connect with it.
 fn first_part(equalities: &[Edge], set: u16) -> u16 {
     let mut part = set & set.wrapping_neg();
     loop {
@@ -286,7 +285,7 @@ fn are_in_classes(others: &[(Edge, Place)], classed: &[(Edge, Place)]) -> bool {
     classed.iter().all(|&((left, right), _)| class_in(others, left) == class_in(others, right))
 }
 
-// The least over the turns. One that keeps equalities with the columns and classes of an earlier one is not folded.
+// The least bound over the turns. A turn isn't folded if an earlier turn kept equalities with the same columns and classes.
 fn cyclic_bound(query: &Query, set: u16, equalities: &[Edge]) -> u128 {
     let mut folded: Vec<Vec<(Edge, Place)>> = Vec::new();
     let mut least = u128::MAX;

@@ -72,7 +72,7 @@ static void time_chain(const char *name, uint32_t entries, int times) {
     printf("%s %" PRIu64 " %" PRIu64 "\n", name, detail, least);
 }
 
-/* Bounds that each are one more than the one before. */
+/* Bounds, each one more than the one before. */
 static void time_plans(size_t entries, int times) {
     static uint64_t bounds[1 << MOST_ENTRIES];
     safebound_level levels[MOST_ENTRIES];

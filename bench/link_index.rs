@@ -2,7 +2,8 @@
 //
 // bench/link-index builds and runs it beside the proved program.
 //
-// For each list of keys: the nanoseconds that `load`, `first` and `after` took for all of them, the least of five rounds, and the longest walk to a key.
+// It prints for each list of keys the nanoseconds that `load`, `first` and `after` took for all keys (the least of five rounds), and the longest
+// walk to a key.
 mod key_chains;
 
 use key_chains::{Chains, NONE};

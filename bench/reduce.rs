@@ -2,7 +2,8 @@
 //
 // bench/reduce builds and runs it beside the proved program.
 //
-// For the chain and for two cycles: how many rows stay and the sum of their numbers, and the nanoseconds of scans and reduction together, the least of three rounds.
+// It prints for the chain and for three cycles how many rows stay, the sum of their numbers, and the nanoseconds of scans and reduction together
+// (the least of three rounds).
 use std::hint::black_box;
 use std::time::Instant;
 
@@ -21,7 +22,7 @@ struct Query {
     equalities: Vec<(Side, Side)>,
 }
 
-// Values in the order in which they come, found by a table of open addresses.
+// Values in the order in which they first occur, found by a hash table with open addressing.
 struct Values {
     places: Vec<u32>,
     pairs: Vec<(u32, u64)>,
@@ -68,7 +69,7 @@ impl Values {
     }
 }
 
-// Values that lie in a short range: for each place of it, from the least on, whether its value is there.
+// Values in a short range: a flag for each number of the range, from the least on, which says whether it is among the values.
 struct Marks {
     least: u64,
     there: Vec<bool>,
@@ -148,7 +149,7 @@ struct Use {
     needs: u32,
 }
 
-// Places are counted from 1, and 0 is none.
+// Places are counted from 1; 0 means that there is no place.
 struct Chains {
     lasts: Vec<u32>,
     befores: Vec<u32>,

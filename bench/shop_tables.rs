@@ -7,7 +7,7 @@ fn refused(cause: &str) -> ! {
     process::exit(1)
 }
 
-/// The records of a text: fields by commas, within quotes too, each record ended by a line end or the text's end.
+/// The records of a text: fields are separated by commas and may be quoted, and a record ends at a line end or the text's end.
 struct Records<'a> {
     bytes: &'a [u8],
     at: usize,
@@ -103,7 +103,7 @@ pub fn check_key(column: &[i64]) {
     }
 }
 
-/// How often the numbers stand, counted by place where they lie in a short range, and by a sort where they don't.
+/// How often each number occurs. Numbers in a short range are counted in a table of the range, others by a sort.
 fn counts(numbers: &[i64]) -> Vec<u64> {
     let (Some(least), Some(greatest)) = (numbers.iter().min(), numbers.iter().max()) else {
         return Vec::new();
@@ -150,7 +150,7 @@ fn push_run(pieces: &mut Pieces, value: u64, count: u64) {
     }
 }
 
-/// The list with few runs, of accuracy 1, that keeps up with the falling one.
+/// The degree list compressed at accuracy 1: few runs, the same sum, and running sums that are no lower.
 pub fn compress(falling: &[u64]) -> Pieces {
     let mut pieces = Pieces::new();
     let mut head = falling.first().copied().unwrap_or(0);

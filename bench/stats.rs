@@ -91,7 +91,7 @@ fn whole_list(joined: &[u64], accuracy: u64) -> Pieces {
     compress(&falling(joined), accuracy)
 }
 
-/// The rows of one value among the rows in order.
+/// The rows of one value: where they are among the rows in the order of values.
 #[derive(Clone, Copy)]
 struct Group {
     first: u32,
@@ -149,7 +149,7 @@ impl<'a> FilterColumn<'a> {
         }
         groups.sort_unstable_by_key(|group| (u32::MAX - group.count, group.first));
         let n = places.len();
-        // They are made on both sides, and no list here asks for them.
+        // The cuts are made since the proved side makes them too; no list here needs them.
         let cuts: Vec<u64> = if n == 0 { Vec::new() } else { (0..32).map(|i| cells[places[n * i / 32] as usize]).collect() };
         std::hint::black_box(&cuts);
         let starts = (0..33)
@@ -235,7 +235,7 @@ fn gather(kind: &Kind, filter: &[u64], joined: &[u64], accuracy: u64) -> usize {
     runs
 }
 
-/// One value and one range on demand: the rows that stand in the middle of the column.
+/// The list of one value, that of the middle row, and of one range, the leaves 8 to 15.
 fn on_demand(kind: &Kind, filter: &[u64], joined: &[u64], accuracy: u64) -> usize {
     let column = FilterColumn::new(kind, filter);
     let value = column.list_of_value(joined, filter[filter.len() / 2], accuracy);
@@ -250,7 +250,7 @@ fn random(state: &mut u64) -> u64 {
     *state
 }
 
-/// About as unequal as words of a text.
+/// A number below 2^k, where each k from 0 to 21 is about as likely: numbers are as unequally frequent as words of a text.
 fn unequal(bits: u64) -> u64 {
     (bits & 0xffff_ffff) >> (32 - (bits >> 58) % 22)
 }

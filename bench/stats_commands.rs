@@ -20,7 +20,7 @@ const TABLES: [(&str, &[&str], Option<usize>, &[(usize, usize)]); 4] = [
 ];
 const NODES: [usize; 6] = [1, 2, 4, 8, 16, 32];
 
-/// The rows of one value among the rows in order.
+/// The rows of one value: where they are among the rows in the order of values.
 struct Group {
     first: u32,
     start: u32,
@@ -36,7 +36,7 @@ struct InOrder {
     starts: Vec<u32>,
 }
 
-/// The rows in the order of their values, counted by place where these lie in a short range.
+/// The row numbers in the order of the rows' values: by counting if the values are in a short range, else by a sort.
 fn places_of(column: &[i64]) -> Vec<u32> {
     let (Some(least), Some(greatest)) = (column.iter().min(), column.iter().max()) else {
         return Vec::new();
@@ -94,7 +94,7 @@ impl InOrder {
         compress(&falling(&self.keys(joined, start, end)))
     }
 
-    /// The list that stands for each value that isn't frequent.
+    /// One list that dominates the keys of each value that isn't frequent.
     fn rest(&self, joined: &[i64]) -> Pieces {
         let mut maxima: Vec<u64> = Vec::new();
         for group in &self.others {

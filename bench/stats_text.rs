@@ -1,5 +1,5 @@
-//! How plain Rust reads a file of statistics: a part of stats_file.rs and stats_commands.rs. It keeps the same rules as `read_stats` of
-//! crate stats_reading, over columns that are all of numbers.
+//! How plain Rust reads a file of statistics: a part of stats_file.rs and stats_commands.rs. It checks the same rules as `read_stats` of
+//! crate stats_reading, for columns that are all of numbers.
 
 #[derive(Clone, Copy, PartialEq)]
 pub struct Piece {
@@ -139,7 +139,7 @@ impl Draft {
         if pairs.last().is_some_and(|last| (last.filter, last.joined) >= (filter, joined)) {
             return None;
         }
-        // pairs ascend, so the last one has this filter column if any has
+        // Pairs ascend, so if any pair has this filter column, the last one has it.
         self.like = pairs.len().checked_sub(1).filter(|last| pairs[*last].filter == filter);
         self.twin = pairs.iter().position(|pair| pair.joined == joined);
         self.pair = Some(Pair {
@@ -265,7 +265,7 @@ impl Draft {
     }
 }
 
-/// The file, or the line that is refused. Names of tables, and of the columns of each, are as the file has them.
+/// The file, or the number of the line that is refused. Names of tables and columns are given as the file spells them.
 pub fn read_stats(bytes: &[u8], tables: &[Vec<u8>], columns: &[Vec<Vec<u8>>]) -> Result<Draft, u32> {
     let mut draft = Draft { stage: Stage::Start, accuracy: 0, tables: Vec::new(), pair: None, like: None, twin: None };
     let mut line = 1;

@@ -1,7 +1,7 @@
 //! What `read_table` of crate csv_tables is measured against: plain Rust that makes the same cells with std alone.
 //!
-//! Build with `rustc -O bench/tables.rs`. It prints for each file what it is of, how many rows and different texts it
-//! has, a checksum of the cells, and the least time of several readings in milliseconds.
+//! Build with `rustc -O bench/tables.rs`. It prints for each file its name, how many rows and different texts it has, a
+//! checksum of the cells, and the least time of several readings in milliseconds.
 use std::collections::HashMap;
 use std::fmt::Write;
 use std::time::Instant;
@@ -10,7 +10,7 @@ const MOST_BYTES: usize = 67_108_864;
 const MOST_ROWS: u32 = 4_000_000;
 const ROUNDS: u32 = 5;
 
-/// Bits in an order that repeats nothing soon, and how many texts there were.
+/// Random bits, and how many texts there were.
 struct State {
     bits: u64,
     texts: u64,
@@ -24,14 +24,14 @@ impl State {
     }
 }
 
-/// A number of 1 to 44 bits, with a minus sign before one of four.
+/// A number of 1 to 44 bits; one of four is negative.
 fn push_number(file: &mut String, state: &mut State) {
     state.turn();
     let sign = if state.bits % 4 == 0 { "-" } else { "" };
     write!(file, "{sign}{}", state.bits >> (20 + state.bits % 44)).unwrap();
 }
 
-/// A text that is new, and then one of those before.
+/// A new text, and then one of the earlier texts.
 fn push_texts(file: &mut String, state: &mut State) {
     let new = state.texts;
     state.texts += 1;
@@ -54,7 +54,7 @@ fn file_of(header: &str, items: u32, push: fn(&mut String, &mut State)) -> Strin
     file
 }
 
-/// The fields of one record: pieces of the file, or of `unquoted` where a quote stands in them.
+/// The fields of one record: parts of the file, or of `unquoted` for a field that is quoted.
 #[derive(Default)]
 struct Record {
     unquoted: Vec<u8>,
@@ -67,7 +67,7 @@ impl Record {
         &(if is_quoted { &self.unquoted } else { file })[start..end]
     }
 
-    /// A field that begins with a quote, and the place behind it.
+    /// Reads a field that begins with a quote, and gives the place after it.
     fn read_quoted(&mut self, file: &[u8], quote: usize) -> usize {
         let start = self.unquoted.len();
         let mut at = quote + 1;
@@ -87,7 +87,7 @@ impl Record {
         at
     }
 
-    /// Reads the record at a place, and tells the place behind it. Empty lines are passed over.
+    /// Reads the record at a place, and gives the place after it. Empty lines are passed over.
     fn read(&mut self, file: &[u8], mut at: usize) -> Option<usize> {
         while matches!(file.get(at), Some(b'\r' | b'\n')) {
             at += 1;
@@ -129,14 +129,14 @@ struct Table {
     kind: Kind,
 }
 
-/// The one field that is a name in letters of either case.
+/// The place of the header's field with this name, letter case aside; nothing if no field or several have it.
 fn place_of(name: &str, header: &Record, file: &[u8]) -> Option<usize> {
     let mut places = (0..header.fields.len()).filter(|&at| header.field(file, at).eq_ignore_ascii_case(name.as_bytes()));
     let place = places.next()?;
     if places.next().is_none() { Some(place) } else { None }
 }
 
-/// The number of a text: texts are numbered in the order in which they come first.
+/// The number of a text: texts are numbered in the order in which they first occur.
 fn number_of(pool: &mut HashMap<String, u32>, text: &str) -> u32 {
     if let Some(&number) = pool.get(text) {
         return number;
@@ -146,7 +146,7 @@ fn number_of(pool: &mut HashMap<String, u32>, text: &str) -> u32 {
     number
 }
 
-/// Fields of a file that is UTF-8 are text.
+/// The cell of a field. The file was checked to be UTF-8, so each field is a text.
 fn cell_of(pool: &mut HashMap<String, u32>, kind: Kind, field: &[u8]) -> Option<u64> {
     let text = unsafe { std::str::from_utf8_unchecked(field) };
     match kind {

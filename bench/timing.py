@@ -7,13 +7,13 @@ from typing import Iterable
 
 
 def processor_time(pid: int) -> float:
-    """Seconds that a process has had of all processors."""
+    """Seconds that a process has run on processors."""
     with open(f"/proc/{pid}/schedstat", encoding="ascii") as told:
         return int(told.read().split()[0]) / 1e9
 
 
 def spread_of(values: Iterable[float]) -> str:
-    """Median, 90th percentile and the greatest; of fewer than two values these alone."""
+    """Median, 90th percentile and the greatest. Fewer than two values are printed as they are."""
     found = list(values)
     if len(found) < 2:
         return ", ".join(f"{value:.3g}" for value in found) or "none"

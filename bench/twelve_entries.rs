@@ -1,4 +1,4 @@
-// What orders.rs and bushy.rs choose by: bounds of all sets of twelve entries, and the least time of a choice.
+// A part of orders.rs and bushy.rs: the bounds of all sets of twelve entries, by which they choose, and how a choice is timed.
 use std::hint::black_box;
 use std::time::Instant;
 
@@ -9,7 +9,7 @@ pub fn all_bounds() -> Vec<(&'static str, Vec<u128>)> {
         .collect()
 }
 
-/// In nanoseconds.
+/// The least nanoseconds of a choice.
 pub fn least_time<T>(rounds: u32, bounds: &[u128], choose: impl Fn(&[u128]) -> T) -> u128 {
     let mut least = u128::MAX;
     for _ in 0..rounds {

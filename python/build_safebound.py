@@ -2,10 +2,10 @@
 
 It needs the standard library alone.
 
-A wheel has the shared objects beside the package. They come from the folder that SAFEBOUND_LIBRARY_DIR names, and then
-from no other; from where `make library` and `make command` leave them, in a clone; or from where pkg-config finds this
-version, as `make install` lays it. Where that folder has an archive alone, the C compiler makes the shared object of
-it.
+A wheel has the shared objects beside the package. If SAFEBOUND_LIBRARY_DIR names a folder, they come from there and
+from no other. Else they come from where `make library` and `make command` leave them, in a clone, or from where
+pkg-config finds this version, as after `make install`. If the folder has only an archive, the C compiler makes the
+shared object of it.
 
 A source archive has the package and this file. It builds where one of these folders has the library.
 """
@@ -50,7 +50,7 @@ def read(*path: str) -> bytes:
 
 
 def place_of(name: str) -> str:
-    """Where a file of the project lies: in a source archive beside this file, and in a clone in a folder of its own."""
+    """The path of a file of the project. In a source archive it lies beside this file, in a clone in its own folder."""
     beside = os.path.join(HERE, name)
     above = {"safebound.map": "library"}.get(name, "")
     return beside if os.path.isfile(beside) else os.path.join(HERE, "..", above, name)
@@ -67,7 +67,7 @@ def files_of(folder: str, name: str) -> list[str | None]:
 
 
 def installed() -> str:
-    """The folder that pkg-config says for this version; the empty text where it knows no folder."""
+    """The folder that pkg-config gives for this version; the empty text if it knows no folder."""
     words = [os.environ.get("PKG_CONFIG", "pkg-config"), "--variable=libdir", f"safebound = {VERSION}"]
     try:
         return subprocess.run(words, capture_output=True, text=True, check=True).stdout.strip()

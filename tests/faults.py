@@ -1,8 +1,8 @@
 """What the explanation of each of these faults has to say: place, cause and remedy. The list was written before any of
 them was run, though not before the code of the explanations was read.
 
-A word of a list stands for all its alternatives, which `|` separates; one of them has to be said. Cause and remedy are
-looked for in the sentences alone, and not in the excerpt of the text, which shows what was typed anyway.
+A string of a list may have several alternatives, separated by `|`; the explanation has to have one of them. Cause and
+remedy are looked for in the sentences only, and not in the excerpt of the text, which shows what was typed anyway.
 """
 
 from __future__ import annotations
@@ -19,7 +19,7 @@ class Fault:
     mistake: Mistake
     cause: tuple[str, ...]
     remedy: tuple[str, ...]
-    # Empty if the place is the one in the text of the mistake.
+    # Empty if it is the place that the mistake's text marks.
     place: tuple[str, ...] = ()
 
 

@@ -1,8 +1,8 @@
 """The first hour of somebody who has five CSV files of a school and writes no schema: ten questions, and the mistakes
 of that hour.
 
-What the explanation of each mistake has to say was written before any of them was run. The files lie in a folder
-`folder` below the one where the user is.
+What the explanation of each mistake has to say was written before any of the mistakes was run. The files are in
+`folder`, a folder of the user's working folder.
 """
 import io
 import zipfile
@@ -12,7 +12,7 @@ from typing import Optional
 from faults import Fault
 from mistakes import Files, Mistake, placed
 
-# What sqlite3 makes of the files, for the answers.
+# The tables that sqlite3 fills from the files, to get the answers.
 TABLES = """
 CREATE TABLE pupils (id INTEGER, name TEXT, class TEXT, born TEXT);
 CREATE TABLE teachers (id INTEGER, name TEXT, subject TEXT);
@@ -55,7 +55,7 @@ def query(text: str, cause: str) -> Mistake:
 
 
 def workbook() -> bytes:
-    """The first bytes of what a spreadsheet saves: an archive."""
+    """The first bytes of a file that a spreadsheet program saves: an archive."""
     data = io.BytesIO()
     with zipfile.ZipFile(data, "w") as archive:
         archive.writestr("xl/workbook.xml", "<workbook/>")
@@ -751,7 +751,7 @@ OF_OTHERS = [
     ),
 ]
 FIRST_HOUR = OF_TABLES + OF_CELLS + OF_QUERIES + OF_LINES + OF_DECIMALS + OF_NAMES + OF_FOLDERS + OF_OTHERS
-# Those whose remedy is a line to paste: behind it the same run ends well.
+# Mistakes whose remedy is a line to paste: after it the same run succeeds.
 PASTED = (
     "a table whose file ends in .txt",
     "a table whose file is in upper case",

@@ -1,7 +1,8 @@
 """What people type wrong over the library of tests/library, the program's line, and the words that an explanation has
 to have.
 
-Each kind has at least two variants. In a text, the sign § stands before the place that the line tells; it is taken out.
+Each kind has at least two variants. In a text, the sign § marks the place that the program's line has to name; the sign
+is removed before the run.
 """
 
 from __future__ import annotations
@@ -18,7 +19,8 @@ Files = Mapping[str, Optional[bytes]]
 
 @dataclass
 class Mistake:
-    """Files in the place of the library's (None: it is missing), the words, the line, and what the explanation says."""
+    """Files that replace those of the library (None: the file is missing), the words, the program's line, and what the
+    explanation says."""
 
     line: str | None
     says: tuple[str, ...]
@@ -27,7 +29,7 @@ class Mistake:
 
 
 def placed(text: str) -> tuple[bytes, int]:
-    """A text without its sign, and the place of the sign in bytes."""
+    """A text without its sign §, and the place of the sign in bytes."""
     before, _, behind = text.partition("§")
     return (before + behind).encode(), len(before.encode())
 

@@ -5,7 +5,7 @@ on the budget's line, and a click shows what a step joins.
 
 The program is the one that PROGRAM names, and without it the proved one, which `make build` makes. SHOTS names a folder
 that gets what the browser showed, as PNG. It needs Debian's chromium, chromium-driver and python3-selenium, which
-Debian's own Python has; where one is missing the tests are passed over.
+Debian's own Python has; where one of these is missing, the tests are skipped.
 """
 
 from __future__ import annotations
@@ -52,7 +52,7 @@ def want(is_so: object, what: object) -> None:
 
 
 def look_at_places(driver: Any) -> list[tuple[str, float, float, float, float]]:
-    """All texts lie within the picture, and no number of a bar on the budget's line."""
+    """Checks that all texts lie within the picture, and that no bar's number lies on the budget's line."""
     width, height, lines, found = driver.execute_script(PLACES)
     texts: list[tuple[str, float, float, float, float]] = found
     for words, x, y, wide, high in texts:
@@ -67,7 +67,7 @@ def look_at_places(driver: Any) -> list[tuple[str, float, float, float, float]]:
 
 
 def opened(room: str) -> Any:
-    """The browser, or nothing where a part of it isn't installed."""
+    """The browser, or nothing if a part of it isn't installed."""
     try:
         from selenium import webdriver
         from selenium.common.exceptions import SessionNotCreatedException

@@ -48,13 +48,13 @@ FEATURES = (
 )
 
 
-# A case of a test, and what is found of it.
+# A case of a test, and what the test finds of it.
 _Case = TypeVar("_Case")
 _Found = TypeVar("_Found")
 
 
 def want(is_so: object, what: object) -> None:
-    """Fails where something isn't so, and says what. It is no method, since what is tested side by side calls it
+    """Fails with `what` if something isn't so. It is a function and no method, since tests that run in parallel call it
     too."""
     if not is_so:
         raise AssertionError(what)
@@ -101,12 +101,12 @@ class Bench:
         return other
 
     def of_each(self, test: Callable[[Bench, _Case], _Found], cases: Iterable[_Case]) -> list[_Found]:
-        """What a test finds of each case, in a room of its own, side by side over the machine's processors."""
+        """What a test finds of each case. Cases run in parallel, each in a room of its own."""
         with ThreadPoolExecutor(os.cpu_count()) as pool:
             return list(pool.map(lambda case: test(self.beside(), case), cases))
 
     def lay(self, files: Mapping[str, bytes | None] | None = None, of: str = LIBRARY) -> None:
-        """A folder with the library's files, and these in their place."""
+        """Makes a folder with the library's files, some of them replaced by these."""
         shutil.rmtree(self.folder, ignore_errors=True)
         shutil.copytree(of, self.folder, ignore=shutil.ignore_patterns("expected"))
         for name, data in (files or {}).items():
@@ -222,14 +222,14 @@ def failure(test: Callable[[Bench, _Case], object], bench: Bench, case: _Case) -
 
 
 def without_excerpt(notes: str) -> str:
-    """The sentences below the line of a fault: what was typed, and the mark below it, are left out."""
+    """The sentences below the line of a fault, without the excerpt of what was typed and the mark below it."""
     lines = notes.split("\n")
     marked = [at for at, line in enumerate(lines) if re.fullmatch(r" {4} *\^+", line)]
     return "\n".join(line for at, line in enumerate(lines) if at not in marked and at + 1 not in marked)
 
 
 def lacking(notes: str, words: Iterable[str]) -> list[str]:
-    """Those of the words that aren't said in any of their forms."""
+    """The words of which the text has no form."""
     said = squeezed(notes)
     return [
         word for word in words if not any(squeezed(form) in said for form in word.split(" | " if "||" in word else "|"))
@@ -237,7 +237,7 @@ def lacking(notes: str, words: Iterable[str]) -> list[str]:
 
 
 def judged(bench: Bench, fault: Fault) -> tuple[list[str], str]:
-    """What a fault isn't told, of its line, its place, its cause and its remedy."""
+    """What is missing in the explanation of a fault (line, place, cause or remedy), and the whole explanation."""
     mistake = fault.mistake
     bench.lay(mistake.files)
     notes = bench.run("--explain", *mistake.words)[2].decode()
@@ -253,8 +253,8 @@ def judged(bench: Bench, fault: Fault) -> tuple[list[str], str]:
 
 
 def of_the_first_hour(bench: Bench, fault: Fault) -> tuple[list[str], str]:
-    """A mistake over the school's files, made in the folder above theirs: what isn't told below the proposed schema,
-    and all that is."""
+    """A mistake over the school's files, made in the folder above theirs: what is missing in the explanation below the
+    proposed schema, and all of standard error."""
     bench.lay(fault.mistake.files, of=SCHOOL)
     notes = bench.run("--explain", *fault.mistake.words, cwd=bench.room)[2].decode()
     told = without_excerpt(re.split(r"^CREATE TABLE .*\n", notes, flags=re.M)[-1])
@@ -269,7 +269,7 @@ def of_the_first_hour(bench: Bench, fault: Fault) -> tuple[list[str], str]:
 
 
 def pasted(bench: Bench, fault: Fault) -> None:
-    """A mistake whose explanation has one line to paste: that works, and what was typed works behind it."""
+    """A mistake whose explanation has one line to paste: the line works, and then what was typed works too."""
     environment = {**bench.environment, "PATH": f"{os.path.dirname(bench.command)}:{os.environ['PATH']}"}
     notes = of_the_first_hour(bench, fault)[1]
     lines = re.findall(r"^ {4}((?:safebound|mv) .*)$", notes, re.M)
@@ -309,8 +309,7 @@ class Explanations(Installed):
         want(not wrong, "\n".join(wrong))
 
     def test_decimals_are_compared_as_cents(self) -> None:
-        """The line that is advised, pasted, and the query with the comparison that is advised: the rows are counted by
-        hand."""
+        """Pastes the advised line, and runs the query with the advised comparison. Its rows were counted by hand."""
         environment = {**self.bench.environment, "PATH": f"{os.path.dirname(self.bench.command)}:{os.environ['PATH']}"}
         for name, rows in (
             ("decimals beside a whole number", b"2 3 5"),
@@ -358,7 +357,7 @@ class Explanations(Installed):
         )
 
     def test_what_is_advised_for_rows_works(self) -> None:
-        """The command lines that stand behind a run: sorted, each row once, and with LF."""
+        """The advised commands after `run .. |`: they sort the rows, leave each row once, or end lines in LF."""
         sys.path.insert(0, os.path.join(self.bench.usr, "lib", "safebound"))
         ADVICE: dict[str, str] = importlib.import_module("safebound_lib.explain.query_advice").WORDS
         self.bench.lay({"query.sql": b"SELECT TOWN FROM READER"})
@@ -424,7 +423,7 @@ class PassedThrough(Installed):
         want(done.returncode == 0 and ", 0 failed" in done.stdout, done.stdout)
 
     def test_broken_streams_files_and_words_pass_through(self) -> None:
-        # The command is copied as the program is there, so that it finds itself by an absolute path.
+        # cases/process copies the program. A copy of the command wouldn't find its package, so a wrapper has the path.
         wrapper = os.path.join(self.bench.room, "wrapper")
         with open(wrapper, "w") as f:
             f.write(
@@ -514,7 +513,7 @@ def read_all(number: int) -> bytes:
 
 
 def shown(page: str, first: str, last: str) -> str:
-    """The lines of a page from the one behind `first` to `last`, as they are indented there."""
+    """The lines of a page from the one after `first` to `last`, indented as they are there."""
     with open(os.path.join(ROOT, page), encoding="utf-8") as f:
         text = f.read()
     return text[text.index(first) + len(first):text.index(last) + len(last)].replace("\n    ", "\n").lstrip("\n") + "\n"
@@ -624,7 +623,7 @@ class ATerminal(Installed):
         want(first == "error budget 3120\n" and rest.startswith("The best order"), repr(shown))
 
     def test_progress_of_a_read(self) -> None:
-        """A table that comes slowly, through a pipe with a name."""
+        """A table that is read slowly, through a named pipe."""
         self.bench.lay({"genre.csv": None, "query.sql": b"SELECT NAME FROM GENRE"})
         pipe = os.path.join(self.bench.folder, "genre.csv")
         os.mkfifo(pipe)
@@ -643,7 +642,8 @@ class ATerminal(Installed):
         want(status == 0 and shown.endswith("\r\033[Kscan GENRE 1\nlevel 1 GENRE 1\nNAME\nNovel\n"), repr(shown))
 
     def test_progress_of_rows(self) -> None:
-        """More rows than a pipe holds, which is read only once the terminal has said how many bytes were written."""
+        """More rows than a pipe holds. The pipe is read only after the terminal has shown how many bytes were written.
+        """
         many = b"X\r\n" + 400 * b"1\r\n"
         self.bench.lay(
             {
@@ -737,7 +737,7 @@ CREATE TABLE READER (
 TABLES = ("author.csv", "book.csv", "genre.csv", "loan.csv", "reader.csv")
 
 
-# Files that stand in the way, or whose user has to know something: the file, its bytes, the words, and what the schema
+# Files with a problem, or of which the user has to know something: the file, its bytes, the words, and what the schema
 # has (None: no table).
 IN_THE_WAY = (
     ("a.csv", b"1,Ane,Hamar\r\n2,Bo,Moss\r\n", ("first line looks like a row", "line of names above it"), None),

@@ -44,7 +44,7 @@ def questions(folder: str = os.path.join(places.QUERIES, "profile")) -> list[Que
 
 
 def is_cyclic(query: reading.Query) -> bool:
-    """Whether some equality stands between entries that others connect already."""
+    """Whether some equality joins two entries that other equalities connect already."""
     equals = reading.equalities(query)
     return len(reading.kept(equals)) < len(equals)
 
@@ -73,7 +73,7 @@ def restricted(query: reading.Query, entries: tuple[int, ...]) -> reading.Query:
 
 
 def renumbered(cond: Condition, place: dict[int, int]) -> Condition:
-    """The condition with each entry's number in `place`."""
+    """The condition with each entry's number replaced by that of `place`."""
     if cond[0] in ("and", "or"):
         return cond[0], [renumbered(part, place) for part in cond[1]]
     if cond[0] == "not":
@@ -89,7 +89,7 @@ def connected_sets(query: reading.Query) -> Iterator[tuple[int, ...]]:
                 yield entries
 
 
-# ---- as SQL, under names that depend on places alone, so that equal sets of different questions have one text
+# ---- as SQL, with aliases made of the entries' numbers, so that equal sets of different questions have one text
 
 
 def side_sql(query: reading.Query, side: Condition) -> str:

@@ -17,7 +17,7 @@ def ask() -> int:
     """Runs the question and draws its plan; makes the tables first where there are none. Gives the exit status."""
     if not making.is_made():
         fetching.fetch()
-        print("tables are made of it, which takes about a minute", file=sys.stderr, flush=True)
+        print("the tables are made, which takes about a minute", file=sys.stderr, flush=True)
         making.make()
     question = os.path.join(places.QUERIES, "profile", NAME + ".sql")
     shutil.copy(question, places.TABLES)

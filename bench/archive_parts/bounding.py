@@ -26,11 +26,11 @@ class Flags(NamedTuple):
         return "`" + " ".join(self.words) + "`" if self.words else "no flag"
 
 
-ALL = (Flags("statistics", 1), Flags("statistics", 8), Flags("keys", 8), Flags("reduce", 1), Flags("reduce", 64))
+COMPUTED = (Flags("statistics", 1), Flags("statistics", 8), Flags("keys", 8), Flags("reduce", 1), Flags("reduce", 64))
 COUNT = Flags("count", 1)
-# Those that are run: the bounds of --count are what the program prints, beside PostgreSQL's rows and the bounds of
-# --reduce.
-TRIED = (*ALL, COUNT)
+# The program is run with all of these. No bounds of --count are computed here: those that the program prints are
+# compared with PostgreSQL's rows and with the bounds of --reduce.
+TRIED = (*COMPUTED, COUNT)
 
 
 class Bounder:
@@ -39,7 +39,7 @@ class Bounder:
     def __init__(self, tables: Tables) -> None:
         self.tables = tables
         self.known: dict[str, dict[Flags, int]] = {}
-        self.statistics = {flags.accuracy: degrees.Statistics(tables, flags.accuracy) for flags in ALL}
+        self.statistics = {flags.accuracy: degrees.Statistics(tables, flags.accuracy) for flags in COMPUTED}
 
     def lists(self, query: reading.Query, flags: Flags, rows: Rows) -> degrees.Known:
         if flags.source == "reduce":
@@ -52,5 +52,5 @@ class Bounder:
         sql = asked.sql(query)
         if sql not in self.known:
             rows = Rows(self.tables, query)
-            self.known[sql] = {flags: self.lists(query, flags, rows).bound() for flags in ALL}
+            self.known[sql] = {flags: self.lists(query, flags, rows).bound() for flags in COMPUTED}
         return self.known[sql]

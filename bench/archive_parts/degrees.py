@@ -1,5 +1,5 @@
-"""Degree lists and bounds of sets, after docs/DEFINITIONS.md, over columns of numbers: cases/reading.py for millions of
-rows.
+"""Degree lists and bounds of sets, after docs/DEFINITIONS.md, over columns of numbers. The results are those of
+cases/reading.py, and this is fast enough for millions of rows.
 
 A list is an array of degrees, the greatest first. Bounds take it as runs of equal degrees.
 """
@@ -221,7 +221,7 @@ class Filtered:
 
 # ---- bounds of sets
 
-# A function of ranks or of rows is kept as steps: a value, and how far it holds. Behind its last step it is 0.
+# A function of ranks or of rows is kept as steps: a value, and the index where it ends. After the last step it is 0.
 Steps = List[Tuple[int, int]]
 
 

@@ -15,8 +15,8 @@ SAID = "the package index (9 MB) and the list of contents (46 MB) of Debian's ar
 
 
 def options() -> list[str]:
-    """Words that have apt read the machine's own sources of Debian and no others, and keep its lists in our folder, so
-    that apt's own stay as they are."""
+    """Options with which apt reads the machine's own sources of Debian and no others, and keeps its lists in our
+    folder, so that apt's own lists stay as they are."""
     source = next((path for path in SOURCES if os.path.exists(path)), None)
     if source is None:
         sys.exit("archive: apt has no sources of Debian here: neither of " + ", ".join(SOURCES))

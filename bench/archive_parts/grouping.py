@@ -1,7 +1,7 @@
 """A query's number of rows by groups, as one SQL statement, for joins with too many rows to be listed.
 
 Columns that are equal are one variable. Each entry is a table of its variables with counts, and one variable after
-another is summed away.
+another is summed out.
 """
 
 from __future__ import annotations
@@ -51,7 +51,7 @@ class Grouping:
         return Factor(name, variables)
 
     def scan(self, entry: int) -> Factor:
-        """The rows of an entry by its variables."""
+        """The rows of an entry, counted by its variables."""
         own = {column: number for (of, column), number in self.number.items() if of == entry}
         names = {column: asked.side_sql(self.query, ("column", entry, column)) for column in own}
         first = {number: names[column] for column, number in sorted(own.items(), reverse=True)}
@@ -69,7 +69,7 @@ class Grouping:
         return frozenset(self.number[column] for column in columns_of(cond))
 
     def around(self, variable: Variable) -> tuple[list[Factor], frozenset[Variable]]:
-        """The factors that must be joined before a variable is summed away, and all of their variables."""
+        """The factors that must be joined before a variable is summed out, and all of their variables."""
         named = [self.of_cond(cond) for cond in self.pending]
         wanted = frozenset({variable}).union(*(some for some in named if variable in some))
         chosen = [factor for factor in self.factors if variable in factor.variables]
@@ -107,7 +107,7 @@ class Grouping:
         return f"{texts[0]} {op} {texts[1]}"
 
     def sql(self) -> str:
-        """The statement. The variable with the fewest others around it is summed away first."""
+        """The statement. The variable with the fewest others around it is summed out first."""
         while left := all_variables(self.factors):
             self.sum_away(min(left, key=lambda variable: (len(self.around(variable)[1]), variable)))
         total = " * ".join(f"COALESCE((SELECT C FROM {factor.name}), 0)" for factor in self.factors)

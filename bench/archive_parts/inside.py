@@ -41,7 +41,7 @@ class Backend:
                 self.connection.cancel()
 
     def run(self, text: str) -> tuple[float, bool]:
-        """Plans and runs a query without telling its rows: its seconds, and whether it was cancelled."""
+        """Plans and runs a query without returning its rows: its seconds, and whether it was cancelled."""
         begin, done = self.seconds(), threading.Event()
         watch = threading.Thread(target=self.cancel_at, args=(begin + LONGEST, done))
         watch.start()
@@ -82,7 +82,7 @@ def measured(backend: Backend, text: str) -> tuple[float, bool]:
 
 
 def in_modes(backend: Backend, text: str, modes: Iterable[str]) -> Iterator[tuple[str, float, bool, float]]:
-    """One question in each mode. A plan that another mode had too isn't run again: its run counts as long, and only its
+    """One question in each mode. If an earlier mode had the same plan, that run's time counts here too, and only
     planning is measured."""
     known: dict[str, tuple[float, bool, float]] = {}
     for mode in modes:
@@ -95,7 +95,7 @@ def in_modes(backend: Backend, text: str, modes: Iterable[str]) -> Iterator[tupl
 
 
 def rows(url: str) -> Iterator[list[object]]:
-    """Each question in each mode, in turn. Every second one was put aside while the extension was made."""
+    """Each question in each mode, in turn. Every second question was held out while the extension was made."""
     backend = Backend(url)
     for number, question in enumerate(asked.questions()):
         modes = (MODES[(number + turn) % len(MODES)] for turn in range(len(MODES)))
@@ -105,7 +105,7 @@ def rows(url: str) -> Iterator[list[object]]:
 
 
 @dataclass
-class Told:
+class Taken:
     """What one question took in each mode."""
 
     seconds: dict[str, float]
@@ -113,11 +113,11 @@ class Told:
     planning: dict[str, float]
 
 
-def by_question(lines: list[dict[str, str]], half: str) -> dict[str, Told]:
-    told: dict[str, Told] = {}
+def by_question(lines: list[dict[str, str]], half: str) -> dict[str, Taken]:
+    told: dict[str, Taken] = {}
     for line in lines:
         if half in ("all", line["half"]):
-            one = told.setdefault(line["query"], Told({}, {}, {}))
+            one = told.setdefault(line["query"], Taken({}, {}, {}))
             one.seconds[line["mode"]] = float(line["seconds"])
             one.cancelled[line["mode"]] = line["cancelled"] == "True"
             one.planning[line["mode"]] = float(line["planning"])
@@ -135,7 +135,7 @@ def table(lines: list[dict[str, str]]) -> Iterator[str]:
         yield from (f"| {half} ({len(told)}) | {mode} | {cells(told, mode)} |" for mode in MODES)
 
 
-def cells(told: list[Told], mode: str) -> str:
+def cells(told: list[Taken], mode: str) -> str:
     """What all questions took in one mode, beside PostgreSQL's own numbers of rows."""
     ratios = sorted(one.seconds[mode] / one.seconds["off"] for one in told)
     longer = sorted(one.planning[mode] - one.planning["off"] for one in told)

@@ -30,7 +30,7 @@ LEFT_OUT = "usr/share/"
 
 
 def paragraphs(lines: Iterable[str]) -> Iterator[dict[str, str]]:
-    """The fields of each package that we want. An empty line ends a package."""
+    """For each package those of its fields that FIELDS names. An empty line ends a package."""
     for is_full, paragraph in itertools.groupby(lines, bool):
         if is_full and (found := fields_of(paragraph)):
             yield found
@@ -103,7 +103,7 @@ def paths(lines: Iterable[str], ids: dict[str, int]) -> Iterator[tuple[str, str,
 
 
 class Directories:
-    """Folders by their paths, numbered as they come; 1 is the root, its own parent."""
+    """Folders by their paths, numbered in the order in which they first occur; 1 is the root, its own parent."""
 
     def __init__(self) -> None:
         self.numbers = {"": 1}
@@ -125,7 +125,8 @@ def write(folder: str, table: str, rows: Iterable[Row]) -> None:
 
 
 def write_files(ids: dict[str, int]) -> None:
-    """Files and folders: those that the program takes first, so that both sets have the same numbers for them."""
+    """The tables of files and folders. The files that the program takes come first, so that their folders have the same
+    numbers in both sets of tables."""
     found = sorted(paths(fetching.lines("Contents-deb"), ids))
     within = [one for one in found if not (one[0] + "/").startswith(LEFT_OUT)]
     others = [one for one in found if (one[0] + "/").startswith(LEFT_OUT)]

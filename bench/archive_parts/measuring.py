@@ -14,7 +14,7 @@ from typing import Iterable, Iterator
 from server import connected_by
 
 from . import asked, places, running
-from .bounding import ALL, TRIED, Bounder
+from .bounding import COMPUTED, TRIED, Bounder
 from .columns import kept
 from .truth import Counter
 
@@ -22,12 +22,12 @@ SETS = os.path.join(places.MADE, "sets.csv")
 RUNS = os.path.join(places.MADE, "runs.csv")
 PLANS = os.path.join(places.MADE, "plans.csv")
 ABOUT_SETS = ("question", "entries", "size", "whole", "cyclic", "rows", "by", "expected")
-SET_COLUMNS = [*ABOUT_SETS, *(flags.name for flags in ALL)]
+SET_COLUMNS = [*ABOUT_SETS, *(flags.name for flags in COMPUTED)]
 ABOUT_RUNS = ("cost", "last", "status", "seconds", "peak", "rows", "same")
 RUN_COLUMNS = ["question", "flags", *ABOUT_RUNS, "postgres_rows", "postgres_seconds"]
 COMMANDS, FIGURES = ("plan", "run"), ("status", "seconds", "processor", "peak")
 PLAN_COLUMNS = ["question", "flags", "load", *(f"{command}_{figure}" for command in COMMANDS for figure in FIGURES)]
-# How long PostgreSQL may take to count a set, and for a query.
+# Seconds that PostgreSQL may take to count a set, and to run a query.
 COUNTING, ASKING = 60, 60
 
 

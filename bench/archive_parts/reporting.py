@@ -7,7 +7,7 @@ from typing import Dict, Iterable, List
 
 import numpy as np
 
-from .bounding import ALL, COUNT, TRIED, Flags
+from .bounding import COMPUTED, COUNT, TRIED, Flags
 from .measuring import COMMANDS, PLANS, RUNS, SETS
 from .running import BUDGET
 
@@ -55,7 +55,7 @@ def tried(found: Lines) -> list[Flags]:
 
 
 def counted(runs: Lines, names: set[str]) -> list[float]:
-    """What `--count` prints of whole queries that it admits, over PostgreSQL's rows."""
+    """For each whole query that `--count` admits, its printed bound divided by PostgreSQL's rows."""
     counts = [one for one in runs if one["flags"] == COUNT.name and one["question"] in names]
     both = [(one["last"], one["postgres_rows"]) for one in counts if one["last"] and one["postgres_rows"]]
     return [int(last) / max(int(rows), 1) for last, rows in both]
@@ -78,14 +78,14 @@ def check(sets: Lines, runs: Lines) -> None:
     """Checks that no bound is below its rows, that no run has other rows than PostgreSQL, and that the program prints
     the bounds that the definitions give."""
     whole = [one for one in sets if one["whole"] == "1"]
-    bound = {(one["question"], flags.name): int(one[flags.name]) for one in whole for flags in ALL}
+    bound = {(one["question"], flags.name): int(one[flags.name]) for one in whole for flags in COMPUTED}
     ran = [one for one in runs if one["status"] == "0"]
-    under = [one for one in sets for flags in ALL if is_below(one, flags.name, "rows")]
+    under = [one for one in sets for flags in COMPUTED if is_below(one, flags.name, "rows")]
     under += [one for one in ran if is_below(one, "last", "postgres_rows")]
     defined = [one for one in runs if one["flags"] != COUNT.name]
     others = [one for one in defined if one in ran and int(one["last"]) != bound[one["question"], one["flags"]]]
     low = [one for one in defined if int(one["cost"]) < bound[one["question"], one["flags"]]]
-    reduced = [flags.name for flags in ALL if flags.source == "reduce"][-1]
+    reduced = [flags.name for flags in COMPUTED if flags.source == "reduce"][-1]
     counts = [one for one in ran if one["flags"] == COUNT.name]
     above = [one for one in counts if int(one["last"]) > bound[one["question"], reduced]]
     wrong = [one for one in ran if one["same"] == "0"]
@@ -99,11 +99,11 @@ def check(sets: Lines, runs: Lines) -> None:
 
 
 REFUSED = ("refused at 20,000,000", "at 1,000,000")
-WHOLE = ["bound over rows of the whole query", "median", "75th", "90th percentile", "worst", *REFUSED]
+WHOLE = ["whole query: bound / rows", "median", "75th", "90th percentile", "worst", *REFUSED]
 
 
 def whole_queries(sets: Lines, runs: Lines) -> None:
-    """The bound of each whole query over its rows, and what budgets refuse."""
+    """Tables: the bound of each whole query divided by its rows, and how many queries budgets refuse."""
     whole = [one for one in sets if one["whole"] == "1"]
     for title, chosen in (("all", ("0", "1")), ("without cycles", ("0",)), ("with cycles", ("1",))):
         asked = [one for one in whole if one["cyclic"] in chosen]
@@ -112,7 +112,7 @@ def whole_queries(sets: Lines, runs: Lines) -> None:
 
 
 def whole_by(flags: Flags, asked: Lines, runs: Lines) -> list[str]:
-    """The line of one set of flags."""
+    """The table's line for one set of flags."""
     names = {one["question"] for one in asked}
     cost = {one["question"]: int(one["cost"]) for one in runs if one["flags"] == flags.name and one["cost"]}
     refused = [sum(cost.get(name, budget + 1) > budget for name in names) for budget in (BUDGET, SMALL_BUDGET)]
@@ -122,9 +122,9 @@ def whole_by(flags: Flags, asked: Lines, runs: Lines) -> list[str]:
 
 def by_size(sets: Lines) -> None:
     sizes = sorted({int(one["size"]) for one in sets})
-    print("Median, and 90th percentile, of bound over rows by the number of entries:\n")
+    print("Median, and 90th percentile, of bound / rows by the number of entries:\n")
     rows = []
-    for flags in ALL:
+    for flags in COMPUTED:
         spreads = [spread(bounded([one for one in sets if int(one["size"]) == size], flags.name)) for size in sizes]
         rows.append([flags.name, *(f"{found[0]}, {found[2]}" for found in spreads)])
     counts = [str(sum(int(one["size"]) == size for one in sets)) for size in sizes]
@@ -177,7 +177,8 @@ def times_by(flags: Flags, runs: Lines) -> list[str]:
 
 
 def sums(runs: Lines) -> None:
-    """What `--reduce` took beside PostgreSQL, and what each set of flags took for what all of them admit."""
+    """What `--reduce` took beside PostgreSQL, and what each set of flags took for the questions that all of them
+    admit."""
     ran = [one for one in runs if one["status"] == "0"]
     reduced = [one for one in ran if one["flags"] == "`--reduce`" and one["postgres_rows"]]
     both = [(float(one["seconds"]), float(one["postgres_seconds"])) for one in reduced]
@@ -205,8 +206,8 @@ def plans(found: Lines) -> None:
     longest = {command: max((float(one[f"{command}_seconds"]) for one in refused), default=0.0) for command in COMMANDS}
     print(
         f"{len(found)} plans, each with its run right after it, at load {min(loads):.0f} to {max(loads):.0f};"
-        f" {len(refused)} times both refused, in at most {longest['plan']:.1f} s and {longest['run']:.1f} s. Median,"
-        " 90th percentile, worst of the others:\n"
+        f" {len(refused)} times both refused, `plan` in at most {longest['plan']:.1f} s and `run` in at most"
+        f" {longest['run']:.1f} s. Median, 90th percentile, worst of the others:\n"
     )
     header = ["", "admitted", *(f"`{command}`, {title}" for title in FIGURES.values() for command in COMMANDS)]
     table(header, [plans_by(flags, found) for flags in tried(found)])
@@ -234,7 +235,7 @@ def beside_reduce(found: Lines) -> None:
 def worst(sets: Lines, number: int = 10) -> None:
     """The whole queries with the loosest bounds, for each set of flags."""
     whole = [one for one in sets if one["whole"] == "1" and one["rows"]]
-    for flags in ALL:
+    for flags in COMPUTED:
         found = [(factor(one, flags.name), one) for one in whole if one[flags.name]]
         loosest = sorted(found, key=lambda pair: -pair[0])[:number]
         print(f"{flags.name}:\n")

@@ -12,7 +12,7 @@ import reading
 from . import asked, grouping, places, server
 from .columns import Rows, Tables
 
-# Below this many rows by groups PostgreSQL counts too, and both must say the same.
+# Where groups give at most this many rows, PostgreSQL counts them too, and both must give the same number.
 COUNTED_TWICE = 3_000_000
 SETTINGS = ("work_mem = '256MB'", "jit = off", "statement_timeout = '{seconds}s'")
 KEPT = os.path.join(places.MADE, "truth.csv")

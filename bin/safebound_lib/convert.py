@@ -169,7 +169,7 @@ def parsed(text: str, separator: str) -> Iterator[list[str]]:
 
 def evenness(text: str, separator: str) -> tuple[bool, int, int]:
     """How well a separator fits: whether it splits the header, how many records have as many fields as the header, and
-    how many these are.
+    how many fields the header has.
     """
     widths = [len(record) for _, record in zip(range(LOOKED_AT), parsed(text, separator))]
     wide = widths[0] if widths else 1

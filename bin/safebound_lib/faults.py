@@ -48,7 +48,7 @@ class Fault:
 
 
 def fault_of(notes: bytes) -> Fault | None:
-    """The fault that standard error tells, or None. Its line stands alone, or after the plan if a write failed."""
+    """The fault that standard error reports, or None. Its line stands alone, or after the plan if a write failed."""
     text = notes.decode("utf-8", "surrogateescape")
     line = text if text.startswith("error ") else text[text.rstrip("\n").rfind("\n") + 1:]
     match = next((match for form in FORMS for match in [form.fullmatch(line.removesuffix("\n"))] if match), None)

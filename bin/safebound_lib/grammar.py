@@ -1,4 +1,4 @@
-"""Reading tokens by a grammar, rule by rule, and what could have stood where that goes wrong."""
+"""Reads tokens by a grammar, rule by rule. If that goes wrong, it knows what could have stood at that place."""
 from __future__ import annotations
 
 from collections.abc import Callable
@@ -15,7 +15,7 @@ class Wrong(Exception):
 
 
 class Reader:
-    """Goes along the tokens. It remembers the furthest place that it tested, and all that it tested for there."""
+    """Goes along the tokens. It remembers the furthest place that it tested, and everything that it expected there."""
 
     def __init__(self, tokens: list[Token]) -> None:
         self.tokens, self.at, self.furthest = tokens, 0, 0

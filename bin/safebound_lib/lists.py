@@ -87,7 +87,8 @@ def runs(words: list[str]) -> Runs:
 
 @dataclass(frozen=True)
 class Test:
-    """A comparison of a column with a value, NOT moved into it. Any other comparison has no column."""
+    """A comparison of a column with a value; a NOT has been moved into it. For any other comparison `column` is empty.
+    """
     column: str = ""
     operator: str = ""
     value: Value = None
@@ -133,7 +134,7 @@ def literal_value(literal: Literal) -> Value:
 
 @dataclass(frozen=True)
 class Asked:
-    """What is asked of a column's statistics: the list of a value, or of a range (None: it is open there)."""
+    """What is asked of a column's statistics: the list of a value, or of a range (an end that is None is open)."""
     column: str
     low: Value
     high: Value
@@ -141,7 +142,7 @@ class Asked:
 
 
 def flat(condition: Test | Group) -> list[Test | Group]:
-    """The members of an AND, through those of ANDs in it."""
+    """The members of an AND; in place of a member that is an AND too, the members of that one."""
     if isinstance(condition, Test) or condition.by == "OR":
         return [condition]
     return [found for member in condition.members for found in flat(member)]

@@ -2,8 +2,8 @@
 tree each node has a bar between those of the two nodes that it joins, and the tree stands below. At the
 bottom stand the conditions, step by step.
 
-Heights are logarithms: a step of the grid is a factor of ten. True rows stand within a bar, and the budget is a line
-that no number cuts.
+Heights are logarithms: a step of the grid is a factor of ten. A true number of rows is a bar within the bound's bar.
+The budget is a line, which goes through no number.
 """
 from __future__ import annotations
 
@@ -30,7 +30,7 @@ def short(name: str, most: int) -> str:
 
 
 def safe(text: str) -> str:
-    """A text as it may stand in a picture or a page: no mark of theirs, and no control character."""
+    """A text as it may stand in a picture or a page: marks of XML and control characters are escaped."""
     return escape(plain(text))
 
 
@@ -53,7 +53,7 @@ class Picture:
         self.grid()
 
     def height(self, value: int) -> float:
-        """How high a bar is. All but that of 0 have a few points more, so that a bar of 1 is seen."""
+        """How high a bar is. All bars except that of 0 are a few points higher, so that a bar of 1 is visible."""
         return 0 if value == 0 else 8 + (HEIGHT - 8) * math.log10(value) / self.decades
 
     def text(
@@ -130,8 +130,7 @@ class Picture:
         for x, y, words in self.numbers:
             self.text(x, y, words, 11)
         height = self.conditions(below)
-        # On a page it becomes a little smaller where there is less room, and is moved under it where there is less
-        # still.
+        # On a page the picture shrinks to three quarters where there is less room. Below that it is scrolled.
         fits = (
             f' style="width:100%;height:auto;max-width:{self.width}px;min-width:{self.width * 3 // 4}px"'
             if self.is_linked else ""
@@ -185,7 +184,7 @@ def draw_step(picture: Picture, at: int, left: float, bound: int) -> None:
 
 
 def depths(plan: PlanText) -> list[int]:
-    """How far each node stands above the leaves below it."""
+    """The height of each node in the tree; a leaf's is 0."""
     found = [0] * len(plan.scans)
     for node in plan.nodes:
         found.append(1 + max(found[node.left], found[node.right]))

@@ -34,7 +34,7 @@ def open_files(pid: int) -> list[str]:
 
 
 def tables_of(words: list[str]) -> list[tuple[str, int]]:
-    """The files of the tables that a query names, each with its size; none where that can't be told."""
+    """The files of the tables that a query names, each with its size; an empty list if that isn't known."""
     try:
         run = Run(words)
         entries = run.query.entries if run.stats_file is None else []
@@ -73,7 +73,8 @@ class Progress:
         return f"counting how often values repeat{of}, and planning"
 
     def table_now(self) -> Optional[int]:
-        """The table that is open, else the last of those whose bytes have come; nothing once all have come."""
+        """The table that is open, else the last one whose bytes have all been read; nothing once all tables are read.
+        """
         names = [file for file, _ in self.tables]
         opened = next((names.index(file) for file in open_files(self.pid) if file in names), None)
         if opened is not None:

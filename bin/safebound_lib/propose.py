@@ -46,7 +46,7 @@ class Proposal:
 
     def short(self, files: list[str], target: str, uses: str) -> str:
         """The schema text in a line for each table, and how to keep it; `files`, `target` and the line that `uses` a
-        kept one are words to paste.
+        kept schema are texts to paste.
         """
         room = columns() if program.is_terminal(2) else None
         lines = [
@@ -124,7 +124,7 @@ def primary_of(sheet: Sheet) -> Optional[Column]:
 
 
 def bare(name: str) -> str:
-    """A name without the ending that columns that refer often have."""
+    """A name without an ending such as _ID, which columns that refer to a key often have."""
     return ENDINGS.sub("", name.strip('"').upper())
 
 

@@ -40,23 +40,23 @@ class Command:
 
 
 BUDGET = Option(
-    "--budget", "N", "the most rows that the bound of any level may say; 1,000,000 without it", 1, MOST_BUDGET
+    "--budget", "N", "the greatest bound that a level may have; 1,000,000 without it", 1, MOST_BUDGET
 )
 ACCURACY = Option(
     "--accuracy", "K",
     "how closely lists of degrees are kept: more takes longer and mostly lowers bounds; 1 without it", 1, 64,
 )
-REDUCE = Option("--reduce", None, "puts rows aside that lack a partner, and makes bounds over those that are left")
+REDUCE = Option("--reduce", None, "leaves out rows that lack a partner, and makes bounds over the others")
 COUNT = Option(
     "--count", None,
-    "as --reduce, with bounds that are counted, mostly exact; stands beside neither --reduce, --keys nor --accuracy",
+    "as --reduce, with bounds that are counted, mostly exact; not with --reduce, --keys or --accuracy",
 )
 BUSHY = Option(
     "--bushy", None, "joins by the best tree of any shape and not along an order; a budget is then at most 4,000,000"
 )
 KEYS = Option(
     "--keys", None,
-    "carries conditions on a table to those that refer to its key; stands beside neither --reduce nor --count",
+    "uses conditions on a table for tables that refer to its key; not with --reduce or --count",
 )
 MEMORY = Option(
     "--memory", "N",
@@ -67,8 +67,8 @@ STATS = Option(
     "--stats",
     "FILE",
     (
-        "plans from this statistics file, which `stats` wrote, and reads no table; beside it only --budget, --memory"
-        " and --bushy may stand"
+        "plans from this statistics file, which `stats` wrote, and reads no table; only with --budget, --memory and"
+        " --bushy"
     ),
 )
 
@@ -92,7 +92,7 @@ OUTPUT = Option(
     ),
     is_own=True,
 )
-RESULT = Option("--output", "FILE", "writes to FILE, which may not be there yet; - is standard output", is_own=True)
+RESULT = Option("--output", "FILE", "writes to FILE, a new file; - is standard output", is_own=True)
 ENCODING = Option(
     "--encoding", "NAME", "the encoding that the file has, as latin-1 or cp850; without it, it is found from the bytes",
     is_own=True,
@@ -116,7 +116,7 @@ COMMANDS = (
         TEXTS,
         "the plan on standard error, and every row on standard output, as CSV",
         (*OF_PLANS, DATA, EXPLAIN),
-        "Where the bound of some level is past the budget, nothing is joined and the least budget is told.",
+        "If a level's bound is above the budget, nothing is joined, and the least sufficient budget is printed.",
         (
             "safebound run schema.sql query.sql",
             "safebound run schema.sql query.sql --data shop --budget 50000 > rows.csv",
@@ -150,13 +150,13 @@ COMMANDS = (
         (DATA, EXPLAIN),
         (
             "TABLE is the table's name, and ROWS a CSV file of the new rows alone, with a header. The old rows aren't"
-            " read, and keys are looked at among the new rows alone. Write to another file than STATS."
+            " read, and keys are checked among the new rows alone. Write to another file than STATS."
         ),
         ("safebound append schema.sql trips.stats TRIP new.csv > trips.new",),
     ),
     Command(
         "demo", ("NUMBER",), "the audit of a query over a shop of 670,000 rows, made in memory", (EXPLAIN,),
-        "NUMBER is from 0 to 4,294,967,295, and another one makes other rows.", ("safebound demo 7",),
+        "NUMBER is from 0 to 4,294,967,295; each number makes other rows.", ("safebound demo 7",),
     ),
     Command(
         "schema",
@@ -164,10 +164,10 @@ COMMANDS = (
         "proposes a schema text from the headers and values of table files, on standard output",
         (RESULT,),
         (
-            "A column of whole numbers is INTEGER, any other a text of its greatest length. Where a column repeats"
-            " nothing it is a key, and where all its values are in another table's key it refers to it. What stands in"
-            " the way is said on standard error, file by file, with what to do; the exit status is then 6 where a file"
-            " gives no table. A folder stands for its files."
+            "A column of whole numbers is INTEGER, any other a text of its greatest length. A column that repeats"
+            " nothing is a key, and a column whose values are all in another table's key refers to it. Problems are"
+            " listed on standard error, file by file, with what to do. The exit status is 6 if a file gives no table."
+            " A folder stands for its files."
         ),
         ("safebound schema *.csv > schema.sql", "safebound schema shop --output schema.sql"),
         is_own=True,
@@ -206,7 +206,7 @@ COMMANDS = (
         is_own=True,
     ),
     Command(
-        "new", ("FOLDER",), "lays a small example in a new folder, to edit", (), "", ("safebound new trips",),
+        "new", ("FOLDER",), "puts a small example into a new folder, to edit", (), "", ("safebound new trips",),
         is_own=True,
     ),
     Command(
@@ -218,7 +218,7 @@ COMMANDS = (
         ("source <(safebound completion bash)",), is_own=True,
     ),
 )
-# What the table holds by name.
+# The table's commands by name.
 BY_WORD = {command.word: command for command in COMMANDS}
 PROGRAM_COMMANDS = tuple(command for command in COMMANDS if not command.is_own)
 MOST_SEED = 2**32 - 1

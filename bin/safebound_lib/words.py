@@ -31,14 +31,14 @@ class Line:
 
 
 def lacks_schema(line: Line) -> bool:
-    """Whether a line has a query alone where a schema stands before it, and says where the tables are."""
+    """Whether a line has only a query where a schema and a query are expected, and says where the tables are."""
     command = BY_WORD.get(line.command)
     takes_texts = command is not None and command.places == TEXTS and not command.optional
     return takes_texts and DATA.word in line.own and len(places(line.words[1:])) == 1
 
 
 def options(words: list[str]) -> list[str]:
-    """The words among those behind the command that stand as options, each without its value."""
+    """The options among the words after the command, each without its value."""
     found, left, with_value = [], list(words), valued()
     while left and left[0] != "--":
         word = left.pop(0)
@@ -50,7 +50,7 @@ def options(words: list[str]) -> list[str]:
 
 
 def read_line(words: list[str]) -> Line:
-    """The line of a list of words. Behind `--` and as another option's value, a word is no option of ours."""
+    """The line of a list of words. After `--`, and as another option's value, a word is no option of ours."""
     line, left, own, with_value = Line(), list(words), own_options(), valued()
     while left:
         word = left.pop(0)
@@ -81,7 +81,7 @@ def add_own(line: Line, option: Option, value: str | None, left: list[str]) -> N
 
 
 def places(words: list[str]) -> list[str]:
-    """The positional words among those behind the command: neither an option nor an option's value."""
+    """The positional words among those after the command: neither an option nor an option's value."""
     found: list[str] = []
     left, with_value = list(words), valued()
     while left:

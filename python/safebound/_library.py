@@ -75,7 +75,7 @@ WRONG = {
 
 
 def _folders() -> Iterator[Path]:
-    """Where shared objects lie, this package first; each with the folder that it has for this machine, if any."""
+    """Folders of shared objects, this package first; each with its subfolder for this architecture, if it has one."""
     here = Path(__file__).resolve().parent
     yield here
     libraries = [folder for folder in here.parents if folder.name == "lib"]
@@ -110,8 +110,8 @@ def path() -> Path:
 
     It is looked for in this order: the file that the variable SAFEBOUND_LIBRARY names, and then no other; beside this
     package; in the folder lib that the package lies below, where `make install` lays it; in lib/ of Python's prefix, of
-    /usr/local and of /usr; and where `make library` leaves it, in a clone of the repository. In each lib the folder of
-    this kind of machine counts too, such as x86_64-linux-gnu.
+    /usr/local and of /usr; and where `make library` leaves it, in a clone of the repository. In each lib the subfolder
+    for this architecture is searched too, such as x86_64-linux-gnu.
 
     Raises:
         LibraryNotFound: none is there.
@@ -143,7 +143,7 @@ def _library() -> ctypes.CDLL:
         "version": [ctypes.c_char_p, size, detail],
     }
     for name, form in forms.items():
-        # A library of the last release lacks the calls that came since.
+        # A library of the last release lacks the calls that were added since.
         function = getattr(found, "safebound_" + name, None)
         if function is not None:
             function.argtypes, function.restype = form, ctypes.c_uint32

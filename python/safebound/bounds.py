@@ -81,7 +81,7 @@ class Bounds(Mapping[FrozenSet[str], Optional[int]]):
         return table(["entries", "rows at most"], rows) + (f"\nand {left} other sets" if left else "")
 
     def _shown(self) -> Sequence[int]:
-        """The sets that are shown: all but the empty one, or where these are many each entry alone and all together."""
+        """The sets that are shown: all but the empty one. If they are many, only each entry alone and all together."""
         if len(self) <= _MOST_SHOWN:
             return sorted(range(1, len(self)), key=lambda number: (bin(number).count("1"), number))
         return [*self._bit.values(), len(self) - 1]

@@ -80,9 +80,9 @@ def _files(files: Any) -> List[_File]:
 def run(words: Iterable[Text], files: Mapping[_Name, Text]) -> Output:
     """Runs the program over files in memory.
 
-    The words are those of its command line, without its own name; files go by the names by which words and tables ask
-    for them. What is printed, the statuses and the limits are those of the program: see docs/USING.md and
-    docs/ERRORS.md.
+    The words are those of its command line, without its own name. A file's name is the one that a word gives, or a
+    table's name in lower case and `.csv`. What is printed, the statuses and the limits are those of the program: see
+    docs/USING.md and docs/ERRORS.md.
 
     >>> files = {
     ...     "schema.sql": "CREATE TABLE R (X INTEGER NOT NULL); CREATE TABLE S (X INTEGER NOT NULL)",
@@ -165,8 +165,8 @@ def plan_stats(schema: Text, query: Text, stats: Text, budget: Optional[Supports
 def append_stats(schema: Text, stats: Text, table: str, rows: Text) -> bytes:
     """The text of a statistics file with new rows of one of its tables, without the rows that were there before.
 
-    Where the file stood for its tables, the new one stands for them with the new rows: no bound of a plan from it is
-    too low for the grown table. PRIMARY KEY and UNIQUE are checked among the new rows alone.
+    If the file stood for its tables, the new one stands for them with the new rows: no bound of a plan from it is too
+    low for the grown table. PRIMARY KEY and UNIQUE are checked among the new rows alone.
 
     >>> schema = "CREATE TABLE R (X INTEGER NOT NULL)"
     >>> files = {"schema": schema, "query": "SELECT X FROM R", "r.csv": "X\\n1\\n2\\n"}

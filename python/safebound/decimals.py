@@ -24,7 +24,7 @@ def digits_of(value: str) -> int | None:
 
 
 def has_thousands(value: str) -> bool:
-    """Whether three digits stand behind the only comma, which mostly are thousands."""
+    """Whether three digits follow the only comma: mostly it separates thousands then."""
     return bool(_THOUSANDS.fullmatch(value))
 
 

@@ -6,8 +6,8 @@ from __future__ import annotations
 class SafeBoundError(Exception):
     """What all errors of this package have in common.
 
-    Two are equal where they are of one class and say the same. `args` are what the class was called with, so that an
-    error goes whole from one process to another.
+    Two errors are equal if they have one class and equal `args`. `args` are what the class was called with, so that an
+    error can be pickled and sent to another process.
     """
 
     def __eq__(self, other: object) -> bool:
@@ -28,11 +28,11 @@ class OutOfMemory(SafeBoundError, MemoryError):
 
 
 class PastBits(SafeBoundError):
-    """Each plan has a part without a bound: one that 64 bits don't tell."""
+    """Each plan has a part without a bound: its number of rows doesn't fit in 64 bits."""
 
 
 class BudgetExceeded(SafeBoundError):
-    """The best plan passes the budget.
+    """The best plan exceeds the budget.
 
     Attributes:
         least: the least budget that would do, in rows.
@@ -47,7 +47,7 @@ class BudgetExceeded(SafeBoundError):
 
 
 class WorkExceeded(SafeBoundError):
-    """The work passes the limit.
+    """The work exceeds the limit.
 
     Attributes:
         least: the least limit that would do.
@@ -108,7 +108,7 @@ class BadSum(WrongValue):
 
 
 class BadEntries(WrongValue):
-    """A query has none, more than twelve, or one twice. `place` is how many, or the entry."""
+    """A query has no entry, more than twelve, or one entry twice. `place` is how many, or the entry."""
 
 
 class BadRows(WrongValue):

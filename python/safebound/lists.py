@@ -34,7 +34,7 @@ def degree_sequence(values: Iterable[Hashable]) -> list[Run]:
             one value for these. One-dimensional 64-bit whole numbers are read where they lie.
 
     Returns:
-        Runs of which the degrees fall. Their degrees sum to the number of rows with a value.
+        Runs in descending order of their degrees, which sum to the number of rows with a value.
 
     Raises:
         WrongType: a text, bytes, a mapping or a set; what has more than one dimension, as a table; a value that isn't
@@ -55,7 +55,7 @@ def compress(runs: Runs, accuracy: SupportsIndex) -> list[Run]:
     Args:
         runs: pairs of a degree and a number of keys. Both are at least 1, no degree is above the one before it, and all
             degrees sum to at most 2**48.
-        accuracy: K, from 1 to 64. Each degree of the answer is at most (K + 1) / K times what stood at its rank.
+        accuracy: K, from 1 to 64. Each degree of the answer is at most (K + 1) / K times the list's at that rank.
 
     Returns:
         At most K times as many runs as the first degree has binary digits, and one more. Their sum is that of the list.
@@ -84,7 +84,7 @@ def append(runs: Runs, others: Runs) -> list[Run]:
         others: likewise.
 
     Returns:
-        Runs that dominate the values of both together, whichever of them repeat. Their sum is the sum of both sums.
+        Runs that dominate the values of both together, whichever values they share. Their sum is the sum of both sums.
 
     Raises:
         BadRun, BadOtherRun: a run of the first or of the second list isn't right.
@@ -144,14 +144,14 @@ def greater(runs: Runs, others: Runs) -> list[Run]:
 
 
 def cut(runs: Runs, rows: SupportsIndex) -> list[Run]:
-    """The list of at most so many rows that a list dominates.
+    """A list, cut at a number that its rows don't exceed.
 
     Args:
         runs: pairs of a degree and a number of keys, as for `compress`.
         rows: how many rows there are at most.
 
     Returns:
-        The first degrees of the list, as long as they sum to at most that number, and one for what is left of it.
+        The first degrees of the list, as long as they sum to at most that number, and one for the rest of it.
 
     Raises:
         BadRows: the number isn't from 0 to 2**64 - 1.

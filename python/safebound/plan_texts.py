@@ -26,9 +26,9 @@ class Node:
 
 @dataclass
 class PlanText:
-    """The scans' bounds by entry, in FROM order, and behind them either the levels along the order, as pairs of an
-    entry and its bound, or the inner nodes of a join tree. Nodes have numbers: the entries theirs in FROM order, from 0
-    on, and behind them the inner nodes.
+    """The scans' bounds by entry, in FROM order; then either the levels along the order, as pairs of an entry and its
+    bound, or the inner nodes of a join tree. Nodes have numbers: first the entries in FROM order, from 0 on, and then
+    the inner nodes.
     """
 
     scans: dict[str, int]
@@ -45,7 +45,7 @@ class PlanText:
 
     @property
     def bounds(self) -> list[int]:
-        """Those that a budget is compared with: of the levels, of the inner nodes, or of a tree's one entry."""
+        """The bounds that a budget is compared with: of the levels, of the inner nodes, or of a tree's one entry."""
         return [bound for _, bound in self.levels] or [node.bound for node in self.nodes] or list(self.scans.values())
 
     def leaves(self, number: int) -> list[str]:
@@ -68,7 +68,7 @@ def read_plan(text: str) -> PlanText:
     """
     lines = text.split("\n")[:-1]
     if lines and re.fullmatch("memory [0-9]+", lines[-1]):
-        # With --memory the bytes of the plan's buffers stand last.
+        # With --memory the last line has the bytes of the plan's buffers.
         lines.pop()
     scans = _matches(r"scan (.*) ([0-9]+)", lines)
     levels = _matches(r"level [0-9]+ (.*) ([0-9]+)", lines)

@@ -85,8 +85,8 @@ class Query:
 
     Raises:
         WrongType: a text where names or columns belong, a number that isn't whole, and the like.
-        BadEntries, BadRows, BadEquality, BadList, BadRun: names or numbers that can't be right. Whatever else isn't
-            right is told by the first call of `bounds`, `best_order` or `best_tree`.
+        BadEntries, BadRows, BadEquality, BadList, BadRun: names or numbers that can't be right. What else is wrong, the
+            first call of `bounds`, `best_order` or `best_tree` reports.
 
     >>> query = Query(["r", "s"], [(("r", "x"), ("s", "x"))], {"r": 6, "s": 5},
     ...               {("r", "x"): [(3, 2)], ("s", "x"): [(2, 2), (1, 1)]})
@@ -319,9 +319,9 @@ class Query:
         """The bounds of all sets of entries.
 
         Args:
-            limit: the most work that may be done. The work is computed before any of it is done. A set is looked at in
-                as many turns as it has equalities, but at least in one and at most in 16. Each turn costs 1, and 1 for
-                each run of both lists of each equality of the set.
+            limit: the most work that may be done. The work is computed before any of it is done. A set has as many
+                turns as equalities, but at least one and at most 16. Each turn costs 1, and 1 for each run of both
+                lists of each equality of the set.
 
         Returns:
             A mapping from each of the 2**n sets of names to a number of rows: at most so many choices of one row of
@@ -329,7 +329,7 @@ class Query:
 
         Raises:
             BadEntries, BadRows, BadEqualities, BadEquality, BadList, BadRun, MissingList: a value isn't right.
-            WorkExceeded: the work passes the limit; `least` would do.
+            WorkExceeded: the work exceeds the limit; `least` would do.
             BadLimit: the limit isn't from 0 to 2**64 - 1.
             OutOfMemory: memory was wanting.
         """
@@ -371,14 +371,14 @@ class Query:
     def best_order(self, budget: SupportsIndex) -> Order:
         """The best left-deep order.
 
-        Its greatest level is the least that an order can have. Of such orders it has the least sum of levels, and of
-        those it is the first by the places of its entries in `entries`.
+        No order has a lower greatest level. Of the orders with that greatest level it has the least sum of levels, and
+        of those it is the first by the places of its entries in `entries`.
 
         Args:
-            budget: the most rows that the bound of a level may say, 0 to 2**59.
+            budget: the greatest bound that a level may have, 0 to 2**59.
 
         Raises:
-            BudgetExceeded: the best order passes the budget; `least` would do.
+            BudgetExceeded: the best order exceeds the budget; `least` would do.
             PastBits: each order has a level without a bound.
             BadBudget, and what `bounds` raises.
         """
@@ -390,10 +390,11 @@ class Query:
     def best_tree(self, budget: SupportsIndex) -> Tree:
         """The best join tree of any shape.
 
-        The greatest bound of its joins is the least that a tree can have. Of such trees it has the least sum of bounds.
+        No tree has a lower greatest bound of a join. Of the trees with that greatest bound it has the least sum of
+        bounds.
 
         Args:
-            budget: the most rows that the bound of a join may say, 0 to 2**59.
+            budget: the greatest bound that a join may have, 0 to 2**59.
 
         Raises:
             As `best_order`.
@@ -406,8 +407,8 @@ class Query:
     def memory(self, plan: QueryPlan) -> int:
         """How many bytes the buffers of SafeBound's own engine take for a plan of this query.
 
-        Each buffer counts with its capacity times the size of an element, and each list of buffers with its own. It is
-        the same number on every machine.
+        Each buffer counts with its capacity times the size of an element, and so does each list of buffers. The number
+        is the same on every machine.
 
         Args:
             plan: what `best_order` or `best_tree` gave.
@@ -415,7 +416,7 @@ class Query:
         Raises:
             BadPlan: the plan isn't one of this query: another one made it, or its entries, nodes or bounds aren't this
                 one's.
-            PastBits: 64 bits don't tell the number.
+            PastBits: the number doesn't fit in 64 bits.
 
         >>> query = Query(["r", "s"], [(("r", "x"), ("s", "x"))], {"r": 6, "s": 5},
         ...               {("r", "x"): [(3, 2)], ("s", "x"): [(2, 2), (1, 1)]})

@@ -42,7 +42,7 @@ def typed_name(name: str) -> str:
 
 
 def written_name(name: str) -> str:
-    """A name as a schema is written: the same with words in upper case, in which they are compared."""
+    """A name as a proposed schema has it: as `typed_name`, but words in upper case, in which they are compared."""
     typed = typed_name(name)
     return typed if typed != name else name.upper()
 
@@ -62,7 +62,7 @@ def text_of(source: str) -> str:
 
 
 def number_of(source: str) -> int:
-    """The number that a sign and digits are; past forty digits one that no range holds."""
+    """The number that a sign and digits spell. More than forty digits give a number outside every range."""
     digits = source.lstrip("+-0")
     value = int(digits or 0) if len(digits) <= 40 else 10**40
     return -value if source.startswith("-") else value

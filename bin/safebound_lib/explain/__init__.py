@@ -1,4 +1,4 @@
-"""What stands below the line of a fault: what is wrong, where, and what to do."""
+"""The explanation below the line of a fault: what is wrong, where, and what to do."""
 from __future__ import annotations
 
 import csv
@@ -122,7 +122,7 @@ def wrapped(line: str) -> str:
 
 
 def not_connected(run: Run) -> str:
-    """Below a plan: a sentence where no equality connects all entries, since its bound is then their product."""
+    """Below a plan: a sentence if equalities don't connect all entries, since a bound is then a product."""
     from .budgets import not_connected as said
     try:
         return "" if run.command not in ("run", "plan", "audit") else laid_out([said(run)])

@@ -53,7 +53,7 @@ def most_of(run: Run) -> int:
 
 
 def not_connected(run: Run) -> str:
-    """A sentence where no equality connects all entries: that is mostly a condition that was forgotten."""
+    """A sentence if equalities don't connect all entries: mostly a condition was forgotten."""
     query = run.query
     found = components(query, run.schema)
     if len(found) < 2:
@@ -116,7 +116,7 @@ def planned_words(words: list[str]) -> list[str]:
 
 
 def at_fault(run: Run, least: int, budget: int) -> str:
-    """Which level or node is past the budget, where the least budget shows the plan."""
+    """Which levels or nodes are above the budget; the plan under the least budget shows it."""
     if least > most_of(run):
         return ""
     plan = with_words(run, given(run, least))
@@ -135,7 +135,7 @@ def at_fault(run: Run, least: int, budget: int) -> str:
 
 
 def given(run: Run, budget: int, accuracy: str | None = None, flag: Option | None = None) -> list[str]:
-    """The run's options, with these. A flag that is tried takes the place of those beside which it can't stand."""
+    """The run's options, with these. A flag that is tried replaces those with which it can't be combined."""
     flags = [one for one in (REDUCE, BUSHY, KEYS, COUNT) if has(run, one)]
     if flag is not None:
         flags = [one for one in flags if BUSHY in (one, flag)] + [flag]

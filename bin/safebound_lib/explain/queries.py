@@ -44,7 +44,7 @@ def explain(fault: Fault, run: Run) -> list[str]:
 
 
 def no_query(run: Run, data: bytes) -> list[str]:
-    """Where a table's file stands in the place of the query's."""
+    """An explanation if a table's file is given in place of the query's."""
     if not run.query_file.lower().endswith(".csv"):
         return []
     if not_text_message(data):
@@ -147,7 +147,7 @@ def output(query: Query, schema: Schema, item: list[Token]) -> list[tuple[set[st
 
 
 def name(query: Query, schema: Schema, at: int) -> list[str]:
-    """A table or an alias of FROM first, since those are looked at first, and then a reference."""
+    """The name at this place: a table or an alias of FROM, which the program tests first, or else a reference."""
     for number, entry in enumerate(query.entries):
         earlier = [e.name for e in query.entries[:number]]
         if entry.table.start == at and schema.table(entry.table.name) is None:
@@ -184,7 +184,7 @@ def unknown_table(token: Token, schema: Schema) -> str:
 
 
 def case(token: Token, names: Iterable[str]) -> str:
-    """Where a name in double quotes is there but for its case."""
+    """A sentence if a name in double quotes differs from an existing one only in its case."""
     if token.kind == "quoted" and token.name.upper() in names:
         return f" A name in double quotes keeps its case: write {token.name.upper()} without quotes."
     return ""
@@ -201,7 +201,7 @@ def columns(table: Table | None) -> list[str]:
 
 
 def unknown_entry(query: Query, reference: Reference, schema: Schema) -> list[str]:
-    """`entry.column`, of which one of the two isn't there."""
+    """`entry.column`: the entry or the column doesn't exist."""
     wanted, scope = reference.token.name, [query.entries[i] for i in reference.scope]
     entry = next((e for e in scope if e.name == wanted), None)
     if entry is None:

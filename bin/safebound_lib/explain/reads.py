@@ -92,7 +92,7 @@ def why(file: str) -> str:
 
 
 def where(file: str, run: Run) -> list[str]:
-    """Where it was looked for, and what lies there or elsewhere under that name or one near it."""
+    """Where the file was looked for, and which file there or elsewhere has that name or a similar one."""
     if os.path.exists(file):
         return []
     is_table = file not in run.named

@@ -34,7 +34,7 @@ def explain(fault: Fault, run: Run) -> list[str]:
 
 
 def in_order(run: Run) -> str:
-    """Where query and schema stand in each other's place, the line that has them in order."""
+    """If query and schema stand in each other's place: the line with both in the right order."""
     if not (is_query(run.schema_file) and is_schema(run.query_file)):
         return ""
     folder = f" --data {plain(run.path_of('.'))}" if run.before else ""
@@ -43,7 +43,7 @@ def in_order(run: Run) -> str:
 
 
 def no_schema(run: Run) -> list[str]:
-    """Where a table's file stands in the place of the schema's."""
+    """An explanation if a table's file is given in place of the schema's."""
     command = BY_WORD.get(run.command)
     if command and with_tables([run.schema_file, run.query_file]):
         return [tables_named(command, run)]
@@ -120,7 +120,7 @@ def of_keys(table: Table, at: int) -> str | None:
 
 
 def of_list(table: Table, tokens: list[Token], at: int) -> str | None:
-    """A list of columns: a name in it that the table doesn't have, or that stands in it twice."""
+    """A sentence on a name in a list of columns: the table doesn't have it, or it stands there twice."""
     token = next((t for t in tokens if t.start == at), None)
     if token is None:
         return None

@@ -199,7 +199,7 @@ def bad_character(place: Place) -> str:
 
 
 def quote_within(place: Place) -> str:
-    """A sentence on a text that a quote within it ends, as 'O'Brien': a word goes on where the text ends."""
+    """A sentence if a quote within a text ends it, as in 'O'Brien': a word begins right where the text ends."""
     tokens = place.tokens
     at = next(
         (i for i, t in enumerate(tokens[:-1]) if t.kind == "text" and tokens[i + 1].kind == "word"
@@ -221,7 +221,7 @@ JOINERS = {"||": "OR", "&&": "AND"}
 
 
 def joiner(sign: str, is_behind_a_condition: bool) -> str:
-    """What stands in the place of a sign by which other languages join conditions, or texts."""
+    """What to write in place of a sign by which other languages join conditions, or texts."""
     if sign == "||" and not is_behind_a_condition:
         return (
             "Texts can't be put together: || isn't part of the language. Take both columns, and put them together"
@@ -245,7 +245,7 @@ def spoken(source: str) -> str:
 
 
 def stands(place: Place) -> str:
-    """What was read at the place, behind what."""
+    """What was read at the place, and after which token."""
     token, before = place.token(), place.token(-1)
     behind = f" behind {spoken(before.source)}" if before.source else ""
     if token.kind == "end":

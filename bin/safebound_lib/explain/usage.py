@@ -135,7 +135,7 @@ def first_wrong(command: Command, words: list[str]) -> str | None:
 
 
 def unknown(command: Command, word: str, behind: str) -> str:
-    """An option that isn't there; `behind` is the word behind it."""
+    """A sentence on an unknown option; `behind` is the word after it."""
     if word in OUTPUTS:
         return (
             f"{command.word} has no option {plain(word)}: what it prints goes into a file behind a >, as in safebound"
@@ -153,7 +153,7 @@ def unknown(command: Command, word: str, behind: str) -> str:
 
 
 def wrong_beside(seen: set[str]) -> str | None:
-    """Which options can't stand beside each other, if some do."""
+    """A sentence on options that can't be combined, if the line has them."""
     others = [option.word for option in (ACCURACY, REDUCE, COUNT, KEYS) if option.word in seen]
     if STATS.word in seen and others:
         return (
@@ -231,12 +231,12 @@ def is_query(file: str) -> bool:
 
 
 def with_tables(files: list[str]) -> bool:
-    """Whether files are a query and tables behind it."""
+    """Whether the files are a query, followed by tables."""
     return len(files) > 1 and is_query(files[0]) and all(file.lower().endswith(".csv") for file in files[1:])
 
 
 def tables_named(command: Command, run: Run) -> str:
-    """What to do where tables stand behind a query."""
+    """What to do if tables are given after a query."""
     query, *tables = places(run.words[1:])
     are = "is a table" if len(tables) == 1 else "are tables"
     line = run.line_without_schema(query) if run.before else line_of_query(command, query)
