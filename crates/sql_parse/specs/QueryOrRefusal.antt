@@ -27,7 +27,7 @@ too_long_in c = flat_map too_long (tests c.condition)
 unfoldable pub long_lists : List Source → QueryNode → List ℕ
 long_lists from query = flat_map too_long_in (conditions from query)
 
--- ---- the refusals for limits that are passed, in the order in which they are told
+-- ---- the refusals for limits that are passed, the one that is reported first at the front
 abbrev pub over : LimitKind → ℕ → ℕ → List QueryError
 over which most n = if nat_lt most n then refusal which n ∷ [] else []
 
