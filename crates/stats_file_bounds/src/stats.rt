@@ -20,7 +20,7 @@ use stats_file::StatsFile;
 use stats_file_of_query::needs_of;
 use std::alloc::Global;
 
-// The place in the schema of an entry's table.
+// The position of an entry's table in the schema.
 fn table_of(query: &Query, entry: u8) -> u32
     requires { entry < length query.now.from }
     ensures { result ≡ table_of query.now entry }
