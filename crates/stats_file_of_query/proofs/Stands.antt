@@ -48,7 +48,7 @@ pub back : (v : Value) → value_of (datum_of v) ≡ v
 back (values.Int number) = refl
 back (values.Text text) = refl
 
--- ---- the last place that passes a test, where one test is on places and the other on the elements there
+-- ---- the last position that passes a test: `q` tests positions, and `p` the elements at them
 
 later : (q p : ℕ → Bool) (x : ℕ) (xs : List ℕ) (first : ℕ) → ((i : ℕ) → i < length (x ∷ xs) → q (first + i) ≡ p (get_or (x ∷ xs) i 0))
     → (i : ℕ) → i < length xs → q ((first + 1) + i) ≡ p (get_or xs i 0)
