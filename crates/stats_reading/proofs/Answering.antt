@@ -93,7 +93,7 @@ files_at stage.Nodes kind.End schema s t a b l r good valid is h =
     (not_tag kind.End a b l 112 is (λ e. absurd (omega (arith, e))))) is h
 files_at _ _ schema s t a b l r good valid is h = tt
 
--- ---- texts of the grammar that may follow
+-- ---- lines that may follow in texts of the grammar
 
 abbrev last : List (List ℕ)
 last = codes "end\n" ∷ []
