@@ -5,7 +5,7 @@
 -- - `AllEntries`: the root has all entries, since a join's node has as many as its two children together, and each node is joined once.
 -- - `RoomFacts`: the bounds of nodes are small.
 -- - `FewLeaves`: no node has more than 12 entries.
--- - `Bytes`: the bytes of a tree are the sum of the bytes of its buffers.
+-- - `Bytes`: empty buffers with exactly a plan's rooms take as many bytes as the plan says (`tree_rooms_bytes`).
 --
 -- Three ideas carry them:
 --
@@ -13,7 +13,7 @@
 --   nothing (`with_front`), and no definition recurses over a tree. The entries of a plan's nodes are made by the same fold (`with_joins`).
 -- - Each node is joined once (`AreApart`): any two nodes that are still to be joined have no entry in common. A step takes two nodes out and
 --   puts their union in; counts are sums, so `omega` does the rest.
--- - The recursion of `read_row` is the only one in the code; its measure is the node's number. A row is `put` at the places of its entries,
+-- - The recursion of `read_row` is the only one in the code; its measure is the node's number. A row is `put` at the indexes of its entries,
 --   so reading a pair is `put_append`.
 
 pub mod AllEntries
