@@ -1,4 +1,4 @@
--- What a syntax tree gives: a query, or the first refusal, for a name, a kind or a limit.
+-- What a syntax tree gives: a query, or the first refusal: for a name, for a kind (a number compared with a text) or for a limit.
 use Rattle.std.specs.Prelude.{ℕ, ◌-◌, ◌^◌, nat_lt, min, if◌then◌else◌, List, [], ◌∷◌, ◌++◌, length, Result, Ok, Err}
 use Rattle.std.specs.List.{flat_map}
 use Rattle.limits.specs.Profile.{most_conjuncts, most_entries, most_outputs}
