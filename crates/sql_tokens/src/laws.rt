@@ -35,7 +35,7 @@ pub fn spans()
     ensures { (text : List ℕ) (tokens : List Token) → IsLexed text tokens → TokensAreInOrder 0 (length text) tokens }
 {}
 
-/// If a token can't go on with the bytes after it, it is the longest front of the text that has the form of a token.
+/// If a token can't go on with the bytes after it, it is the longest prefix of the text that has the form of a token.
 pub fn longest()
     ensures { (kind other : TokenKind) (token rest longer more : List ℕ) → IsToken kind token → goes_on kind token rest ≡ false
         → token ++ rest ≡ longer ++ more → IsToken other longer → length longer ≤ length token }
