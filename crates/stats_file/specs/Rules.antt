@@ -46,7 +46,7 @@ pub record AreFrequent (kind : Kind) (rows : ℕ) (frequent : List (Datum × Lis
   pub values : All (λ (f : Datum × List ℕ). IsOfKind kind f.0) frequent
   pub lists : All (λ (f : Datum × List ℕ). IsList rows f.1) frequent
 
--- a histogram with 32 leaves: for each leaf a value of the column's kind, in ascending order, and a list for each of the 63 nodes
+-- a histogram with 32 leaves: for each leaf a value of the column's kind, each at most the next one, and a list for each of the 63 nodes
 pub record IsHistogram (kind : Kind) (rows : ℕ) (cuts : List Datum) (nodes : List (List ℕ)) : Type 0 where
   pub leaves : length cuts ≡ 32
   pub values : All (IsOfKind kind) cuts
