@@ -30,7 +30,7 @@ pub record IsFromStatsFile (section : TableStats) : Type 0 where
   pub schema : Schema
   pub is : IsSection schema section
 
--- the column that a step compares with literals is a filter column
+-- the column that a step compares with literals, if it does, is a filter column. A step is an operation over a stack of answers (predicate_bounds)
 abbrev pub AsksAmong : Needs → Step → Type 0
 AsksAmong needs step = IfSome (column_asked step) (λ column. IsTrue (is_filter needs column))
 

@@ -17,7 +17,7 @@ ghost use Rattle.stats_file_bounds.specs.FileStatistics.{stats_file_statistics};
 ghost use Rattle.stats_file_bounds.specs.Found.{first_missing};
 
 /// Let a file stand for tables and have all that a query needs. Then the statistics that the file gives for the query stand for these tables, with
-/// any keys that tell the values of each column (`TellsValues`). So no bound that is made from these statistics is too low for these tables.
+/// any keys that are equal exactly if the values are (`TellsValues`). So no bound that is made from these statistics is too low for these tables.
 pub fn files_are_never_under()
     ensures { (query : Query) (file : StatsFile) (tables : Tables) (key : Keys) → NamesItsEntries query → IsFile file → StandsFor query file tables
         → first_missing query file ≡ None → ((entry column : ℕ) → TellsValues tables entry column (key entry column))

@@ -59,7 +59,7 @@ fn entry_stats(
     Ok(stats)
 }
 
-/// The statistics that the bounds of a query ask for, from a file that keeps the rules (SafeBound, SIGMOD 2023). `parts` has the parts that `split`
+/// The statistics that the bounds of a query need, from a file that keeps the rules (SafeBound, SIGMOD 2023). `parts` has the parts that `split`
 /// makes of the query. No table is read, and the time grows with the length of the file and the length of the query.
 ///
 /// `Missing` comes exactly if an entry needs a section or a pair that the file doesn't have, and names the first such entry. `NoMemory` comes if
