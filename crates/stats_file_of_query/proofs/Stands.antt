@@ -207,7 +207,7 @@ module _ (tables : Tables) (accuracy entry filter_column joined : ℕ) where
       ∙ ap (λ (numbers : List ℕ). map (number_at tables entry joined) (filter (λ row. passes numbers (number_at tables entry filter_column row)) rows)) firsts)
       (compressed_dominates accuracy (keys_where (passes (filter_values pairs)) pairs))
 
-  -- ---- any keys that tell the values of the joined column
+  -- ---- any keys that are equal exactly if the values of the joined column are
 
   module _ (key : ℕ → ℕ) (tells : TellsValues tables entry joined key) where
     same_key : (row other : ℕ) → row < row_counts tables entry → other < row_counts tables entry

@@ -54,7 +54,7 @@ fn sections_of(
     Ok(sections)
 }
 
-/// The statistics of all tables that the bounds of a query need, compressed at an accuracy (SafeBound, SIGMOD 2023). Each table that the
+/// The statistics of a query's tables that its bounds need, compressed at an accuracy (SafeBound, SIGMOD 2023). Each table that the
 /// query names has a section, in the schema's order. The section has the number of rows, and all lists of each pair of columns that an entry of this
 /// table needs. If memory runs out, nothing is kept.
 pub fn stats_of(
