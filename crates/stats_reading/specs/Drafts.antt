@@ -38,7 +38,7 @@ empty_draft = record {
   same_joined_at = 0;
 }
 
--- drafts whose current pair has more lists than before
+-- the draft with one more list or value in its current pair
 abbrev pub with_whole : Draft → List ℕ → Draft
 with_whole s list = record s { pair = record s.pair { whole = list } }
 
@@ -177,7 +177,7 @@ MayBeNode s node = IsList s.section.rows node × NodeFollows s node
 
 -- ---- a step: the words of a line are read
 
--- a value that may come next has these words, and was taken; or no value that may come next has them
+-- a value that may come next has these words, and was taken. `Takes` also allows a fault: no value that may come next has these words
 pub record WasTaken {X : Type 0} (text : X → List ℕ × List ℕ) (MayBe After : X → Type 0) (words : List ℕ × List ℕ) : Type 0 where
   pub value : X
   pub may : MayBe value
