@@ -1,13 +1,13 @@
 -- The proofs about the rows of a tree plan are in these modules:
 --
--- - `NodeFacts`: nodes are made from lists and from inner nodes, and a row of an inner node is a row of each of its two children.
+-- - `NodeFacts`: nodes are made from lists and from inner nodes, and a row of an inner node consists of one row of each of its two children.
 -- - `Once`: each entry is at most once among the leaves below a node.
 -- - `AllEntries`: the root has all entries, since a join's node has as many as its two children together, and each node is joined once.
 -- - `RoomFacts`: the bounds of nodes are small.
 -- - `FewLeaves`: no node has more than 12 entries.
 -- - `Bytes`: empty buffers with exactly a plan's rooms take as many bytes as the plan says (`tree_rooms_bytes`).
 --
--- Three ideas carry them:
+-- The proofs rest on three ideas:
 --
 -- - Nodes are made by one fold over the list of inner nodes (`with_inners`). An inner node reads only nodes before it, so later nodes change
 --   nothing (`with_front`), and no definition recurses over a tree. The entries of a plan's nodes are made by the same fold (`with_joins`).
