@@ -50,8 +50,7 @@ grammar_words =
     ∷ (codes "KEY", terminal.Key) ∷ (codes "NO", terminal.No) ∷ (codes "ACTION", terminal.Action)
     ∷ (codes "CASCADE", terminal.Cascade) ∷ []
 
--- further reserved words of SQL-92: no rule expects them, and they can't be names. Other reserved words, like USER and CURRENT_DATE, are plain names
--- here
+-- further reserved words of SQL-92: no rule expects them, and they can't be names. Other reserved words (USER, CURRENT_DATE, ..) are plain names here
 abbrev pub reserved_words : List (List ℕ)
 reserved_words =
     codes "ALL" ∷ codes "ANY" ∷ codes "ASC" ∷ codes "BY" ∷ codes "CASE" ∷ codes "CAST" ∷ codes "CHECK" ∷ codes "CROSS"
