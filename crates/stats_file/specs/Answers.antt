@@ -48,8 +48,7 @@ pub record EndsTooEarly (schema : Schema) (lines : List (List ℕ)) (left : List
   pub no_line : HasNoEnd left
   pub fails : (file : StatsFile) → KeepsRules schema file → lines ≡ file_lines schema file → left ≡ [] → ⊥
 
--- the number, from 1, of the first line that no text of the grammar has after the lines before it. If the text ends too early, it is the line that
--- is missing or has no line end
+-- the number, from 1, of the first line that no text of the grammar has there. If the text ends too early, that line is missing or has no line end
 pub record IsSyntaxLine (schema : Schema) (bytes : List ℕ) (line : ℕ) : Type 0 where
   pub lines : List (List ℕ)
   pub left : List ℕ

@@ -75,8 +75,7 @@ pub record IsPair (table : Table) (rows : ℕ) (pair : Pair) : Type 0 where
 abbrev pub StandsBefore : Pair → Pair → Type 0
 StandsBefore a b = (a.filter < b.filter) ⊎ ((a.filter ≡ b.filter) × (a.joined < b.joined))
 
--- two pairs count the same rows of their filter column: frequent values and cuts are the same, and so are the sums of the lists of each value, of the
--- rest and of each node
+-- two pairs count the same rows of their filter column: frequent values and cuts are the same, and lists at the same index have the same sum
 pub record HaveSameFilterCounts (a b : Pair) : Type 0 where
   pub values : map (λ (f : Datum × List ℕ). f.0) a.frequent ≡ map (λ (f : Datum × List ℕ). f.0) b.frequent
   pub totals : map (λ (f : Datum × List ℕ). sum f.1) a.frequent ≡ map (λ (f : Datum × List ℕ). sum f.1) b.frequent
