@@ -74,8 +74,7 @@ pub record MayStandBehind (kind : LineKind) (words first second : List ℕ) : Ty
 abbrev pub HasNoLineWords : LineKind → List ℕ → Type 0
 HasNoLineWords kind words = (first second : List ℕ) → AreLineParts kind first second → words ≡ words_text kind first second → ⊥
 
--- whether words of this kind are tested against the grammar before they are read. If words of another kind are read without a fault, they are in the
--- grammar
+-- whether words of this kind are tested against the grammar before they are read. For the other kinds, words that are read without a fault are in it
 abbrev pub is_tested : LineKind → Bool
 is_tested kind.First = true
 is_tested kind.Table = true
