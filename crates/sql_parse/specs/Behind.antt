@@ -1,4 +1,4 @@
--- For a query with known FROM entries: the offending names, kinds and lists in its clauses, and its conjuncts. The binder has schema, text and entries.
+-- For a query with known FROM entries: the offending names, kinds and lists, and the conjuncts. The binder has the schema, the text and the entries.
 use Rattle.std.specs.Prelude.{ℕ, List, ◌++◌}
 use Rattle.std.specs.List.{flat_map}
 use Rattle.query_grammar.specs.declared.tree.QueryNode.{QueryNode}
