@@ -1,5 +1,5 @@
--- The code puts joined keys into groups by their filter values and makes one degree list of all groups. The lemmas here are about both loops: the one that
--- fills the groups and the one that takes the groups' rank-wise maximum.
+-- The code puts joined keys into groups by their filter values and makes one degree list for all groups. The lemmas here are about both loops: the
+-- one that fills the groups, and the one that takes the groups' rank-wise maximum.
 use Rattle.std.proofs.Common.{◌≡◌, ◌≢◌, ℕ, suc, ◌+◌, ◌<◌, ◌≤◌, ◌^◌, Bool, true, false, cond, eqb, not, ltb, max, List, [], ◌∷◌, ◌++◌, length, map, get_or, set, slice_get, take, sum, None, Option, Some, nat_eq, refl, ap, sym, ◌∙◌, subst, arith, inl, inr}
 use Rattle.std.specs.List.{All, AllByRecursion, IsDistinct, position, position_or_len, zip, AllPairs}
 use Rattle.std.proofs.lemmas.Bool.{cases_Bool, cases_eq, cases_lt, eq-eqb, eqb-true, false≢true, lt-ltb, ne_eqb}
@@ -32,7 +32,7 @@ nowhere cell cells missing k low = elim (cases_lt (position_or_len (nat_eq cell)
 ]
 
 module _ (others column joined : List ℕ) (apart : IsDistinct nat_eq others) (same : length joined ≡ length column) where
-  -- after the first `i` rows, group k has the joined keys of the rows whose cell is number k of `others`
+  -- after the first `i` rows, group k has the joined keys of those of them whose cell is element k of `others`
   abbrev pub AreGrouped : ℕ → List (List ℕ) → Type 0
   AreGrouped i groups = (length groups ≡ length others)
       × ((k : ℕ) → k < length others → get_or groups k [] ≡ keys_with (get_or others k 0) (zip (take i column) (take i joined)))

@@ -1,5 +1,5 @@
--- The degree lists that are made from appended rows keep the rule `IsList` of statistics files, and so do the rank-wise sums of two lists. Some lemmas say
--- what the elements of these lists sum to.
+-- The degree lists that are made from appended rows keep the rule `IsList` of statistics files, and so do the rank-wise sums of two lists. Some
+-- lemmas say what the elements of these lists sum to.
 use Rattle.std.proofs.Common.{◌≡◌, ℕ, zero, suc, ◌+◌, ◌*◌, ◌/◌, ◌<◌, ◌≤◌, Bool, eqb, min, not, List, [], ◌∷◌, ◌++◌, length, map, get_or, sum, refl, ap, sym, ◌∙◌, subst, arith}
 use Rattle.std.specs.List.{All, AllByRecursion, count_by, filter, flat_map, list_any, range_with_len, zip}
 use Rattle.std.proofs.Math.Path.{fun_ext}

@@ -1,4 +1,4 @@
--- The lists of new rows dominate the keys of the rows that they stand for.
+-- Each list that is made from new rows dominates the keys of those new rows that it is a list of.
 use Rattle.std.proofs.Common.{◌≡◌, ◌↔◌, ℕ, zero, suc, ◌+◌, ◌*◌, ◌/◌, ◌<◌, ◌≤◌, Bool, true, false, cond, eqb, ltb, not, List, [], ◌∷◌, ◌++◌, length, map, get_or, sum, pos, refl, ap, sym, ◌∙◌, subst, arith, inl, inr}
 use Rattle.std.specs.List.{All, AllByRecursion, Contains, IsDistinct, count_by, filter, list_any, range_with_len, zip}
 use Rattle.std.proofs.Math.Path.{fun_ext}
@@ -166,7 +166,7 @@ module _ (new : List Row) (k filter_column joined : ℕ) where
       (omega (arith, length-map filters (first_row filters), length-map keys (first_row keys), height (alone new) 0 filter_column, height (alone new) 0 joined))).1
       ∙ numbers_are (alone new) 0 joined
 
-  -- the number of a value is the first row that has this value
+  -- the number of a value is the row number of the first row that has this value
   number_tells : (value : Value) (row : ℕ) → row < many → eqb (number row) (first_row filters value) ≡ is_equal (its row) value
   number_tells value row low = elim (cases_Bool (is_equal (its row) value)) [
     | inl e ↦ eq-eqb (number row) (first_row filters value) (same_first filters (its row) value e) ∙ sym e

@@ -1,5 +1,5 @@
--- Statistics that stood for rows stand, after the append, for these rows with the new rows after them. Statistics stand for rows if each list
--- dominates the keys of the rows that the list is about.
+-- If statistics stand for some rows, then after the append they stand for these rows with the new rows after them. Statistics stand for rows if each
+-- list dominates the keys of the rows that it is a list of.
 use Rattle.std.proofs.Common.{◌≡◌, ◌↔◌, ℕ, zero, suc, ◌+◌, ◌-◌, ◌*◌, ◌/◌, ◌<◌, ◌≤◌, ◌==◌, Bool, true, false, cond, eqb, List, [], ◌∷◌, ◌++◌, length, length-append, map, get_or, sum, None, Option, Some, find, option_map, pos, refl, ap, sym, ◌∙◌, subst, arith, inl, inr}
 use Rattle.std.specs.Option.{option_map_or}
 use Rattle.std.specs.List.{All, AllByRecursion, Contains, filter, flat_map, list_any, range_with_len, zip}
@@ -47,7 +47,7 @@ use Rattle.appended_stats.specs.Grown.{grown_pair, is_frequent, list_of_any, lis
 use Rattle.appended_stats.proofs.NewLists.{nodes_many}
 use Rattle.appended_stats.proofs.NewRows.{leaf_alike, rank_sum_dominates, rest_dominates, value_alike, where_dominates, whole_dominates}
 
--- ---- numbers of old rows, and of new rows after them
+-- ---- row numbers: those of the old rows, and then those of the new rows
 
 range_two : (first n m : ℕ) → range_with_len first (n + m) ≡ range_with_len first n ++ range_with_len (first + n) m
 range_two first zero m =

@@ -1,4 +1,4 @@
--- A section and a file that stood for rows stand, after the append, for these rows with the new rows after them.
+-- If a section or a file stands for some rows, then after the append it stands for these rows with the new rows after them.
 use Rattle.std.proofs.Common.{◌≡◌, ℕ, zero, suc, ◌+◌, ◌<◌, ◌≤◌, ◌==◌, Bool, true, false, cond, eqb, List, [], ◌∷◌, ◌++◌, length, map, get_or, None, Option, Some, find, option_map, slice_get, inl, inr, refl, ap, sym, ◌∙◌, subst, arith}
 use Rattle.std.specs.List.{All}
 use Rattle.std.proofs.lemmas.Bool.{cases_Bool, eq-eqb, eqb-true, ne_eqb}

@@ -1,5 +1,5 @@
--- A pair of statistics after new rows of its table. A row is a filter value and a joined key. Both are numbers; `value_of` gives the value that
--- the number of a filter value means.
+-- A pair after new rows of its table. A pair has the statistics of one filter column and one joined column. Here a row is a filter value and a
+-- joined key. Both are numbers, and `value_of` gives the filter value that a number means.
 use Rattle.std.specs.Prelude.{ℕ, ◌*◌, ◌/◌, not, Bool, List, map}
 use Rattle.std.specs.List.{filter, flat_map, list_any, range_with_len, zip}
 use Rattle.csv_tables.specs.Values.{Value}
@@ -29,8 +29,8 @@ is_frequent frequent value = list_any (λ (found : Datum × List ℕ). is_value 
 abbrev pub other_values : (ℕ → Value) → List (ℕ × ℕ) → List (Datum × List ℕ) → List ℕ
 other_values value_of rows frequent = different (filter (λ n. not (is_frequent frequent (value_of n))) (filter_values rows))
 
--- one list that serves for each of these values: the rank-wise maximum of their degree lists, cut at the number of rows of the most frequent of
--- them, and compressed. For all values of a column that aren't frequent it is the rest list of cond_stats
+-- one list for all of these values: the rank-wise maximum of their degree lists, cut at the number of rows of the most frequent of them, and
+-- compressed. If `values` are all values of a column that aren't frequent, this list is the rest list of cond_stats
 abbrev pub list_of_any : ℕ → List (ℕ × ℕ) → List ℕ → List ℕ
 list_of_any accuracy rows values =
     compressed accuracy (cut_at (maxima (map (λ value. degree_list (keys_with value rows)) values)) (greatest (map (degree (filter_values rows)) values)))

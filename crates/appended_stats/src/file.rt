@@ -103,7 +103,7 @@ fn sections_after(
 
 /// The file of statistics after rows were appended to a table of its schema. In that table's section the number of rows grows. Each of the section's
 /// lists is added, rank by rank, to the compressed list of the new rows that belong to this list. Cuts and frequent values stay. A table that had no
-/// rows gets the statistics of the new rows. All other sections stay. If memory is wanting, the old file is dropped too.
+/// rows gets the statistics of the new rows. All other sections stay. If memory runs out, the old file is lost too.
 pub fn append_rows(
     alloc: Global,
     _schema: &Schema,

@@ -1,4 +1,5 @@
-//! For which rows a file of statistics stands after an append. These functions compute nothing: the contract of each one is a law.
+//! After an append, the new file of statistics stands for the old rows with the new rows after them. These functions compute nothing: the contract of
+//! each one is a law.
 ghost use Rattle.std.specs.Prelude.{◌≡◌, ◌≢◌, ◌++◌, ◌<◌, ◌≤◌, ℕ, List, [], Some};
 ghost use Rattle.csv_tables.specs.Rows.{Row};
 ghost use Rattle.query_types.specs.declared.types.Query.{Query};
@@ -22,7 +23,8 @@ pub fn sections_still_stand()
         → SectionStandsFor (section_after accuracy rows section) after entry }
 {}
 
-/// If a file stands for the tables of a query, the file after the append stands for the tables of which one has the new rows after its old rows.
+/// If a file stands for a query's tables before the append, the new file stands for the query's tables after it: there one table has the new rows
+/// after its old rows.
 pub fn files_still_stand()
     ensures { (schema : Schema) (query : Query) (file : StatsFile) (tables after : Tables) (table : ℕ) (rows : List Row)
         → KeepsRules schema file → StandsFor query file tables → HasNewRows query table rows tables after

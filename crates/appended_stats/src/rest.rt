@@ -20,7 +20,7 @@ use schema_types::Kind;
 use stats_file::Datum;
 use std::alloc::Global;
 
-// The different cells whose values aren't among the frequent ones, in the order in which they were first seen.
+// The different cells whose values aren't frequent, in the order of the first rows that have them.
 fn other_cells(
     alloc: Global,
     pool: &Pool,
@@ -111,7 +111,7 @@ fn list_of_groups(
     compress_runs(alloc, &maxima.cap(most)?, accuracy)
 }
 
-/// One list that serves for each value of the rows that isn't among the frequent ones.
+/// One list for all values of the rows, except the frequent values.
 pub(crate) fn list_of_others(
     alloc: Global,
     pool: &Pool,

@@ -111,7 +111,7 @@ pub put_part_cut : {X : Type 0} {t0 t1 t2 : Option (List ℕ)} {f0 f1 f2 : ℕ} 
     → Put (between t0 t2 f0 f2) w0 w2 (flat_map f items) (Err e)
 put_part_cut f items i d lt h k = put_cut_next (flat_map f (drop (i + 1) items)) (flat_map f items) (parts_whole f items i d lt) h k
 
--- `put_item` and `put_item_cut` are `put_part` and `put_part_cut` for an item and a text that have names
+-- `put_item` and `put_item_cut` are `put_part` and `put_part_cut` with names for the item (`x`) and for its text (`text`)
 pub put_item : {X : Type 0} {t0 t1 t2 : Option (List ℕ)} {f0 f1 f2 : ℕ} {w0 w1 w2 text : List ℕ} {u v : Unit {0}} (f : X → List ℕ) (items : List X) (i : ℕ) (x : X)
     → i < length items → x ≡ get_or items i x → text ≡ f x → Put (between t0 t1 f0 f1) w0 w1 (flat_map f (take i items)) (Ok u) → Put (between t1 t2 f1 f2) w1 w2 text (Ok v)
     → Put (between t0 t2 f0 f2) w0 w2 (flat_map f (take (i + 1) items)) (Ok tt)

@@ -29,7 +29,7 @@ abbrev pub told : Option Files → List ℕ → FileAnswer
 told None name = Nothing
 told (Some files) name = told_file (file_of files name)
 
--- `count` bytes of a file, from a place on, are at the front of a buffer; `count` is 0 exactly if the place is the file's end or past it
+-- `count` bytes of a file, from the offset `place` on, are at the front of a buffer. `count` is 0 exactly if this offset is the file's end or past it
 pub record Fills (bytes : List ℕ) (place count : ℕ) (into : List ℕ) : Type 0 where
   pub same : take count into ≡ take count (drop place bytes)
   pub within : 0 < count → place + count ≤ length bytes
@@ -47,7 +47,7 @@ IsAbsent Nothing = ⊥
 IsAbsent Absent = ⊤
 IsAbsent (Present bytes) = ⊥
 
--- what a read at a place answers, and what the read leaves in the buffer
+-- what a read at an offset answers, and what the read leaves in the buffer
 abbrev pub ReadsAt : FileAnswer → ℕ → Result ℕ StoreError → List ℕ → Type 0
 ReadsAt file place (Ok count) into = (count ≤ length into) × MayHaveRead file place count into
 ReadsAt file place (Err store.Missing) into = IsAbsent file
@@ -65,7 +65,7 @@ IsLonger Nothing limit = ⊤
 IsLonger Absent limit = ⊥
 IsLonger (Present all) limit = limit < length all
 
--- what reading a whole file answers; any file may end with a fault or with want of memory
+-- what reading a whole file answers. The reading of any file may end with a fault or with too little memory
 abbrev pub ReadsFile : FileAnswer → ℕ → Result (List ℕ) ReadError → Type 0
 ReadsFile file limit (Ok bytes) = (length bytes ≤ limit) × IsWhole file bytes
 ReadsFile file limit (Err read.Missing) = IsAbsent file
@@ -73,7 +73,7 @@ ReadsFile file limit (Err read.Fault) = ⊤
 ReadsFile file limit (Err (read.TooLong most)) = (most ≡ limit) × IsLonger file limit
 ReadsFile file limit (Err read.NoMemory) = ⊤
 
--- these are the first bytes of the file
+-- these may be the first bytes of the file. If the file is absent, there are no bytes
 abbrev pub IsFront : FileAnswer → List ℕ → Type 0
 IsFront Nothing bytes = ⊤
 IsFront Absent bytes = bytes ≡ []

@@ -4,11 +4,11 @@ use Rattle.std.specs.List.{list_any}
 use Rattle.base_io.specs.declared.errors.StoreError.{StoreError}
 use Rattle.base_io.specs.declared.errors.StoreError.TheVariants as store
 
--- the call with this number is listed; calls are numbered from 1
+-- whether the number of a call is in the list of the calls that fail. Calls are numbered from 1
 abbrev pub is_listed : ℕ → List ℕ → Bool
 is_listed call fail_at = list_any (λ listed. nat_eq listed call) fail_at
 
--- the call failed. An absent file is no failure
+-- whether the call failed. A call doesn't fail because the file is absent
 abbrev pub has_failed : Result ℕ StoreError → Bool
 has_failed (Ok count) = false
 has_failed (Err store.Missing) = false

@@ -6,7 +6,7 @@ use Rattle.base_io.specs.declared.errors.Failed.{Failed}
 use Rattle.base_io.specs.Devices.{Growth}
 
 -- The whole promise of a step that writes a text. If the step succeeds, the sink has taken the whole text. If the step fails, the sink has taken a
--- prefix of the text, and the count of faults has risen. The count never falls.
+-- prefix of the text, and the count of faults has risen. The count never decreases.
 pub record Wrote (sink : Growth) (text : List ℕ) (result : Result (Unit {0}) Failed) : Type 0 where
   pub ok : OnOk result (sink.taken_after ≡ appended sink.taken_before text)
   pub prefix : GrewByPrefix sink.taken_before sink.taken_after text

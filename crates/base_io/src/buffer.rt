@@ -49,7 +49,7 @@ impl Buffer {
         self.used = end;
     }
 
-    /// Hands all bytes that wait to the sink.
+    /// Hands all waiting bytes to the sink.
     pub fn flush<N: Sink>(&mut self, sink: &mut N) -> Result<(), Failed>
         ensures wrote { Wrote (growth N.taken N.faults sink.old sink.new) self.old result }
         ensures empty { OnOk result (self.new ≡ []) }

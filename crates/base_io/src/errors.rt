@@ -30,7 +30,7 @@ pub enum ReadError {
     Fault,
     /// The file has more bytes than the caller's limit.
     TooLong { limit: u32 },
-    /// Memory was wanting.
+    /// There was too little memory.
     NoMemory,
 }
 

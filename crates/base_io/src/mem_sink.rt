@@ -9,8 +9,8 @@ use std::marker::Model;
 
 /// A sink in memory that has room for a limited number of bytes.
 ///
-/// Calls are counted from 1, and a call fails if its number is in `fail_at`. A call also fails if the piece has bytes and no room is left. The counts
-/// of calls and faults begin at 0 and do not rise above the greatest value of their type. No write allocates memory.
+/// Calls are counted from 1, and a call fails if its number is in `fail_at`. A call that brings bytes also fails if no room is left. The counts of
+/// calls and faults begin at 0 and do not rise above the greatest value of their type. No write allocates memory.
 #[derive(Drop)]
 pub struct MemSink {
     taken: Vec<u8>,
@@ -72,7 +72,8 @@ impl Sink for MemSink {
         ensures later { self.old.faults ≤ self.new.faults }
         ensures failed { OnErr result (Rose self.old.faults self.new.faults) }
 
-        // Only two kinds of calls fail: the listed calls, and calls with bytes if no room is left. Each failure is counted.
+        // Only two kinds of calls fail: those whose numbers are in `fail_at`, and those that bring bytes when no room is left. Each failure is
+        // counted.
         ensures calls { self.new.calls ≡ one_more self.old.calls }
         ensures fail_at { self.new.fail_at ≡ self.old.fail_at }
         ensures fails { is_err result ≡ (is_listed self.new.calls self.old.fail_at

@@ -50,7 +50,7 @@ fn find_file<'a>(files: &'a [(Name, Seq<u8>)], name: &str) -> Option<&'a [u8]>
     None
 }
 
-// Copies bytes, from a place on, into the front of a buffer, until the bytes end or the buffer is full.
+// Copies bytes, from the offset `place` on, into the front of a buffer, until the bytes end or the buffer is full.
 fn copy_front(bytes: &[u8], place: u64, into: &mut [u8]) -> usize
     requires { 0 < length into.old }
     ensures count { result ≡ min (length bytes.now - place) (length into.new) }
@@ -72,7 +72,7 @@ impl Store for MemStore {
 
     ghost misses = { λ s. s.misses };
 
-    /// Reads as every store does, and exactly the listed calls fail.
+    /// Reads as every store does. A call fails exactly if its number is in `fail_at`.
     fn read_at(&mut self, name: &str, at: u64, into: &mut [u8]) -> Result<usize, StoreError>
         requires place { at ≤ most_file }
         requires room { 0 < length into.old }
@@ -89,7 +89,7 @@ impl Store for MemStore {
         ensures most { IfOk result (λ n. (bytes : List ℕ) → file_of self.old.files name.now ≡ Some bytes
             → n ≡ min (length bytes - at) (length into.new)) }
 
-        // Exactly the listed calls fail, and each failure is counted.
+        // Exactly the calls whose numbers are in `fail_at` fail, and each failure is counted.
         ensures calls { self.new.calls ≡ one_more self.old.calls }
         ensures fail_at { self.new.fail_at ≡ self.old.fail_at }
         ensures fails { has_failed result ≡ is_listed self.new.calls self.old.fail_at }

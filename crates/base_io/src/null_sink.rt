@@ -11,7 +11,7 @@ impl Sink for NullSink {
 
     ghost faults = { λ _. 0 };
 
-    /// Takes the whole piece.
+    /// Takes all of the bytes.
     fn write(&mut self, bytes: &[u8]) -> Result<usize, Failed>
         ensures all { result ≡ Ok (length bytes.now) }
     {

@@ -45,7 +45,7 @@ impl<T> Seq<T> {
         self.items.pop()
     }
 
-    /// Puts an item at a place, counted from 0, and returns the item that was there.
+    /// Puts an item at an index, counted from 0, and returns the item that was there.
     pub fn replace(&mut self, i: usize, item: T) -> T
         requires { i < length self.old }
         ensures old { slice_get self.old i ≡ Some result }
@@ -54,7 +54,7 @@ impl<T> Seq<T> {
         std::mem::replace(&mut self.items[i], item)
     }
 
-    /// The item at a place, counted from 0.
+    /// The item at an index, counted from 0.
     pub fn get(&self, i: usize) -> &T
         requires { i < length self.now }
         ensures { slice_get self.now i ≡ Some result.now }

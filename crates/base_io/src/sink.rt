@@ -13,11 +13,11 @@ pub trait Sink {
     /// How often a write has failed.
     ghost faults: { Self → ℕ };
 
-    /// Takes bytes from the front of a piece, and returns how many it took.
+    /// Takes some of these bytes, from the front, and returns how many it took.
     fn write(&mut self, bytes: &[u8]) -> Result<usize, Failed>
         ensures bound { IfOk result (λ n. n ≤ length bytes.now) }
 
-        // If the piece has bytes and the sink takes no byte, the call has failed.
+        // If there are bytes and the sink takes no byte, the call has failed.
         ensures progress { 0 < length bytes.now → IfOk result (λ n. 0 < n) }
 
         ensures took { IfOk result (λ n. taken self.new ≡ appended (taken self.old) (take n bytes.now)) }

@@ -19,7 +19,7 @@ pub trait Store {
     /// How often a file was missing.
     ghost misses: { Self → ℕ };
 
-    /// Reads bytes of a file, from the place `at` on, into the front of a buffer, and returns how many bytes were read. The result is 0 exactly if
+    /// Reads bytes of a file, from the offset `at` on, into the front of a buffer, and returns how many bytes were read. The result is 0 exactly if
     /// `at` is the end of the file or lies past the end.
     fn read_at(&mut self, name: &str, at: u64, into: &mut [u8]) -> Result<usize, StoreError>
         requires place { at ≤ most_file }
@@ -27,7 +27,7 @@ pub trait Store {
         ensures read { ReadsAt (told (files self.old) name.now) at result into.new }
         ensures files { files self.new ≡ files self.old }
 
-        // Neither count falls.
+        // Neither count decreases.
         ensures later { faults self.old ≤ faults self.new }
         ensures later_misses { misses self.old ≤ misses self.new }
 

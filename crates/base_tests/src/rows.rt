@@ -23,8 +23,8 @@ fn reserved_rows_are_pushed(rt: HostRuntime) -> Result<(), Fail> {
     Ok(())
 }
 
-// The places of 7 among the keys 7, 9, 7, 7: the first place and the next one. Then the keys 8, 7 replace these keys, and again: the first place of 7
-// and the next one.
+// The places of 7 among the keys 7, 9, 7, 7: the first place and the next one. Then the keys 8, 7 replace these keys, and the same two places are
+// looked up again.
 fn places_of_seven(alloc: Global) -> Result<[Option<u32>; 4], NoMemory> {
     let mut chains = Chains::with_room(alloc, 4, 3)?;
     chains.load(&[7, 9, 7, 7]);
@@ -42,7 +42,7 @@ fn chains_ascend(rt: HostRuntime) -> Result<(), Fail> {
     Ok(())
 }
 
-// The row of the second link of the second level, after the row of its parent.
+// Two rows: that of the second link of the second level, and before it that of the link's parent.
 fn linked(alloc: Global) -> Result<[u32; 2], NoMemory> {
     let mut forest = RowForest::reserve(alloc, &[1, 2])?;
     forest.add(0, Link { parent: 0, row: 5 });

@@ -129,7 +129,7 @@ pub fn list_of_numbers(alloc: Global, numbers: &[u128]) -> Result<Pieces, NoMemo
 }
 
 // A list of at most `pieces` pieces, each for about the same number of rows. The last value is 1, and the others are the multiples of
-// `column` + 1, so they fall in wider steps where the column's number is larger.
+// `column` + 1, so they descend in wider steps if the column's number is larger.
 fn list_of_column(alloc: Global, rows: u64, pieces: u32, column: u32) -> Result<Pieces, NoMemory> {
     let mut runs = Vec::new(alloc);
     let mut left = rows;

@@ -54,7 +54,7 @@ fn bound_once(rt: &impl Clock, alloc: Global, query: &Query, subset: EntrySet) -
 }
 
 /// The bound of a set of entries, with the least time of `rounds` rounds. The error is `InvalidInput` if an entry has no row bound or a joined column
-/// has no list, and `OutOfMemory` if memory is wanting.
+/// has no list, and `OutOfMemory` if memory runs out.
 pub fn timed(
     rt: &impl Clock,
     alloc: Global,

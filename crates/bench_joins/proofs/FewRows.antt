@@ -61,7 +61,7 @@ before_stretch p a m near (suc n) s = elim (cases_lt s a) [
   | inr high ↦ (let rest : length (filter p (range_with_len s (suc n))) ≤ a + m - s = in_stretch p a m near (suc n) s high in omega (arith, rest))
 ]
 
--- if a row of `repeated` has a key, the row lies in the key's stretch: from key * times to below key * times + times
+-- if a row of `repeated` has a key, its row number is from key * times to below key * times + times
 in_key : (key times row : ℕ) → 0 < times → eqb (row / times) key ≡ true → (key * times ≤ row) × (row < key * times + times)
 in_key key times row some hit =
     let same : row / times ≡ key = eqb-true (row / times) key hit in

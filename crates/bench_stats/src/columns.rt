@@ -45,7 +45,7 @@ impl Random {
     }
 }
 
-// A key of a random length of 0 to 21 bits. Small keys are frequent and large ones are rare, about as unequal as words of a text.
+// A key of a random length of 0 to 21 bits. Small keys are frequent and large ones are rare, so keys repeat about as unevenly as words of a text.
 fn unequal(bits: u64) -> u64 {
     (bits & 0xffff_ffff) >> (32 - (bits >> 58u32) % 22)
 }

@@ -1,4 +1,5 @@
--- The walk makes a tree that follows the equalities: below an entry stand its other classes, and below a class its other entries.
+-- The walk makes a tree that follows the equalities. Below an entry are its classes except the one above it, and below a class are its entries
+-- except the one above it.
 use Rattle.std.proofs.Common.{◌≡◌, ◌≢◌, ℕ, Bool, true, false, not, eqb, List, [], ◌∷◌, ◌+◌, ◌<◌, ◌≤◌, zero, suc, length, map, arith, refl, ap, sym, ◌∙◌, subst, inl, inr, Option, Some, None}
 use Rattle.std.specs.Prelude.{filter}
 use Rattle.std.specs.List.{Contains, AllByRecursion, IsDistinct, list_any}
@@ -45,7 +46,7 @@ another_one (e ∷ es) h d p k = elim (one_in e.left (e.right ∷ places_of es) 
   ]
 ]
 
--- ---- lists in order
+-- ---- sorted lists
 
 filter_all : (Q : Column → Type 0) (test : Column → Bool) (cs : List Column) → AllByRecursion Q cs → AllByRecursion Q (filter test cs)
 filter_all Q test [] h = tt

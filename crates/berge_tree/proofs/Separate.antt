@@ -1,4 +1,4 @@
--- No entry stands twice in a tree that follows the equalities.
+-- A tree that follows the equalities has no entry twice.
 use Rattle.std.proofs.Common.{◌≡◌, ◌≢◌, ℕ, Bool, true, false, not, List, [], ◌∷◌, ◌++◌, ◌<◌, zero, suc, length, get_or, arith, refl, ap, sym, ◌∙◌, subst, inl, inr, Option, Some, None}
 use Rattle.std.specs.Prelude.{⊤}
 use Rattle.std.specs.List.{Contains, AllByRecursion, AllPairs}

@@ -1,4 +1,5 @@
--- A walk goes from an entry through a class to another entry. If the equalities close no cycle, each step leads to an entry that isn't above (`IsReached`).
+-- A walk goes from an entry through a class to another entry. If the equalities close no cycle, each step leads to an entry that isn't among the
+-- entries above it (`IsReached`).
 use Rattle.std.proofs.Common.{◌≡◌, ◌≢◌, ℕ, Bool, true, false, not, List, [], ◌∷◌, ◌<◌, suc, arith, refl, ap, sym, ◌∙◌, subst, ◌⊎◌, inl, inr, Option, Some, None}
 use Rattle.std.specs.Prelude.{⊤}
 use Rattle.std.specs.List.{Contains}
@@ -54,7 +55,7 @@ none_some c e = subst (λ (o : Option ℕ). is_none o) e tt
     is_none None = ⊤
     is_none (Some d) = ⊥
 
--- ---- an entry that is reached below the entries P, in its column `above`
+-- ---- the walk reaches entry y through y's column `above`, below the entries P
 
 pub record IsReached (class : Place → Place) (P : List ℕ) (y : ℕ) (above : Option ℕ) : Type 0 where
   pub connected : (side : ℕ → Bool) → ((u v : Place) → class u ≡ class v → Contains P u.entry → side u.entry ≡ side v.entry) → (a : ℕ) → Contains P a → side a ≡ side y

@@ -15,7 +15,7 @@ abbrev pub places_of : List Edge → List Place
 places_of [] = []
 places_of (e ∷ es) = e.left ∷ (e.right ∷ places_of es)
 
--- the equalities join entries of the set
+-- each equality joins entries of the set
 abbrev pub AreWithin : List ℕ → List Edge → Type 0
 AreWithin set es = AllByRecursion (λ e. Contains set e.left.entry × Contains set e.right.entry) es
 

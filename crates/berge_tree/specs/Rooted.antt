@@ -1,4 +1,4 @@
--- The trees of equalities: which classes stand below an entry, which entries below a class, and in which order.
+-- The trees of equalities: which classes are below an entry, which entries are below a class, and in which order.
 use Rattle.std.specs.Prelude.{◌≡◌, ◌≢◌, ℕ, ◌≤◌, ⊤, List, [], ◌∷◌, Option, Some, None}
 use Rattle.std.specs.List.{AllByRecursion, AllPairs, Contains}
 use Rattle.std.specs.List.Sorted.{IsStrictlyIncreasing}

@@ -8,7 +8,7 @@ use Rattle.berge_tree.specs.Equalities.{place}
 abbrev pub joined_parts : (ℕ → ℕ) → ℕ → ℕ → ℕ → ℕ
 joined_parts name a b x = if name x == name b then name a else name x
 
--- each equality in turn joins two different parts
+-- each equality joins two parts that the earlier ones leave apart
 abbrev pub joins_parts : (ℕ → ℕ) → List Edge → Bool
 joins_parts name [] = true
 joins_parts name (e ∷ es) = not (name e.left.entry == name e.right.entry) && joins_parts (joined_parts name e.left.entry e.right.entry) es

@@ -9,13 +9,13 @@ use Rattle.berge_tree.specs.Trees.{Classes, no_class, and_class, Members, one_me
 use Rattle.berge_tree.specs.declared.tree.Tree.{Tree}
 use Rattle.berge_tree.specs.Boxed.{tree_of}
 
--- ---- the columns that equalities name, in order, each with the name of its class
+-- ---- the columns that equalities name, sorted, each with the name of its class
 
 -- the order of columns: by entries, then by the columns' numbers
 abbrev pub is_before : Place → Place → Bool
 is_before p q = nat_lt p.entry q.entry || ((p.entry == q.entry) && nat_lt p.column q.column)
 
--- inserts a column in order, as a class of its own, unless it is there already
+-- inserts a column into the sorted list, as a class of its own, unless the list has it already
 abbrev pub put : Place → List Column → List Column
 put p [] = record { place = p; class = p } ∷ []
 put p (c ∷ cs) =
@@ -42,12 +42,12 @@ with_classes cs (e ∷ es) = with_classes (map (renamed (class_in cs e.right) (c
 abbrev pub columns_of : List Edge → List Column
 columns_of es = with_classes (with_places [] es) es
 
--- the columns are in order, and no column stands twice
+-- the columns are sorted, and no column is there twice
 abbrev pub Ascend : List Column → Type 0
 Ascend [] = ⊤
 Ascend (c ∷ cs) = AllByRecursion (λ d. is_before c.place d.place ≡ true) cs × Ascend cs
 
--- these are the columns that equalities name, in order, each once and with its class
+-- these are the columns that equalities name, sorted, each once and with its class
 pub record AreColumnsOf (es : List Edge) (columns : List Column) : Type 0 where
   pub ascend : Ascend columns
   pub named : (c : Column) → Contains columns c → Contains (places_of es) c.place × (c.class ≡ class_of es c.place)
@@ -91,13 +91,13 @@ walked (suc depth) columns entry above =
     classes_with (λ c. members_with (λ d. walked depth columns d.place.entry (Some d.place.column)) (filter (is_other c) columns))
     (filter (is_at entry above) columns)
 
--- the classes below an entry, for those of the entry's columns that stand in `columns` at place `from` or later, each down to a depth
+-- the classes below an entry, for those of the entry's columns that `columns` has at index `from` or later, each down to a depth
 abbrev pub classes_at : ℕ → List Column → ℕ → ℕ → Option ℕ → Classes
 classes_at depth columns from entry above =
     classes_with (λ c. members_with (λ d. walked depth columns d.place.entry (Some d.place.column)) (filter (is_other c) columns))
     (filter (is_at entry above) (drop from columns))
 
--- the members of the class of `above` whose columns stand in `columns` at place `from` or later
+-- the members of the class of `above` whose columns `columns` has at index `from` or later
 abbrev pub members_at : ℕ → List Column → ℕ → Column → Option Members
 members_at depth columns from above =
     members_with (λ d. walked depth columns d.place.entry (Some d.place.column)) (filter (is_other above) (drop from columns))
@@ -106,7 +106,7 @@ members_at depth columns from above =
 abbrev pub HaveOthers : List Column → Type 0
 HaveOthers columns = (c : Column) → Contains columns c → filter (is_other c) columns ≢ []
 
--- the place of the first column at `from` or later that passes the test, if there is one
+-- the index of the first column at `from` or later that passes the test, if there is one
 abbrev pub IsNext : (Column → Bool) → List Column → ℕ → Option ℕ → Type 0
 IsNext test columns from None = filter test (drop from columns) ≡ []
 IsNext test columns from (Some i) =
@@ -130,7 +130,7 @@ forest depth columns done (x ∷ xs) =
     if is_among done x then forest depth columns done xs
     else tree_at depth columns x ∷ forest depth columns (entries (tree_at depth columns x) ++ done) xs
 
--- the entry stands in one of the trees
+-- the entry is in one of the trees
 abbrev pub stands_in : List Tree → ℕ → Bool
 stands_in [] x = false
 stands_in (t ∷ ts) x = is_among (entries (tree_of t)) x || stands_in ts x

@@ -28,12 +28,12 @@ pub fn names_keep_entries_apart()
         → name a ≢ name b → AreApart es a b }
 {}
 
-/// Equalities close no cycle if `joins_parts` is true of them: each equality in turn joins two different parts.
+/// If `joins_parts` is true of equalities, each of them joins two parts that the earlier ones leave apart. Then the equalities close no cycle.
 pub fn joined_parts_close_no_cycle()
     ensures { (es : List Edge) → joins_parts (λ e. e) es ≡ true → ClosesNoCycle es }
 {}
 
-/// If `has_entries` is true for the bits of a set, the equalities join entries of this set.
+/// If `has_entries` is true for the bits of a set, the equalities join only entries of this set.
 pub fn bits_tell_what_a_set_has()
     ensures { (subset : ℕ) (es : List Edge) → has_entries subset es ≡ true
         → AreWithin (entries_of_set subset) es }

@@ -1,8 +1,8 @@
-//! Makes join trees: from the equalities that a plan keeps, the trees of entries and classes that a bound is folded over.
+//! Makes join trees from the equalities that a plan keeps. A bound is folded over these trees of entries and classes.
 //!
 //! In: equalities of columns that close no cycle between entries, and a set of entries, an `EntrySet`. Out: one tree for each component of the set,
-//! in boxes. A class is a largest set of columns that the equalities connect. Below an entry stand the classes of its columns, except the class above
-//! the entry. Below a class stand its entries, except the entry above the class. `Classed` tells whether two columns are in one class.
+//! on the heap. A class is a largest set of columns that the equalities connect. Below an entry are the classes of its columns, except the class
+//! above the entry. Below a class are its entries, except the entry above the class. `Classed` tells whether two columns are in one class.
 //!
 //! Callers cite `ClosesNoCycle` and `AreWithin` for what they hand in. For what they get they cite `AreAllTreesOf` (the trees of a set),
 //! `tree_of` (the tree that boxes hold) and `class_of` (the class of a column).

@@ -14,7 +14,7 @@ use base_io::{NoMemory, Seq};
 use entry_sets::EntrySet;
 use std::alloc::Global;
 
-// An entry stands once in a tree, and there are at most sixteen entries, so no tree is deeper.
+// A tree has no entry twice, and there are at most sixteen entries, so no tree is deeper.
 const DEPTH: u8 = 16;
 
 // Whether the column is a column of the entry, but not the entry's column in the class above.
@@ -57,7 +57,7 @@ fn next_other(columns: &[Column], from: usize, above: Column) -> Option<usize>
     None
 }
 
-// The classes below an entry, for those of the entry's columns that stand in `columns` at place `from` or later.
+// The classes below an entry, for those of the entry's columns that `columns` has at index `from` or later.
 #[cycle(walk)]
 fn classes_at(
     alloc: Global,
@@ -85,8 +85,8 @@ fn classes_at(
     }
 }
 
-// The members of the class of `above` whose columns stand in `columns` at place `from` or later, each with the classes below it. `None` if there is
-// no member.
+// The members of the class of `above` whose columns `columns` has at index `from` or later, each with the classes below it. `None` if there is no
+// member.
 #[cycle(walk)]
 fn members_at(
     alloc: Global,
@@ -136,7 +136,7 @@ fn tree_from(alloc: Global, columns: &[Column], root: u8) -> Result<Tree, NoMemo
     Ok(Tree { root, below })
 }
 
-// Whether an entry stands in these classes, or below them.
+// Whether an entry is in these classes, or below them.
 #[cycle(standing)]
 fn stands_below(classes: &Classes, entry: u8) -> bool
     ensures { result ≡ is_among (entries_below (classes_of classes.now)) entry }
@@ -152,7 +152,7 @@ fn stands_below(classes: &Classes, entry: u8) -> bool
     }
 }
 
-// Whether the entry is one of these members, or stands below them.
+// Whether the entry is one of these members, or is below them.
 #[cycle(standing)]
 fn stands_within(members: &Members, entry: u8) -> bool
     ensures { result ≡ is_among (entries_within (members_of members.now)) entry }

@@ -1,5 +1,5 @@
--- The fold composes lists from the leaves of a join tree up. The lemmas are about its steps: the lists of the classes below an entry, and of the entries
--- below a class.
+-- The fold composes lists from the leaves of a join tree up. The lemmas are about its steps: the lists of the classes below an entry, and the lists
+-- of the entries below a class.
 use Rattle.std.proofs.Common.{◌≡◌, ℕ, zero, suc, ◌^◌, ◌<◌, List, [], ◌∷◌, ◌++◌, length, get_or, map, refl, ap, sym, ◌∙◌, subst, sum, arith}
 use Rattle.std.specs.Borrow.{Bor}
 use Rattle.std.specs.Prelude.{Option, Some, None, IsSome, Result, Ok, Err, IfOk, unwrap_or}

@@ -1,4 +1,5 @@
--- If a set has its lists, each tree of a turn has its lists. The lists of the set fall, and each sums to the row bound of its entry.
+-- If a set has its row bounds and lists, each tree of a turn has its row bounds and lists. Each list of the set is in descending order and sums to
+-- the row bound of its entry.
 use Rattle.std.proofs.Common.{ℕ, List, [], ◌∷◌, ◌++◌}
 use Rattle.std.specs.Prelude.{IsSome}
 use Rattle.std.specs.List.{AllByRecursion}
@@ -17,7 +18,7 @@ use Rattle.bound_fold.specs.Lists.{bounds_of, rows_of, list_of, IsListed}
 use Rattle.bound_fold.proofs.Folded.{has_list}
 use Rattle.bound_fold.specs.Sets.{SetIsListed}
 
--- ---- the trees of a turn are listed
+-- ---- each tree of a turn has its row bounds and lists
 
 module _ (Q : ℕ → Type 0) where
   all_left : (xs ys : List ℕ) → AllByRecursion Q (xs ++ ys) → AllByRecursion Q xs
@@ -48,7 +49,7 @@ module _ (lists : EntryLists) (es : List Edge) (subset turn : ℕ) (h : SetIsLis
   pub turn_listed : (ts : List BergeTree) → AreAllTreesOf (kept_of subset turn es) (entries_of_set subset) ts → AllByRecursion (IsListed lists) ts
   turn_listed ts all = each_listed ts all.trees (in_trees es subset turn ts all HasRows h.rows)
 
--- ---- what a set's lists are
+-- ---- the lists of a set are in descending order, and each sums to a row bound
 
 pub set_has_lists : (lists : EntryLists) (es : List Edge) (subset : ℕ) → SetIsListed lists es subset → SetHasLists (bounds_of lists) es subset
 set_has_lists lists es subset h =

@@ -1,5 +1,5 @@
--- The code tests each entry number and each equality of the query. The tests of the entries whose bits are set say what is true of the set's entries. The
--- tests of the equalities within the set say what is true of the set's equalities.
+-- The code goes through all entry numbers and through all equalities of the query, and tests only those of the set. All tests pass exactly if what
+-- they test is true of every entry of the set, or of every equality within the set.
 use Rattle.std.proofs.Common.{Bor, zero, ◌≡◌, ℕ, suc, ◌+◌, ◌<◌, Bool, true, false, eqb, ltb, List, [], ◌∷◌, get_or, length, refl, ap, ◌∙◌, sym, subst, arith, inl, inr}
 use Rattle.std.specs.Prelude.{Option, Some, None, IsSome, IsTrue, MatchBool, ◌↔◌, is_some}
 use Rattle.std.specs.Option.{option_copied}

@@ -25,7 +25,7 @@ list_in lists entry column = get same_pair lists (entry, column)
 abbrev pub AreBounds : MapOf ℕ ℕ → Type 0
 AreBounds rows = (entry n : ℕ) → rows_in rows entry ≡ Some n → n < 2 ^ 64
 
--- each list falls, and its sum is the row bound of its entry
+-- each list is in descending order, and its sum is the row bound of its entry
 abbrev pub AreListsOf : MapOf ℕ ℕ → MapOf (ℕ × ℕ) (List ℕ) → Type 0
 AreListsOf rows lists = (entry column : ℕ) (list : List ℕ) → list_in lists entry column ≡ Some list → IsFalling list
     × (rows_in rows entry ≡ Some (sum list))

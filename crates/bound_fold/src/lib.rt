@@ -1,7 +1,8 @@
-//! The fold of a join tree, and the bound of a set of entries: from the lists of columns, numbers that no join of the entries exceeds.
+//! Computes the bound of a join tree, by a fold, and the bound of a set of entries. If the lists dominate the tables, no join of these entries has
+//! more rows.
 //!
-//! In: a tree of entries and classes, and for each entry a row bound and falling lists of its joined columns, as pieces. Out: one number
-//! of 128 bits.
+//! In: a tree of entries and classes, and for each entry a row bound and the lists of its joined columns, as pieces. Each list is in descending
+//! order. Out: one number of 128 bits.
 //!
 //! The fold goes from the leaves up. A class multiplies the lists of the entries below it, rank by rank. An entry composes its own list with the
 //! lists of the classes below it. The root sums the weights of its rows; this sum is the bound of the tree. In each turn a set of entries keeps some

@@ -55,7 +55,7 @@ impl EntryLists {
         ensures rows { (other : ℕ) → rows_of self.new other ≡ rows_of self.old other }
         ensures err { OnErr result (list_of self.new entry column ≡ None) }
     {
-        // This call tells the proof that the list falls.
+        // From this call the proof learns that the list is in descending order.
         let _ = list.pieces();
         self.lists.insert((entry, column), list)?;
         Ok(())

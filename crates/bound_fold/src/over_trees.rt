@@ -18,7 +18,7 @@ use berge_tree::{Classes, Members, Tree};
 use piece_math::{Child, Pieces, compose, root_total};
 use std::alloc::Global;
 
-// For each class below an entry, adds the entry's list for that class, and the list of the class.
+// Adds to `children`, for each class below an entry, the entry's list for that class and the list of the class.
 #[cycle(folding)]
 fn add_children(
     children: &mut Vec<Child>,
@@ -89,7 +89,7 @@ fn own_list(list: &Pieces) -> Result<Pieces, NoMemory>
     requires { sum list.now < 2 ^ 64 }
     ensures { IfOk result (λ own. own ≡ map saturated (composed list.now [])) }
 {
-    // This call tells the proof that the list falls, and that its numbers are positive.
+    // From this call the proof learns that the list is in descending order, and that its numbers are positive.
     let _ = list.pieces();
     list.copy()
 }

@@ -1,4 +1,4 @@
-//! The bound of a set of entries: in each turn the product of the bounds of its trees, and of all turns the least.
+//! The bound of a set of entries. In each turn the bounds of the turn's trees are multiplied; the least product is the bound.
 ghost use Rattle.std.specs.Prelude.{◌≡◌, ◌⊎◌, ◌-◌, ◌^◌, ◌≤◌, ℕ, List, length, map, IfOk};
 ghost use Rattle.std.specs.List.{AllByRecursion};
 ghost use Rattle.degree_sequences.specs.Saturation.{saturated};
@@ -31,8 +31,8 @@ fn product_of_trees(alloc: Global, trees: &[Tree], lists: &EntryLists) -> Result
     Ok(product)
 }
 
-/// The bound of a set in one turn, or `u128::MAX` where it is larger. It is the product of the bounds of the trees of the equalities that
-/// the set keeps in that turn.
+/// The bound of a set in one turn, or `u128::MAX` where it is larger. In that turn the set keeps some equalities, and the bounds of their trees are
+/// multiplied.
 pub fn turn_bound(
     alloc: Global,
     parts: &Parts,

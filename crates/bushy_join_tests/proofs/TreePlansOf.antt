@@ -14,7 +14,7 @@ use Rattle.bushy_join.specs.Trees.{whole_rows, IsTreePlanOf}
 use Rattle.bushy_join.proofs.Scans.{of_whole}
 use Rattle.bushy_join_tests.specs.Examples.{alone, never, pair_plan, three, triangle_plan, twice}
 
--- ---- rows that are known
+-- ---- if rows are a given list, and this list is within a bound, the rows are within the bound
 
 abbrev pub sides : List Comparison
 sides = equal 0 0 1 0 ∷ equal 1 1 2 0 ∷ equal 2 1 0 1 ∷ []

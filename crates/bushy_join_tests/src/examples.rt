@@ -14,7 +14,7 @@ pub fn two_tables()
         ≡ (0 ∷ 0 ∷ []) ∷ (0 ∷ 1 ∷ []) ∷ (1 ∷ 0 ∷ []) ∷ (1 ∷ 1 ∷ []) ∷ (2 ∷ 0 ∷ []) ∷ (2 ∷ 1 ∷ []) ∷ [] }
 {}
 
-/// The triangle: five rows at the inner node below the root and four at the root, each with the leaves from left to right.
+/// The triangle: five rows at the inner node below the root and four at the root. Each row has its row numbers in the order of the node's leaves.
 pub fn triangles()
     ensures plan { IsTreePlanOf triangle (tables_of triangle_tables) (scans_of triangle (tables_of triangle_tables)) triangle_plan }
     ensures inner { whole_rows triangle (tables_of triangle_tables) triangle_plan 3

@@ -120,7 +120,7 @@ left_has_more set last left right fits is_tree has = elim (cases_lt (2 ^ last) (
 
 -- ---- the last entry is taken out of a tree
 
--- `tree` is the first tree with the last entry joined to one of its nodes
+-- `IsWith last smaller tree`: `tree` is `smaller` with the last entry joined to one of its nodes
 abbrev pub IsWith : ℕ → PlanTree → PlanTree → Type 0
 IsWith last (leaf entry) tree = tree ≡ node (leaf entry) (leaf last)
 IsWith last (node left right) tree =

@@ -1,4 +1,4 @@
--- The search fills two tables. The least cost stands in the first table, and the best tree is read off the second.
+-- The search fills two tables. The least cost is in the first table, and the best tree is read off the second.
 use Rattle.std.proofs.Common.{◌≡◌, ℕ, zero, suc, ◌+◌, ◌-◌, ◌^◌, ◌<◌, ◌≤◌, List, [], ◌∷◌, ◌++◌, length, get_or, refl, ap, sym, ◌∙◌, subst, arith, inl, inr}
 use Rattle.std.proofs.lemmas.List.{append-nil, append_assoc, length-append}
 use Rattle.std.proofs.lemmas.Nat.{pow_pos}
@@ -43,7 +43,7 @@ read_node w bounds next set right_set old middle all new left_root right_root nu
       number = is_number ∙ all_count;
     }
 
--- ---- room for the numbers
+-- ---- the inner nodes of each side are few enough to be numbered
 
 pub room_left : (w : Weight) (bounds table : List ℕ) (set end right_set count : ℕ) → set < end → IsTable w bounds table end → IsSplit set (set - right_set) right_set
     → ((tree : PlanTree) → IsTreeOver set tree → count + inner_count tree < 12) → (tree : PlanTree) → IsTreeOver (set - right_set) tree → count + inner_count tree < 12

@@ -159,7 +159,7 @@ times_in_node bounds next k left right =
       times-two k (root_number next left) (root_number (next + inner_count left) right),
     )
 
--- a number occurs among the nodes that joins name and the root as often as among the leaves and the inner nodes
+-- two lists have the number k equally often: the nodes that joins name with the root, and the leaves with the inner nodes
 named_with_root : (bounds : List ℕ) (set next k : ℕ) (tree : PlanTree) → IsTreeOver set tree
     → times k (joined_nodes (joins_from bounds next tree)) + one (root_number next tree) k ≡ bit_at set k + inside next (inner_count tree) k
 named_with_root bounds set next k (leaf entry) is_tree = elim (cases_eq k entry) [

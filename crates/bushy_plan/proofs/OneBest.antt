@@ -1,4 +1,4 @@
--- Two best trees are the same tree, and two refusals that have causes are the same refusal.
+-- Two best trees are the same tree. Two refusals that have causes are the same refusal, if neither of them is for too little memory.
 use Rattle.std.proofs.Common.{◌≡◌, ℕ, ◌-◌, ◌^◌, ◌≤◌, List, refl, ap, sym, ◌∙◌, subst, arith, inl, inr}
 use Rattle.std.specs.Prelude.{◌⊎◌}
 use Rattle.std.proofs.lemmas.Bool.{cases_order}

@@ -1,4 +1,5 @@
--- The first of the lightest trees over a set joins the first lightest trees over the two sides of the set's first lightest split.
+-- Take the first lightest split of a set, and over each of its two sides the first lightest tree. The node that joins these two trees is the first
+-- lightest tree over the set.
 use Rattle.std.proofs.Common.{◌≡◌, ℕ, ◌+◌, ◌-◌, ◌^◌, ◌<◌, ◌≤◌, List, get_or, ap, sym, ◌∙◌, subst, arith, inl, inr}
 use Rattle.std.specs.Prelude.{◌≢◌, bit_and}
 use Rattle.std.proofs.lemmas.Bool.{cases_lt, cases_order}
@@ -198,7 +199,8 @@ first_of_sides most bounds table set end right_set left right h is_table is_ligh
     sums : Light most bounds table set right_set
     sums = light_sides most bounds table set right_set split.lightest is_light
 
-    -- `left` and `right` are the sides of the tree that is read off. So the tree and `left'`, `right'` can be compared side by side
+    -- `left` and `right` are the sides of the tree that is read off, and `left'` and `right'` those of another tree. So the two trees can be compared
+    -- side by side
     sides_weigh : (left' right' : PlanTree) → IsTreeOver set (node left' right') → weight_of (weight.SumWithin most) bounds (node left' right') ≡ get_or table set 0 → leaf_set left' ≡ set - right_set
         → IsTreeOver (set - right_set) left' × IsTreeOver right_set right'
         × (weight_of (weight.SumWithin most) bounds left' ≡ weight_of (weight.SumWithin most) bounds left) × (weight_of (weight.SumWithin most) bounds right' ≡ weight_of (weight.SumWithin most) bounds right)

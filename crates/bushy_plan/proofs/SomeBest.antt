@@ -110,7 +110,7 @@ with_over set last (node left right) tree fits is_tree is_with = elim is_with [
     first : (first : ℕ) × IsFirstEntry set first
     first = tree_first set (node left right) is_tree
 
--- ---- by any order in which two trees can be compared, some tree is least
+-- ---- for any order that can compare every two trees, some tree is least
 
 record IsOrder (R : PlanTree → PlanTree → Type 0) : Type 0 where
   either : (a b : PlanTree) → R a b ⊎ R b a

@@ -1,5 +1,5 @@
--- The joins that the search found, with the scans, are a plan. If the best tree's cost is within the budget, so are the bounds of its joins. No order costs
--- less.
+-- The joins that the search found, with the scans, are a plan. If the best tree's cost is within the budget, the bounds of its joins are too. No
+-- order costs less than the plan.
 use Rattle.std.proofs.Common.{◌≡◌, ℕ, ◌<◌, ◌≤◌, List, length, ap, sym, ◌∙◌, subst, arith}
 use Rattle.std.specs.List.{AllByRecursion, count_by}
 use Rattle.std.specs.Prelude.{◌==◌}

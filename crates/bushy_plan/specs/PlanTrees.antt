@@ -1,4 +1,4 @@
--- Join trees. A set of entries is a number: entry x is in it where bit x is set.
+-- Join trees. A set of entries is a number: entry x is in the set if bit x is 1.
 use Rattle.std.specs.Prelude.{◌≡◌, ℕ, ◌+◌, ◌^◌, ◌<◌, List, [], ◌∷◌, ◌++◌, slice_index}
 use Rattle.std.specs.Int.{bit_at}
 use Rattle.tree_plans.specs.declared.bushy.Join.{Join}

@@ -15,7 +15,7 @@ pub fn one_best_tree()
     ensures one { (bounds : List ℕ) (n : ℕ) (a b : PlanTree) → IsBest bounds n a → IsBest bounds n b → a ≡ b }
 {}
 
-/// If the best tree costs no more than the budget, only want of memory can be the cause of a refusal. Besides want of memory, at most one
+/// If the best tree costs no more than the budget, only too little memory can be the cause of a refusal. Besides too little memory, at most one
 /// refusal has a cause.
 pub fn one_answer()
     ensures accepted { (bounds : List ℕ) (n budget : ℕ) (best : PlanTree) (e : PlanError) → budget ≤ greatest_budget

@@ -23,9 +23,10 @@ use tree_plans::{BushyPlan, Join};
 ///
 /// All bounds and the budget are in rows. A bound of 2^128 - 1 means that number or more. The search fills two tables of 2^n numbers, in at most 3^n
 /// steps each, and only one of them is in memory at a time. The first table has the least cost for each set. The second has the least sum for each
-/// set, over trees within the least cost. The left part of a set has its first entry, so each split is looked at once.
+/// set, over those trees whose bounds are at most the least cost of a whole tree. The left part of a split has the set's first entry, so each split
+/// is looked at once.
 ///
-/// The error is `Budget` or `PastBits` exactly if `IsCause` says so, and `NoMemory` if memory is wanting.
+/// The error is `Budget` or `PastBits` exactly if `IsCause` says so, and `NoMemory` if there is too little memory.
 pub fn choose_bushy(
     alloc: Global,
     bounds: &Seq<u128>,

@@ -1,5 +1,5 @@
-//! The splits of a set of entries into a left and a right set, as the search goes through them. A set is the number whose bits are its entries. Its
-//! bound stands at the place with this number.
+//! The splits of a set of entries into a left and a right set, as the search goes through them. A set is the number whose bits are its entries. This
+//! number is also the index of the set's bound.
 ghost use Rattle.std.specs.Prelude.{◌<◌};
 ghost use Rattle.bushy_plan.specs.PlanTrees.{IsFirstEntry};
 ghost use Rattle.bushy_plan.specs.Splits.{IsBehindFirst};

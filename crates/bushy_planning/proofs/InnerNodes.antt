@@ -1,4 +1,4 @@
--- Each inner node of a best tree's plan has an order of a set of entries, and the bound of that set.
+-- The entries of each inner node of a best tree's plan are an order of a set of entries. The node's bound is the bound of this set.
 use Rattle.std.proofs.Common.{◌≡◌, ℕ, zero, suc, ◌+◌, ◌-◌, ◌^◌, ◌<◌, eqb, List, [], ◌∷◌, length, map, get_or, ap, sym, ◌∙◌, subst, arith}
 use Rattle.std.specs.List.{AllByRecursion, IsDistinct}
 use Rattle.std.proofs.lemmas.List.{get_or-append-add, get_or-map, length-map}

@@ -1,5 +1,5 @@
--- `subtrees` lists the trees at a tree's inner nodes. With it the nodes are taken one after another: each node has the entries at its leaves, and the bound
--- of their set.
+-- `subtrees` lists the trees at a tree's inner nodes. Along this list the lemmas say of each node: it has the entries at its leaves, and the bound of
+-- their set.
 use Rattle.std.proofs.Common.{◌≡◌, ℕ, ◌+◌, ◌^◌, ◌<◌, List, [], ◌∷◌, ◌++◌, length, map, get_or, refl, ap, sym, ◌∙◌, subst, arith, append_assoc}
 use Rattle.std.specs.List.{AllByRecursion}
 use Rattle.std.proofs.lemmas.List.{append-nil, get_or_append_left, get_or_push, length-append, length-map, map-append}
@@ -17,7 +17,7 @@ abbrev pub leaves : PlanTree → List ℕ
 leaves (leaf entry) = entry ∷ []
 leaves (node left right) = leaves left ++ leaves right
 
--- the trees stand in the order of their nodes' numbers
+-- the trees are in the order of the numbers of the inner nodes at their roots
 abbrev pub subtrees : PlanTree → List PlanTree
 subtrees (leaf entry) = []
 subtrees (node left right) = subtrees left ++ subtrees right ++ node left right ∷ []

@@ -1,5 +1,5 @@
--- The lists of all nodes stand one after another: first the lists of the 32 nodes of one leaf, then the lists of the 16 nodes of two leaves, and so on. The
--- lemmas say where the list of a node stands.
+-- The lists of all nodes follow one another: first the lists of the 32 nodes of one leaf, then the lists of the 16 nodes of two leaves, and so on.
+-- The lemmas say at which index the list of a node is.
 use Rattle.std.proofs.Common.{◌≡◌, ℕ, zero, suc, ◌+◌, ◌*◌, ◌/◌, ◌<◌, ◌≤◌, Bool, false, cond, eqb, List, [], ◌∷◌, ◌++◌, map, length, length-append, append_assoc, take, get_or, None, Some, refl, ap, sym, ◌∙◌, subst, arith}
 use Rattle.std.specs.Prelude.{find, unwrap_or}
 use Rattle.std.specs.List.{flat_map, range_with_len, zip}

@@ -1,4 +1,4 @@
--- The lists of a column's 63 nodes in one list. Smaller nodes come first, and nodes of one size stand in the order of their leaves.
+-- The lists of a column's 63 nodes in one list. Smaller nodes come first, and nodes of one size are in the order of their leaves.
 use Rattle.std.specs.Prelude.{ℕ, ◌+◌, ◌-◌, ◌*◌, ◌/◌, Bool, List, [], ◌∷◌, map}
 use Rattle.std.specs.List.{flat_map, range_with_len}
 use Rattle.cond_stats.specs.Lists.{list_of_node}
@@ -15,6 +15,6 @@ abbrev pub node_lists : (ℕ → ℕ → Bool) → ℕ → List (ℕ × ℕ) →
 node_lists at_most accuracy [] = []
 node_lists at_most accuracy (row ∷ rows) = flat_map (lists_of_size at_most accuracy (row ∷ rows)) node_sizes
 
--- the place of the node of this size that holds this leaf. The smaller nodes, 64 - 64 / size of them, come before the nodes of this size
+-- the index of the node of this size that holds this leaf. The smaller nodes, 64 - 64 / size of them, come before the nodes of this size
 abbrev pub node_place : ℕ → ℕ → ℕ
 node_place size leaf = 64 - 64 / size + leaf / size

@@ -100,7 +100,7 @@ pub fn gather(
     ensures ranges { IfOk result (AnswerRanges (cell_le pool.now (kind_of_column cells.now filter)) accuracy
         (rows_of_pair cells.now filter joined)) }
 
-    // each list dominates the joined keys of the rows that it stands for
+    // each list dominates the joined keys of the rows that it is a list of
     ensures whole_never_under { IfOk result (WholeDominates (rows_of_pair cells.now filter joined)) }
     ensures whole_total { IfOk result (λ stats. sum stats.whole ≡ cells.now.rows) }
     ensures value_never_under { IfOk result (ValuesDominate (rows_of_pair cells.now filter joined)) }

@@ -1,5 +1,5 @@
-//! Statistics of a filter column for a joined column; they are made once, and then answer without more memory (SafeBound, SIGMOD 2023,
-//! conditional degree sequences).
+//! Statistics of a filter column for a joined column. They are made once, and then give the lists of values and ranges without taking more memory
+//! (SafeBound, SIGMOD 2023, conditional degree sequences).
 //!
 //! A plan from tables makes only the lists that its conditions ask for (`cond_stats`). This crate makes all of them, for a caller that keeps
 //! statistics, as a statistics file does. In: two columns of a table's cells. Out: a `ColumnStats`. It has the list of all rows, up to 32

@@ -33,7 +33,7 @@ pub struct ColumnStats {
     pub rest: Pieces,
     /// The cells at which the leaves begin.
     pub cuts: Seq<u64>,
-    /// The lists of the nodes of 1, 2, 4, 8, 16 and 32 leaves, in this order. Nodes of one size stand in the order of their leaves.
+    /// The lists of the nodes of 1, 2, 4, 8, 16 and 32 leaves, in this order. Nodes of one size are in the order of their leaves.
     pub nodes: Seq<Pieces>,
 }
 
@@ -91,7 +91,7 @@ impl ColumnStats {
     }
 }
 
-/// The place in `nodes` of the least node that holds both leaves.
+/// The index in `nodes` of the least node that holds both leaves.
 pub fn place_of_node(low: u8, high: u8) -> u8
     requires low { low < 32 }
     ensures place { result ≡ node_place (node_size low high) low }

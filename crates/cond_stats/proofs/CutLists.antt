@@ -1,5 +1,5 @@
--- The code cuts a falling list at a number (`cut_at`) element by element, and raises a list to another (`rank_maximum`) rank by rank. The lemmas are about
--- the steps of both loops.
+-- The code cuts a list in descending order element by element, so that it sums to at most a number (`cut_at`). It raises a list to another one rank
+-- by rank (`rank_maximum`). The lemmas are about the steps of both loops.
 use Rattle.std.proofs.Common.{◌≡◌, ℕ, zero, suc, ◌+◌, ◌-◌, ◌<◌, ◌≤◌, max, min, List, [], ◌∷◌, ◌++◌, length, get_or, set, take, length-take, refl, ap, sym, ◌∙◌, arith, inl, inr}
 use Rattle.std.specs.List.{AllByRecursion}
 use Rattle.std.proofs.lemmas.Bool.{cases_lt}

@@ -31,7 +31,7 @@ first_place_passes (x ∷ xs) v some = elim (cases_Bool (eqb x v)) [
       rw e (omega (arith, rest.0), (let at : 1 + first_place xs v ≡ suc (first_place xs v) = omega arith in ap (λ j. get_or (x ∷ xs) j 0) at) ∙ rest.1))
 ]
 
--- one number stands for a value's frequency and its first place: of two values, the value with the smaller number comes first
+-- one number made of a value's frequency and of its first row: of two values, the value with the smaller number comes first
 abbrev pub frequency_number : List ℕ → ℕ → ℕ
 frequency_number column v = (length column - degree column v) * (length column + 1) + first_place column v
 
@@ -114,7 +114,7 @@ module _ {at_most : ℕ → ℕ → Bool} {column numbers places : List ℕ} (or
   start_within : (run : Group) → IsRun numbers places run → run.start < length places
   start_within run is = omega (arith, is.some, is.ends, lengths)
 
-  -- a run is the window of its value: the stretch of places that have this value
+  -- a run is the window of its value: the stretch of `places` with the rows that have this value
   pub window_of_run : (run : Group) → IsRun numbers places run → IsWindow column places (λ v. eqb v (value_of_group column run)) run.start run.count
   window_of_run run is = record {
     ends = omega (arith, is.ends, lengths);

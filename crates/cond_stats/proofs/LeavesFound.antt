@@ -1,4 +1,4 @@
--- The cuts of a column are found from its places in order. If numbers compare as the values do, they tell where the leaves begin among these places.
+-- The cuts of a column are found from its sorted rows. If numbers compare as the values do, they tell where the leaves begin among these rows.
 use Rattle.std.proofs.Common.{◌≡◌, ℕ, zero, suc, ◌+◌, ◌*◌, ◌/◌, ◌<◌, ◌≤◌, Bool, cond, not, eqb, ltb, leb, List, [], ◌∷◌, map, length, get_or, refl, ap, sym, ◌∙◌, subst, arith, inl, inr}
 use Rattle.std.specs.List.{range_with_len}
 use Rattle.std.proofs.Math.Nat.{mul-le-mul_left}
@@ -17,7 +17,7 @@ use Rattle.cond_stats.proofs.Ranges.{leaf-below}
 use Rattle.cond_stats.proofs.Sorting.{rises_from_places, each_has_degree, in_order_is}
 use Rattle.cond_stats.proofs.WindowKeys.{degree-map}
 
--- leaf i begins at this place among n rows
+-- the cut of leaf i is the value of the row at this index, among n sorted rows
 abbrev pub cut_place : ℕ → ℕ → ℕ
 cut_place n i = n * i / 32
 

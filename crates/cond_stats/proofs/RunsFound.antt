@@ -31,7 +31,7 @@ starts_ascend-push runs run up behind i j none low high =
       )
     ]
 
--- the runs before place i were found. A run that isn't finished yet begins at `start`
+-- the runs that end before index i were found. A run that isn't finished yet begins at `start`
 pub record RunsSoFar (numbers places : List ℕ) (runs : List Group) (start i : ℕ) : Type 0 where
   pub within : start ≤ i
   pub more : start < i → i < length numbers

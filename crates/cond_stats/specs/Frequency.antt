@@ -1,10 +1,10 @@
--- Which values of a column are frequent: the 32 that stand in the most rows; of values in equally many rows, those that occur first.
+-- Which values of a column are frequent: the 32 values with the most rows. Of values with equally many rows the one that occurs first comes first.
 use Rattle.std.specs.Prelude.{ℕ, ◌==◌, nat_lt, nat_le, Bool, ◌&&◌, ◌||◌, List, take, drop}
 use Rattle.std.specs.List.{position_or_len}
 use Rattle.degree_sequences.specs.Degrees.{degree, different}
 use Rattle.cond_stats.specs.Leaves.{in_order}
 
--- the first place of a value in a column
+-- the row number of the first row that has a value
 abbrev pub first_place : List ℕ → ℕ → ℕ
 first_place column value = position_or_len (λ other. other == value) column
 

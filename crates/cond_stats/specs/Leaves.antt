@@ -4,7 +4,7 @@
 use Rattle.std.specs.Prelude.{ℕ, suc, ◌*◌, ◌/◌, ◌==◌, Bool, if◌then◌else◌, List, [], ◌∷◌, map, length, slice_index, find, unwrap_or, Contains}
 use Rattle.std.specs.List.{list_any, range_with_len}
 
--- an ascending list with a value put in its place
+-- an ascending list with one more value, put where it belongs
 abbrev pub put_in_order : (ℕ → ℕ → Bool) → ℕ → List ℕ → List ℕ
 put_in_order at_most value [] = value ∷ []
 put_in_order at_most value (other ∷ others) =
@@ -22,7 +22,7 @@ cuts at_most [] = []
 cuts at_most (value ∷ values) =
     map (λ i. slice_index (in_order at_most (value ∷ values)) (length (value ∷ values) * i / 32)) (range_with_len 0 32)
 
--- the last place whose element passes, or 0 where no element passes
+-- the index of the last element that passes, or 0 if no element passes
 abbrev pub last_place : (ℕ → Bool) → List ℕ → ℕ
 last_place passes [] = 0
 last_place passes (x ∷ xs) = if list_any passes xs then suc (last_place passes xs) else 0

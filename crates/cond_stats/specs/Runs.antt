@@ -1,4 +1,4 @@
--- The runs of a column whose rows stand in the order of their values. A run is the rows of one value.
+-- The runs of a column whose rows are sorted by value. A run is the rows of one value.
 use Rattle.std.specs.Prelude.{ℕ, ◌≡◌, ◌+◌, ◌<◌, ◌≤◌, ◌==◌, ◌*◌, ◌/◌, ◌||◌, not, nat_lt, Bool, List, map, length, All, slice_index, slice_index_or}
 use Rattle.degree_sequences.specs.Degrees.{different}
 use Rattle.cond_stats.specs.declared.groups.Group.{Group}
@@ -7,7 +7,7 @@ use Rattle.cond_stats.specs.Leaves.{leaf_of}
 use Rattle.cond_stats.specs.Order.{AreInValueOrder, AreSorted, numbers_at}
 use Rattle.cond_stats.specs.Windows.{IsWindow}
 
--- the run has all rows of one number. The rows stand in ascending order of their numbers
+-- the run has all rows of one number. The rows are in ascending order of their numbers
 pub record IsRun (numbers places : List ℕ) (run : Group) : Type 0 where
   pub some : 0 < run.count
   pub ends : run.start + run.count ≤ length numbers
@@ -16,18 +16,20 @@ pub record IsRun (numbers places : List ℕ) (run : Group) : Type 0 where
   pub lower : (k : ℕ) → k < run.start → slice_index numbers k < slice_index numbers run.start
   pub higher : (k : ℕ) → run.start + run.count ≤ k → k < length numbers → slice_index numbers run.start < slice_index numbers k
 
--- each number has exactly one run, and the runs stand in the order of their starts
+-- each number has exactly one run, and the runs are in the order of their starts
 pub record AreRunsOfNumbers (numbers places : List ℕ) (runs : List Group) : Type 0 where
   pub each : All (IsRun numbers places) runs
   pub all : map (λ run. slice_index numbers run.start) runs ≡ different numbers
   pub ascend : (i j : ℕ) (none : Group) → i < j → j < length runs → (slice_index_or runs i none).start < (slice_index_or runs j none).start
 
--- `places` has the places of the numbers in ascending order of the numbers. The places of equal numbers ascend. `runs` has the runs of equal numbers
+-- `places` lists the row numbers in ascending order of the rows' numbers. Of rows with equal numbers the earlier row comes first. `runs` has the runs
+-- of equal numbers
 pub record AreSortedInRuns (numbers places : List ℕ) (runs : List Group) : Type 0 where
   pub sorted : AreSorted numbers (numbers_at numbers places) places
   pub runs_are : AreRunsOfNumbers (numbers_at numbers places) places runs
 
--- `places` has the column's places in ascending order of their values. The places of equal values ascend. `runs` has the runs of the values
+-- `places` lists the column's row numbers in ascending order of the rows' values. Of rows with equal values the earlier row comes first. `runs` has
+-- the runs of the values
 pub record AreInRuns (at_most : ℕ → ℕ → Bool) (column places : List ℕ) (runs : List Group) : Type 0 where
   pub numbers : List ℕ
   pub order : AreInValueOrder at_most column numbers places

@@ -1,4 +1,4 @@
--- A filter column in the order of its values.
+-- A filter column whose rows are in the order of its leaves, with the rows of one value together.
 use Rattle.std.specs.Prelude.{ℕ, ◌≡◌, ◌+◌, ◌<◌, ◌≤◌, ◌^◌, Bool, List, length, map, slice_index, slice_range}
 use Rattle.std.specs.List.{range_with_len}
 use Rattle.std.specs.List.Sorted.{IsPermutation}
@@ -7,8 +7,8 @@ use Rattle.cond_stats.specs.declared.groups.Group.{Group}
 use Rattle.cond_stats.specs.Leaves.{cuts}
 use Rattle.cond_stats.specs.Runs.{AreGroups, AreStarts}
 
--- `places` has the places of all rows. Rows of one value stand together (`groups`), and the rows of a leaf stand before those of the next
--- leaf (`starts`). `cuts_of` has the column's cuts
+-- `places` lists the row numbers, each once. Rows of one value are together in this list (`groups`), and the rows of a leaf come before those of the
+-- next leaf (`starts`). `cuts_of` has the column's cuts
 pub record IsSortedColumn (at_most : ℕ → ℕ → Bool) (column places : List ℕ) (groups : List Group) (cuts_of starts : List ℕ) : Type 0 where
   pub rows : length column < 2 ^ 32
   pub moved : IsPermutation (range_with_len 0 (length column)) places
@@ -16,11 +16,11 @@ pub record IsSortedColumn (at_most : ℕ → ℕ → Bool) (column places : List
   pub cuts_are : cuts_of ≡ cuts at_most column
   pub starts_are : AreStarts at_most column places starts
 
--- the joined keys at places
+-- the joined keys of the rows with these row numbers
 abbrev pub keys_at : List ℕ → List ℕ → List ℕ
 keys_at joined places = map (λ place. slice_index joined place) places
 
--- the group ends within the first `rows` places
+-- the group's rows are among the first `rows` elements of `places`
 abbrev pub LiesWithin : ℕ → Group → Type 0
 LiesWithin rows group = group.start + group.count ≤ rows
 

@@ -19,7 +19,7 @@ pub record AreByText (texts : List (List ℕ)) (cells ordered : List ℕ) : Type
   pub ascend : (i j : ℕ) → i ≤ j → j < length ordered
       → text_le texts (slice_index ordered i) (slice_index ordered j) ≡ true
 
--- the place of a cell among the ordered cells, or 0 if it isn't one of them
+-- the index of a cell among the ordered cells, or 0 if it isn't one of them
 abbrev pub number_or_zero : List ℕ → ℕ → ℕ
 number_or_zero ordered cell = unwrap_or (position (nat_eq cell) ordered) 0
 

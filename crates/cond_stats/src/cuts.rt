@@ -1,4 +1,4 @@
-//! The cuts of a column, and where its leaves begin among the rows in order.
+//! The cuts of a column, and where its leaves begin among the sorted rows.
 ghost use Rattle.std.specs.Prelude.{◌≡◌, ℕ, ◌<◌, ◌≤◌, ◌^◌, Bool, List, length, All, IfOk};
 ghost use Rattle.cond_stats.specs.Leaves.{cuts as cuts_of_column};
 ghost use Rattle.cond_stats.specs.Order.{AreInValueOrder};
@@ -8,7 +8,7 @@ use crate::groups::Group;
 use base_io::NoMemory;
 use std::alloc::Global;
 
-/// The cells at which the leaves begin. `places` are the column's places in the order of their values.
+/// The cells at which the leaves begin. `places` are the column's row numbers, sorted by value.
 pub(crate) fn cuts_of(alloc: Global, cells: &[u64], places: &[u32]) -> Result<Vec<u64>, NoMemory>
     requires places { All (λ place. place < length cells.now) places.now }
     requires rows { length places.now < 2 ^ 32 }

@@ -6,7 +6,7 @@ ghost use Rattle.cond_stats.specs.Runs.{AreGroups, AreInRuns, AreRunsOfNumbers, 
 use base_io::NoMemory;
 use std::alloc::Global;
 
-/// The rows of one value. `first` is the first row's place in the column. `start` and `count` say where the rows stand in the order of values.
+/// The rows of one value. `first` is the row number of the first of them. `start` and `count` say where they are among the rows sorted by value.
 #[derive(Clone, Copy, Debug, PartialEq, Eq)]
 pub(crate) struct Group {
     pub first: u32,
@@ -50,7 +50,7 @@ pub(crate) fn runs_of(
     Ok(runs)
 }
 
-// Whether the number at a place is the last of its run.
+// Whether the number at index `i` is the last of its run.
 fn ends_run(numbers: &[u64], i: usize, number: u64) -> bool
     requires { i < length numbers.now }
     ensures { result ≡ ends_run numbers.now i number }

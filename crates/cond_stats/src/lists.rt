@@ -1,4 +1,4 @@
-//! Makes the lists of rows that are given by their places.
+//! Makes the lists of rows that are given by their row numbers, which are called places here.
 ghost use Rattle.std.specs.Prelude.{◌≡◌, ℕ, ◌+◌, ◌<◌, ◌≤◌, ◌==◌, ◌^◌, false, length, map, All, Contains, IfOk, MatchOption, slice_index, slice_range};
 ghost use Rattle.std.specs.List.{list_any};
 ghost use Rattle.degree_sequences.specs.Compression.{compressed};
@@ -18,7 +18,7 @@ use piece_compress::compress;
 use piece_math::Pieces;
 use std::alloc::Global;
 
-/// The list of the rows at some places.
+/// The list of the rows with these row numbers.
 pub(crate) fn list_at(
     alloc: Global,
     joined: &[u64],
@@ -33,7 +33,7 @@ pub(crate) fn list_at(
     whole_list(alloc, keys.as_slice(), accuracy)
 }
 
-/// The places from index `from` on, and before index `to`.
+/// The row numbers from index `from` on, and before index `to`.
 pub(crate) fn stretch(places: &[u32], from: u32, to: u32) -> &[u32]
     requires order { from ≤ to }
     requires within { to ≤ length places.now }
@@ -42,7 +42,7 @@ pub(crate) fn stretch(places: &[u32], from: u32, to: u32) -> &[u32]
     &places[from as usize..to as usize]
 }
 
-// The joined keys of the rows at some places.
+// The joined keys of the rows with these row numbers.
 fn keys_at(alloc: Global, joined: &[u64], places: &[u32]) -> Result<Vec<u64>, NoMemory>
     requires { All (λ place. place < length joined.now) places.now }
     ensures { IfOk result (λ keys. keys.items ≡ keys_at joined.now places.now) }

@@ -31,7 +31,7 @@ fn raise_at(maxima: &mut Vec<u64>, i: usize, degree: u64) -> Result<(), NoMemory
     Ok(())
 }
 
-/// Cuts a falling list so that its running sums are at most `most`.
+/// Cuts a list in descending order so that its running sums are at most `most`.
 pub(crate) fn cut(alloc: Global, falling: &[u64], most: u64) -> Result<Vec<u64>, NoMemory>
     requires { IsFalling falling.now }
     ensures { IfOk result (λ list. list.items ≡ cut_at falling.now most) }

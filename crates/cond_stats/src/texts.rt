@@ -30,7 +30,7 @@ pub(crate) fn text_numbers(
     different_cells(alloc, ordered.as_slice())
 }
 
-// The different cells, in the order in which they were first seen.
+// The different cells, in the order in which they first occur.
 fn different_cells(alloc: Global, cells: &[u64]) -> Result<IndexSet<u64>, NoMemory>
     ensures { IfOk result (λ set. set.keys ≡ different cells.now) }
 {

@@ -1,4 +1,4 @@
--- At the number of a set, the list of counted bounds has this set's bound. So the laws of one set's bound carry over to the list.
+-- The number of a set is the index of its bound in the list of counted bounds. So the laws of one set's bound carry over to the list.
 use Rattle.std.proofs.Common.{◌≡◌, ◌⊎◌, ℕ, ◌^◌, ◌<◌, ◌≤◌, true, List, [], Ok, length, get_or, refl, sym, ◌∙◌, subst, arith, ◌+◌, take}
 use Rattle.std.proofs.lemmas.List.FromFn.{get_or-map-range_with_len}
 use Rattle.limits.specs.Profile.{most_budget, most_entries, top_bound}

@@ -12,7 +12,7 @@ use Rattle.counted_sets.specs.Counts.{supply, item_at, need_at, use_at, AreGone,
 use Rattle.counted_sets.proofs.Chaining.{last_has, last_within, none_after}
 use Rattle.counted_sets.proofs.Supply.{given-supply, place_of, stands_there, supply-given, supply-set, supply_last, supply_one, supply_other}
 
--- ---- the counts fall by one for each use of `item`, along the item's chain
+-- ---- for each use of `item`, along the item's chain, one count is lowered by one
 
 pub record AreTaken (uses : List Use) (item : ℕ) (before counts : List ℕ) (at : ℕ) : Type 0 where
   pub within : at ≤ length uses
@@ -72,7 +72,7 @@ taken_one uses item (suc place) slot next keys lasts befores before counts chain
           ]);
     }
 
--- each link leads to a lower place, so a walk along a chain ends
+-- each link leads to a lower index, so a walk along a chain ends
 pub back_before : (key_of : ℕ → ℕ) (at places next keys : ℕ) (lasts befores : List ℕ) → AreUseChains key_of keys places lasts befores → 0 < at → at ≤ places → next ≡ get_or befores (at - 1) 0 → next < at
 back_before key_of zero places next keys lasts befores chains some within link = absurd (omega arith)
 back_before key_of (suc place) places next keys lasts befores chains some within link =

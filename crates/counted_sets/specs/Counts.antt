@@ -5,7 +5,7 @@ use Rattle.row_buf.specs.Rows.{Rows}
 use Rattle.counted_sets.specs.declared.uses.Use.{Use}
 use Rattle.counted_sets.specs.Sets.{IsConsistent, marked}
 
--- the use at a place
+-- the use at index k
 abbrev pub use_at : List Use → ℕ → Use
 use_at uses k = slice_index_or uses k (record { item = 0; gives = 0; needs = 0 })
 

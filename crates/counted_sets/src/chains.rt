@@ -9,9 +9,8 @@ use base_io::NoMemory;
 use row_buf::RowBuf;
 use std::alloc::Global;
 
-/// `lasts` has for each key the last place with this key. `befores` has for each place the place before it with the same key. In both lists,
-/// places are counted from 1, and 0 means no place. A key is an item or a slot; a place is the index of a use. The chains take 4 bytes for each
-/// key and for each place.
+/// `lasts` has for each key the last use with this key. `befores` has for each use the use before it with the same key. Both lists have uses by their
+/// indexes, counted from 1, and 0 means no use. A key is an item or a slot. The chains take 4 bytes for each key and for each use.
 #[derive(Drop)]
 pub(crate) struct Chains {
     lasts: RowBuf<u32>,
@@ -19,7 +18,7 @@ pub(crate) struct Chains {
 }
 
 impl Chains {
-    // Empty chains with room for this many keys and places.
+    // Empty chains with room for this many keys and uses (`places`).
     fn new(alloc: Global, keys: u32, places: u64) -> Result<Chains, NoMemory>
         ensures chains { IfOk result (λ chains. (key_of : ℕ → ℕ) → AreUseChains key_of keys 0 chains.lasts.items chains.befores.items) }
         ensures spare { IfOk result (λ chains. chains.befores.spare ≡ places) }
@@ -32,7 +31,7 @@ impl Chains {
         Ok(Chains { lasts, befores })
     }
 
-    // Links one more place with this key.
+    // Links one more use with this key.
     fn add(&mut self, key: u32)
         requires key { key < length self.old.lasts.items }
         requires room { 1 ≤ self.old.befores.spare }
@@ -50,7 +49,7 @@ impl Chains {
         self.lasts.set(key, self.befores.len() as u32);
     }
 
-    /// The last place with the key, counted from 1, or 0 if there is no such place.
+    /// The index of the last use with the key, counted from 1, or 0 if there is no such use.
     pub(crate) fn last(&self, key: u32) -> u32
         requires { key < length self.now.lasts.items }
         ensures { result ≡ slice_index self.now.lasts.items key }
@@ -58,7 +57,7 @@ impl Chains {
         self.lasts.get(key)
     }
 
-    /// The last place before `place` with the same key, counted from 1, or 0 if there is no such place. `place` is counted from 0.
+    /// The index of the last use before `place` with the same key, counted from 1, or 0 if there is no such use. `place` is counted from 0.
     pub(crate) fn before(&self, place: u32) -> u32
         requires { place < length self.now.befores.items }
         ensures { result ≡ slice_index self.now.befores.items place }

@@ -44,7 +44,7 @@ pub(crate) fn zeros(alloc: Global, counts: &RowBuf<u32>) -> Result<RowBuf<u32>, 
     Ok(work)
 }
 
-// Lowers the count of a slot by one, and lists the slot if its count is now 0.
+// Lowers the count of a slot by one, and appends the slot to `work` if its count is now 0.
 fn take_one(slot: u32, counts: &mut RowBuf<u32>, work: &mut RowBuf<u32>)
     requires within { slot < length counts.old.items }
     requires some { 0 < slice_index counts.old.items slot }
@@ -60,7 +60,7 @@ fn take_one(slot: u32, counts: &mut RowBuf<u32>, work: &mut RowBuf<u32>)
     }
 }
 
-/// Lowers a slot's count by one for each use of the item that gives the slot.
+/// For each use of the item, lowers the count of the slot that the use gives by one.
 pub(crate) fn take_off(
     uses: &[Use],
     of_item: &Chains,

@@ -4,8 +4,8 @@
 //! stay. An item goes if it needs a slot that no remaining item gives, and this is repeated until nothing changes. In reduced_scans the items
 //! are rows, and a slot is a value on one side of an equality.
 //!
-//! Callers cite `IsGreatest`, over `IsConsistent`. Each item goes at most once and each slot is listed at most once. A use is looked at once
-//! for its item and once for the slot that it needs. So the time is linear in items, slots and uses, whatever the number of rounds. All memory
+//! Callers cite `IsGreatest`, over `IsConsistent`. Each item goes at most once, and each slot is put on the worklist at most once. A use is looked at
+//! once for its item and once for the slot that it needs. So the time is linear in items, slots and uses, whatever the number of rounds. All memory
 //! is taken before the first item goes.
 #![tactic(auto)]
 

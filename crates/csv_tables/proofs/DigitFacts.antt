@@ -13,7 +13,7 @@ use Rattle.csv_tables.specs.Fields.{DigitsSoFar, IsShort}
 use Rattle.csv_tables.specs.Numbers.{decimal_after, greatest_magnitude, is_minus, is_numeral, number_of, signed, size_of, without_sign}
 use Rattle.csv_tables.proofs.NumberFacts.{few_digits, ten_more}
 
--- a digit is a byte of these ten
+-- the byte is one of the ten digits
 pub record IsTen (byte : ℕ) : Type 0 where
   pub low : 48 ≤ byte
   pub high : byte ≤ 57
@@ -46,7 +46,7 @@ digits_more bytes first end size d l e =
       small = rw one (ten_more (end - first) size (get_or bytes end 0 - 48) d.small (omega (arith, ten.high)));
     }
 
--- before another digit the number is small
+-- if fewer than eighteen digits were read, the number is below 10^17
 pub digits_small : (bytes : List ℕ) (first end size : ℕ) → DigitsSoFar bytes first end size → end - first < 18 → size < 10 ^ 17
 digits_small bytes first end size d l = few_digits (end - first) size d.small l
 
@@ -55,7 +55,7 @@ less_than i size small few =
     let positive : 0 < 10 = omega arith in
     omega (arith, small, pow-le-pow_right {n = 10} positive {i = i} {j = 18} few)
 
--- digits up to the end of a field
+-- the digits go up to the end of the field
 pub digits_all : (bytes : List ℕ) (first end size : ℕ) → DigitsSoFar bytes first end size → first_field (drop end bytes) ≡ [] → first < end → end ≤ first + 18
     → IsShort (first_field (drop first bytes)) size
 digits_all bytes first end size d stops some few =
@@ -94,7 +94,7 @@ no_sign (c ∷ cs) e =
     let none : (c == 45 || c == 43) ≡ false = or_from (c == 45) (c == 43) (ne_eqb c 45 (λ same. omega (arith, same, ten.low))) (ne_eqb c 43 (λ same. omega (arith, same, ten.low))) in
     rw none refl
 
--- a number from 0 on
+-- digits without a sign spell a number that isn't negative
 number_short : (digits : List ℕ) (size : ℕ) → IsShort digits size → number_of digits ≡ Some (pos size)
 number_short digits size s =
     let minus : is_minus digits ≡ false = no_minus digits s.digits_are in
@@ -104,7 +104,7 @@ number_short digits size s =
     ∙ ap (λ ds. option_map (signed false) (size_of (greatest_magnitude false) ds)) sign
     ∙ ap (option_map (signed false)) (size_short digits size (greatest_magnitude false) s most)
 
--- a number behind a minus sign
+-- digits behind a minus sign spell a negative number, or 0
 number_negative : (field digits : List ℕ) (size : ℕ) → field ≡ 45 ∷ digits → IsShort digits size → number_of field ≡ Some (neg_ℤ (pos size))
 number_negative field digits size e s =
     let most : 10 ^ 18 ≤ greatest_magnitude true = lit≤ tt in
@@ -125,7 +125,7 @@ pub below_zero_is : (field digits : List ℕ) (size : Option ℕ) → field ≡ 
 below_zero_is field digits None e h = tt
 below_zero_is field digits (Some s) e h = number_negative field digits s e h
 
--- a field begins with a byte that doesn't end it
+-- a field that begins with a minus sign goes on behind this sign
 pub begins_with : (bytes : List ℕ) (start : ℕ) → start < length bytes → get_or bytes start 0 ≡ 45 → first_field (drop start bytes) ≡ 45 ∷ first_field (drop (start + 1) bytes)
 begins_with bytes start l e =
     let goes_on : ends_field (get_or bytes start 0) ≡ false = ap ends_field e in

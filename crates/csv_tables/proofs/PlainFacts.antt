@@ -73,7 +73,7 @@ unquoted_by : (whole rest : List ℕ) (b : Bool) → has_quote whole ≡ false �
 unquoted_by whole rest true h r = r
 unquoted_by whole rest false h r = h
 
--- without a quotation mark there is none behind the mark
+-- if the bytes have no quotation mark, the bytes behind the byte order mark have no quotation mark either
 pub no_quote_behind : (bytes : List ℕ) → has_quote bytes ≡ false → has_quote (strip_bom bytes) ≡ false
 unfolding strip_bom
 no_quote_behind [] h = h
@@ -107,7 +107,7 @@ rest_is bytes start header rest none e h = h header rest (sym (plain_is (strip_b
 
 -- ---- rows
 
--- the record at a place, and those from the next one on
+-- the records from `at` on are the record that begins there, and then the records from `after` on
 pub row_behind : (bytes : List ℕ) (at next after : ℕ) → at < length bytes → ends_line (get_or bytes at 0) ≡ false → IsBehind bytes at next
     → plain_records (drop next bytes) ≡ plain_records (drop after bytes) → plain_records (drop at bytes) ≡ first_record (drop at bytes) ∷ plain_records (drop after bytes)
 row_behind bytes at next after l stands b same =

@@ -61,7 +61,7 @@ fields_more bytes start at place fields field s text f l e within =
 taken_long : (bytes : List ℕ) (place : ℕ) (fields : List Field) → place ≤ length fields → length (record_of bytes (take place fields)) ≡ place
 taken_long bytes place fields l = length-map (take place fields) (text_of bytes) ∙ length-take-le place fields l
 
--- how many fields a record has whose last field begins at `at`
+-- if a record's last field begins at `at`, the record has as many fields as were read, and one more
 pub last_count : (bytes : List ℕ) (start at place : ℕ) (fields : List Field) (field : Field) → FieldsSoFar bytes start at place fields → IsFieldAt bytes at field
     → (field.end < length bytes → is_comma (get_or bytes field.end 0) ≡ false) → place < length fields → length (first_record (drop start bytes)) ≡ place + 1
 last_count bytes start at place fields field s f e within =
@@ -95,7 +95,7 @@ last_field bytes start at place fields field s text f e within last =
 some_field : (bytes : List ℕ) → 0 < length (first_record bytes)
 some_field bytes = rw (split_first is_comma (front ends_line bytes)) (omega arith)
 
--- a record that goes on where the header has no further field
+-- if `place` fields were read and the record goes on, the record has further fields
 pub more_fields : (bytes : List ℕ) (start at place : ℕ) (fields : List Field) → FieldsSoFar bytes start at place fields → place ≤ length fields → place < length (first_record (drop start bytes))
 more_fields bytes start at place fields s inside =
     omega (arith, ap (λ (r : List (List ℕ)). length r) s.read, length-append (record_of bytes (take place fields)) (first_record (drop at bytes)), taken_long bytes place fields inside, some_field (drop at bytes))

@@ -1,4 +1,4 @@
--- The fields of a record in bytes without a quotation mark.
+-- The fields of a record, in bytes without a quotation mark. `start`, `first`, `end` and `next` are byte offsets.
 use Rattle.std.specs.Prelude.{ℕ, ◌≡◌, ◌-◌, ◌^◌, ◌<◌, ◌≤◌, List, drop, length, map, take, All, IfSome, IsUtf8, Some, true}
 use Rattle.std.specs.Str.{all_ascii_digits}
 use Rattle.plain_records.specs.Places.{FieldSoFar, IsField}
@@ -7,7 +7,7 @@ use Rattle.csv_tables.specs.declared.fields.Field.{Field}
 use Rattle.csv_tables.specs.Numbers.{decimal_after, number_of}
 use Rattle.csv_tables.specs.Records.{Record}
 
--- a field whose digits from `first` to `end` spell `size`
+-- a field that was read up to `end`. From `first` on these bytes are digits, and they spell `size`
 pub record DigitsSoFar (bytes : List ℕ) (first end size : ℕ) : Type 0 where
   pub field : FieldSoFar bytes first end
   pub digits : all_ascii_digits (first_field (drop first bytes)) ≡ all_ascii_digits (first_field (drop end bytes))
@@ -21,13 +21,13 @@ pub record IsShort (digits : List ℕ) (size : ℕ) : Type 0 where
   pub spelled : decimal_after 0 digits ≡ size
   pub small : size < 10 ^ 18
 
--- the field that begins at this place
+-- the field that begins at `start`
 pub record IsFieldAt (bytes : List ℕ) (start : ℕ) (field : Field) : Type 0 where
   pub begins : field.start ≡ start
   pub is_field : IsField bytes start field.end
   pub number : IfSome field.number (λ number. number_of (first_field (drop start bytes)) ≡ Some number)
 
--- what stands between the two places of a field
+-- the bytes of a field, from its start to its end
 abbrev pub text_of : List ℕ → Field → List ℕ
 text_of bytes field = take (field.end - field.start) (drop field.start bytes)
 
@@ -42,14 +42,14 @@ pub record IsSpan (bytes : List ℕ) (field : Field) : Type 0 where
 abbrev pub record_of : List ℕ → List Field → Record
 record_of bytes fields = map (text_of bytes) fields
 
--- `next` stands behind the line that begins at `start`
+-- `next` is the offset behind the line that begins at `start`
 pub record IsBehind (bytes : List ℕ) (start next : ℕ) : Type 0 where
   pub rest : drop next bytes ≡ after_line (drop start bytes)
   pub within : next ≤ length bytes
   pub further : start < length bytes → start < next
   pub text : IsUtf8 (drop next bytes)
 
--- the record at a place was read into these fields, and the next line begins at `next`
+-- the record that begins at `start` was read into these fields, and the next line begins at `next`
 pub record ReadsRecord (bytes : List ℕ) (start : ℕ) (fields : List Field) (next : ℕ) : Type 0 where
   pub fields_are : first_record (drop start bytes) ≡ record_of bytes fields
   pub spans : All (IsSpan bytes) fields

@@ -1,4 +1,4 @@
--- Rows that are alike: each row gets as its number the index of the first row that is like it. A place is a row's index.
+-- Rows that are alike: each row gets as its number the index of the first row that is like it.
 use Rattle.std.specs.Prelude.{ℕ, ◌≡◌, ◌<◌, ◌≤◌, ◌+◌, ◌==◌, ◌&&◌, nat_eq, Bool, true, false, if◌then◌else◌, List, [], ◌∷◌, length, slice_index, slice_index_or, Option, None, Some}
 use Rattle.std.specs.List.{list_all}
 use Rattle.csv_tables.specs.declared.types.Repeat.{Repeat}
@@ -6,17 +6,17 @@ use Rattle.csv_tables.specs.declared.types.Repeat.{Repeat}
 abbrev pub same_pair : ℕ × ℕ → ℕ × ℕ → Bool
 same_pair a b = nat_eq a.0 b.0 && nat_eq a.1 b.1
 
--- two places have the same number and the same cell
+-- two rows have the same number and the same cell
 abbrev pub are_alike : List ℕ → List ℕ → ℕ → ℕ → Bool
 are_alike group cells i j = nat_eq (slice_index group i) (slice_index group j) && nat_eq (slice_index cells i) (slice_index cells j)
 
--- `first` is the first place that is like i
+-- `first` is the first row that is like row i
 pub record IsFirst (like : ℕ → ℕ → Bool) (i first : ℕ) : Type 0 where
   pub at_most : first ≤ i
   pub same : like i first ≡ true
   pub least : (j : ℕ) → j < first → like i j ≡ false
 
--- `group` has for each place the first place that is like it
+-- `group` has for each row the index of the first row that is like it
 abbrev pub AreFirsts : (ℕ → ℕ → Bool) → List ℕ → Type 0
 AreFirsts like group = (i : ℕ) → i < length group → IsFirst like i (slice_index group i)
 

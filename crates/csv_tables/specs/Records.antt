@@ -35,7 +35,7 @@ records_in state (Some bytes) = records_from default_config (length bytes + 1) s
 abbrev pub left : Source → List Record
 left reader = records_in (reader_state reader) (unread reader)
 
--- the reader stands between two records, has at most 64 MiB of text left, and gives each field untrimmed
+-- the reader is between two records, has at most 64 MiB of text left, and gives each field untrimmed
 pub record IsReading (reader : Source) : Type 0 where
   pub config : reader_config reader ≡ default_config
   pub trim : reader_trim reader ≡ trim.None

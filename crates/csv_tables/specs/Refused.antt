@@ -3,7 +3,7 @@ use Rattle.std.specs.Prelude.{◌≡◌, Result, Err, ⊤}
 use Rattle.csv_tables.specs.declared.types.TableError.{TableError}
 use Rattle.csv_tables.specs.declared.types.TableError.TheVariants as error
 
--- the error is want of memory, or exactly the refusal that the specification gives
+-- the error is too little memory, or exactly the refusal that the specification gives
 abbrev pub Refuses : {A : Type 0} → Result A TableError → TableError → Type 0
 Refuses stated error.NoMemory = ⊤
 Refuses stated (error.Utf8 at) = stated ≡ Err (error.Utf8 at)

@@ -1,4 +1,4 @@
-//! Reads the fields of a record of bytes without a quotation mark, one after another.
+//! Reads the fields of a record one after another, from bytes without a quotation mark.
 ghost use Rattle.std.specs.Prelude.{◌≡◌, ◌+◌, ◌<◌, ◌≤◌, ◌≢◌, ◌^◌, [], drop, false, length, neg_ℤ, option_map, pos, slice_index, true, IfSome, IsUtf8, MatchOption};
 ghost use Rattle.plain_records.specs.Places.{FieldSoFar, IsField};
 ghost use Rattle.plain_records.specs.Plain.{first_field, first_record, is_comma as stops_comma};
@@ -6,7 +6,7 @@ ghost use Rattle.csv_tables.specs.Fields.{DigitsSoFar, IsFieldAt, IsShort, Reads
 
 use plain_records::{ends_field, field_end};
 
-/// A field by its place in the bytes, and the number that it spells, where it is already known.
+/// A field: the byte offsets of its start and its end, and the number that it spells, if this number is already known.
 #[derive(Clone, Copy)]
 pub(crate) struct Field {
     pub start: usize,
@@ -22,7 +22,7 @@ impl Field {
     };
 }
 
-// Digits that were read: the number that they spell, and the place behind them.
+// Digits that were read: the number that they spell, and the byte offset behind them.
 #[derive(Clone, Copy)]
 struct Digits {
     size: u64,
@@ -32,7 +32,7 @@ struct Digits {
 // At most eighteen digits spell a number below 10^18, so no step has to test for overflow.
 const SHORT: usize = 18;
 
-// At most eighteen digits of a field from a place on.
+// Reads at most eighteen digits of a field, from the offset `first` on.
 #[inline]
 fn read_digits(bytes: &[u8], first: usize) -> Digits
     requires { first ≤ length bytes.now }
@@ -52,7 +52,7 @@ fn read_digits(bytes: &[u8], first: usize) -> Digits
     Digits { size, end }
 }
 
-// Whether a field that goes on at a place is at its end there.
+// Whether a field that was read up to the offset `place` ends there.
 #[inline]
 fn is_at_end(bytes: &[u8], place: usize) -> bool
     ensures { result ≡ true → first_field (drop place bytes.now) ≡ [] }
@@ -67,7 +67,7 @@ struct Sized {
     end: usize,
 }
 
-// A field that goes on at a place. Its number is known if from there on it has at least one and at most eighteen digits, and nothing else.
+// Reads the rest of the field that begins at `start`, from the offset `first` on. The number is known if this rest is one to eighteen digits.
 #[inline]
 fn read_size(bytes: &[u8], start: usize, first: usize) -> Sized
     requires { FieldSoFar bytes.now start first }
@@ -115,7 +115,7 @@ fn below_zero(size: Option<u64>) -> Option<i64>
     }
 }
 
-// Whether a minus sign stands at a place.
+// Whether the byte at this offset is a minus sign.
 #[inline]
 fn is_minus(bytes: &[u8], place: usize) -> bool
     ensures { result ≡ true → (place < length bytes.now) × (slice_index bytes.now place ≡ 45) }
@@ -123,7 +123,7 @@ fn is_minus(bytes: &[u8], place: usize) -> bool
     place < bytes.len() && bytes[place] == b'-'
 }
 
-// The field at a place, and its number if it is a minus sign or none and then at most eighteen digits.
+// Reads the field that begins at `start`. Its number is known if it is one to eighteen digits, with or without a minus sign before them.
 #[inline]
 fn read_number(bytes: &[u8], start: usize) -> Field
     requires { start ≤ length bytes.now }
@@ -146,7 +146,7 @@ fn read_number(bytes: &[u8], start: usize) -> Field
     }
 }
 
-// The field at a place. Its number is read where numbers are expected.
+// Reads the field that begins at `start`. Its number is read only if a number is expected (`is_number`).
 #[inline]
 fn read_field(bytes: &[u8], start: usize, is_number: bool) -> Field
     requires { start ≤ length bytes.now }
@@ -163,7 +163,7 @@ fn read_field(bytes: &[u8], start: usize, is_number: bool) -> Field
     }
 }
 
-// Whether a comma stands at a place.
+// Whether the byte at this offset is a comma.
 #[inline]
 fn is_comma(bytes: &[u8], place: usize) -> bool
     ensures yes { result ≡ true → (place < length bytes.now) × (slice_index bytes.now place ≡ 44) }
@@ -172,7 +172,8 @@ fn is_comma(bytes: &[u8], place: usize) -> bool
     place < bytes.len() && bytes[place] == b','
 }
 
-/// Reads the fields of the record at a place, and answers the place behind it, if it has as many fields as the header.
+/// Reads the fields of the record that begins at `start`, and returns the offset behind the record. The result is `None` if the record has fewer or
+/// more fields than the header.
 pub(crate) fn read_fields(
     bytes: &[u8],
     start: usize,

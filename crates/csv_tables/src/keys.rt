@@ -17,7 +17,7 @@ use schema_types::Table;
 use std::alloc::Global;
 use std::collections::HashMap;
 
-// The place that `seen` has for `pair`. If it has no place for this pair yet, `at` becomes the pair's place.
+// The row index that `seen` has for `pair`. If `seen` doesn't have the pair yet, it gets the pair with the index `at`, which is then the result.
 fn first_of(seen: &mut HashMap<(u32, u64), u32>, pair: (u32, u64), at: u32) -> Result<u32, NoMemory>
     ensures first { IfOk result (λ first. first ≡ unwrap_or (get same_pair seen.old pair) at) }
     ensures kept { IfOk result (λ first. (q : ℕ × ℕ)

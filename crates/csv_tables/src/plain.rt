@@ -1,4 +1,4 @@
-//! The records of a file without a quotation mark as cells.
+//! Reads the records of a file without a quotation mark into cells.
 ghost use Rattle.std.specs.Prelude.{◌≡◌, ◌<◌, ◌≤◌, ◌+◌, ◌^◌, ◌∷◌, [], All, drop, length, List, ℕ, option_map, replicate, slice_index_or, IfErr, IfOk, IfSome, IsUtf8, OnOk};
 ghost use Rattle.limits.specs.Profile.{most_file, most_rows};
 ghost use Rattle.csv.specs.Reading.{strip_bom};
@@ -23,7 +23,7 @@ use plain_records::{line_at, skip_line_ends};
 use schema_types::{Column, Kind};
 use std::alloc::Global;
 
-// How many bytes a byte order mark at the front takes.
+// How many bytes the byte order mark at the front takes, or 0 if there is no such mark.
 fn mark_of(bytes: &[u8]) -> usize
     ensures within { result ≤ length bytes.now }
     ensures rest { drop result bytes.now ≡ strip_bom bytes.now }
@@ -35,7 +35,7 @@ fn mark_of(bytes: &[u8]) -> usize
     }
 }
 
-/// The place behind the line of a file's first record.
+/// The byte offset behind the line of a file's first record, which is the header.
 pub(crate) fn behind_header(bytes: &[u8]) -> usize
     requires { IsUtf8 bytes.now }
     ensures within { result ≤ length bytes.now }
@@ -70,7 +70,7 @@ fn cell_of_span(
     }
 }
 
-// The cell of the value of this kind that the field at a place spells. Each column's place has a field.
+// The cell of the value of this kind that the field at index `place` spells. Past the last field, it is the cell that an empty field spells.
 fn cell_at(
     pool: &mut Pool,
     kind: Kind,
@@ -93,7 +93,7 @@ fn cell_at(
     }
 }
 
-// The cells of the values of a record in its columns.
+// Puts the cells of a record's values into `cells`, one for each column.
 fn read_values(
     columns: &[Column],
     places: &[usize],
@@ -126,7 +126,7 @@ fn read_values(
     Ok(())
 }
 
-// The cells of the row of the record at a place, and the place behind the record.
+// Puts the cells of the row of the record that begins at `start` into `cells`, and returns the byte offset behind the record.
 fn read_record_at(
     columns: &[Column],
     places: &[usize],
@@ -170,7 +170,7 @@ fn read_record_at(
     Ok(next)
 }
 
-// Which fields of a record are numbers, as the columns say.
+// For each field of a record, whether it belongs to a declared column of numbers.
 fn numbers_of(
     alloc: Global,
     columns: &[Column],
@@ -190,7 +190,7 @@ fn numbers_of(
     Ok(numbers)
 }
 
-// As many fields, of which none is read yet.
+// `count` fields that aren't read yet.
 fn no_fields(alloc: Global, count: usize) -> Result<Vec<Field>, NoMemory>
     ensures { IfOk result (λ fields. length fields.items ≡ count) }
 {
@@ -198,7 +198,7 @@ fn no_fields(alloc: Global, count: usize) -> Result<Vec<Field>, NoMemory>
     Ok(fields)
 }
 
-// A column without cells. It has room for so many, if there is so much memory.
+// A column without cells. It has room for `room` cells, if there is enough memory for them.
 fn roomy_column(alloc: Global, room: usize) -> Seq<u64>
     ensures { result ≡ [] }
 {
@@ -208,7 +208,7 @@ fn roomy_column(alloc: Global, room: usize) -> Seq<u64>
     }
 }
 
-// As many columns without cells.
+// `count` columns without cells, each with room for `room` cells, if there is enough memory for them.
 fn roomy_columns(alloc: Global, count: usize, room: usize) -> Result<Vec<Seq<u64>>, NoMemory>
     ensures { IfOk result (λ columns. columns.items ≡ replicate count []) }
 {
@@ -219,7 +219,7 @@ fn roomy_columns(alloc: Global, count: usize, room: usize) -> Result<Vec<Seq<u64
     Ok(columns)
 }
 
-/// The columns of the records from a place on, and how many records they are. Each column has room for so many cells at first.
+/// Reads the records from the byte offset `start` on into columns, and counts the records. At first each column has room for `room` cells.
 pub(crate) fn read_plain_rows(
     alloc: Global,
     bytes: &[u8],

@@ -9,7 +9,7 @@ use indexmap::IndexSet;
 use std::alloc::Global;
 use std::marker::Model;
 
-/// Different texts, numbered from 0 in the order in which they were first seen. Contracts see the
+/// Different texts, numbered from 0 in the order in which they were added. Contracts see the
 /// list of the texts, each as its bytes.
 #[derive(Drop)]
 pub struct Pool {

@@ -9,7 +9,7 @@ use base_io::NoMemory;
 use csv::{ByteRecord, Reader, ReaderBuilder};
 use std::alloc::Global;
 
-/// A reader that stands before a file's first record, the header. It passes over a byte order mark at the front.
+/// A reader whose next record is the file's first one, the header. It passes over a byte order mark at the front.
 pub(crate) fn open_records<'a>(alloc: Global, bytes: &'a [u8]) -> Reader<&'a [u8]>
     requires text { IsUtf8 bytes.now }
     requires few { length bytes.now ≤ most_file }
@@ -22,7 +22,7 @@ pub(crate) fn open_records<'a>(alloc: Global, bytes: &'a [u8]) -> Reader<&'a [u8
         .from_reader(alloc, bytes)
 }
 
-/// Reads the next record into `row`, or answers that there is no further one.
+/// Reads the next record into `row`. The result is false if there is no further record.
 pub(crate) fn next_record(
     reader: &mut Reader<&[u8]>,
     row: &mut ByteRecord,
@@ -34,7 +34,7 @@ pub(crate) fn next_record(
     ensures fields { IfOk result (λ found. found ≡ true → length (fields_of row.new) ≤ 67108865) }
     ensures end { IfOk result (λ found. found ≡ false → left reader.old ≡ []) }
 {
-    // The reader reads bytes in memory and takes records of any width, so it has no error but want of memory.
+    // The reader reads bytes in memory and takes records of any width, so its only error is too little memory.
     let Ok(found) = reader.read_byte_record(row) else {
         return Err(NoMemory);
     };

@@ -171,7 +171,7 @@ fn empty_columns(alloc: Global, count: usize) -> Result<Vec<Seq<u64>>, NoMemory>
     Ok(columns)
 }
 
-/// The columns of the records that are left, and how many records they are.
+/// Reads the remaining records into columns, and counts them.
 pub(crate) fn read_rows(
     alloc: Global,
     reader: &mut Reader<&[u8]>,

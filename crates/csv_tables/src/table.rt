@@ -55,10 +55,11 @@ fn kinds(alloc: Global, columns: &[Column]) -> Result<Seq<Kind>, NoMemory>
     Ok(Seq::from_vec(kinds))
 }
 
-// Files whose header has more fields are read by the crate `csv`, so that little memory is asked for a hostile header.
+// Files whose header has more fields are read by the crate `csv`, so that little memory is reserved for a hostile header.
 const MOST_FIELDS: usize = 4096;
 
-// For how many rows the columns of a file need room, if no byte of it is a quotation mark. A row has at least a byte for each field of the header.
+// For how many rows the columns of a file need room. It is `None` if the file has a quotation mark, or its header too many fields. A row takes at
+// least one byte for each field of the header.
 fn room_of(bytes: &[u8], width: usize) -> Option<usize>
     ensures { IfSome result (λ _. has_quote bytes.now ≡ false) }
 {

@@ -16,7 +16,7 @@ pub struct Cells {
     pub rows: u32,
 }
 
-/// The tables of a query: their texts, their cells, and for each FROM entry the place of its
+/// The tables of a query: their texts, their cells, and for each FROM entry the index of its
 /// table in `cells`.
 #[derive(Drop)]
 pub struct Database {

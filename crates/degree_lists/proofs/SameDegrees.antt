@@ -1,4 +1,4 @@
--- Two lists of keys in which each key has the same degree have the same degree list, whatever their order.
+-- If each key has the same degree in two lists of keys, these have the same degree list, whatever their order.
 use Rattle.std.proofs.Common.{◌≡◌, ℕ, ◌+◌, Bool, true, false, cond, not, ◌||◌, eqb, ltb, List, [], ◌∷◌, map, refl, ap, sym, ◌∙◌, arith, inl, inr}
 use Rattle.std.specs.List.{filter, sum_by, IsDistinct, AllByRecursion}
 use Rattle.std.specs.List.Sorted.{IsPermutation}

@@ -46,7 +46,8 @@ keys_dominated g keys dom B apart below E apart_E =
       dom E apart_E,
     )
 
--- the child's class list is spread over its column: element r is repeated as often as element r of the column says
+-- the child's class list, spread over its column, dominates the weights of the rows. Spread: element r is repeated as often as element r of
+-- the column says
 pub child_dominates : (n : ℕ) (c : ChildLists) (k : ChildKeys) → DominatesChild n c k
     → DominatesWeights (spread c.column c.class) (λ i. cond (ltb i n) (k.weight (get_or k.keys i 0)) 0)
 child_dominates n c k d A apart =

@@ -1,4 +1,4 @@
--- A compressed list falls. Its running sums are at least those of the list, its sum is the list's sum, and its elements are near the list's elements.
+-- A compressed list is in descending order. Its running sums are at least those of the list, its sum is the same, and its elements are near.
 use Rattle.std.proofs.Common.{List, [], ap, arith, get_or, inl, inr, length, ltb, min, suc, sum, sym, zero, zero-add, ℕ, ◌*◌, ◌+◌, ◌-◌, ◌<◌, ◌∷◌, ◌≡◌, ◌≤◌}
 use Rattle.std.proofs.Math.Nat.{mul-le-mul_left, mul-zero}
 use Rattle.std.proofs.lemmas.Bool.{cases_lt, cond_both, ltb-false, ltb-true}

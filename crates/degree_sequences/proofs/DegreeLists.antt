@@ -1,4 +1,4 @@
--- A degree list sums to the number of places in its list of keys, and dominates the keys.
+-- A degree list sums to the length of its list of keys, and dominates the keys.
 use Rattle.std.proofs.Common.{List, arith, length, map, sum, true, ℕ, ◌≡◌, ◌≤◌}
 use Rattle.std.proofs.lemmas.List.Sums.{sum-map}
 use Rattle.std.specs.List.{count_by}

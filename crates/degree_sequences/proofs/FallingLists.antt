@@ -1,4 +1,4 @@
--- These lemmas are about the elements and the running sums of falling lists.
+-- The elements and the running sums of lists in descending order.
 use Rattle.std.proofs.Common.{List, [], arith, drop, get_or, inl, inr, refl, suc, zero, ℕ, ◌+◌, ◌<◌, ◌∷◌, ◌≡◌, ◌≤◌}
 use Rattle.std.proofs.lemmas.Bool.{cases_lt}
 use Rattle.std.specs.List.{AllByRecursion}

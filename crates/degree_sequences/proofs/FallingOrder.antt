@@ -1,4 +1,4 @@
--- `in_falling_order` puts numbers in falling order. The lemmas are about the sum and the running sums of the result.
+-- `in_falling_order` sorts numbers in descending order. The lemmas are about the sum and the running sums of the result.
 use Rattle.std.proofs.Common.{Bool, List, [], arith, cond, false, get_or, leb, map, refl, suc, sum, true, zero, zero-add, ℕ, ◌+◌, ◌∷◌, ◌≡◌, ◌≤◌}
 use Rattle.std.proofs.lemmas.Bool.{cond_both, leb-false, leb-true}
 use Rattle.std.proofs.lemmas.List.Sums.{sum_by-cons}

@@ -41,7 +41,7 @@ growth k (suc n) =
     turned : (a h : ℕ) → (a + 1) * (a * h) ≡ a * (h * (a + 1))
     turned a h = swap (a + 1) a h ∙ ap (λ z. a * z) (mul_comm (a + 1) h)
 
--- so k further heads at least halve a head
+-- so after k further heads the head is at most half of what it was
 pub halves : (k : ℕ) → 0 < k → 2 * k ^ k ≤ (k + 1) ^ k
 halves k pos = elim (cases_lt ((k + 1) ^ k) (2 * k ^ k)) [
   | inr enough ↦ enough
@@ -55,7 +55,7 @@ halves k pos = elim (cases_lt ((k + 1) ^ k) (2 * k ^ k)) [
     double : (x : ℕ) → 2 * x ≡ x + x
     double x = omega arith
 
--- so k * d further heads divide a head by 2^d or more
+-- so after k * d further heads it is at most what it was, divided by 2^d
 pub digits_suffice : (k : ℕ) → 0 < k → (d : ℕ) → 2 ^ d * k ^ (k * d) ≤ (k + 1) ^ (k * d)
 digits_suffice k pos zero = rw (mul-zero k, pow-zero k, pow-zero (k + 1), pow-zero 2) (omega arith)
 digits_suffice k pos (suc d) =

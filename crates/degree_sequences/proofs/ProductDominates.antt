@@ -1,5 +1,5 @@
--- If two lists dominate two weights, their rank-wise product dominates the product of the weights. For the proof, keys are ordered by one weight,
--- and sums by parts are compared twice.
+-- If two lists dominate two weights, their rank-wise product dominates the product of the weights. The proof orders the keys by one weight,
+-- and uses summation by parts twice.
 use Rattle.std.proofs.Common.{List, [], ap, arith, cond, eqb, false, get_or, leb, length, length-take, map, refl, suc, sym, take, true, zero, ℕ, ◌*◌, ◌+◌, ◌∙◌, ◌∷◌, ◌≡◌, ◌≤◌}
 use Rattle.std.proofs.Math.Nat.{mul_comm}
 use Rattle.std.proofs.lemmas.Bool.{cond_both, eqb-false, ne_eqb}
@@ -20,7 +20,7 @@ abbrev pub put_by : (ℕ → ℕ) → ℕ → List ℕ → List ℕ
 put_by w a [] = a ∷ []
 put_by w a (b ∷ bs) = cond (leb (w b) (w a)) (a ∷ (b ∷ bs)) (b ∷ put_by w a bs)
 
--- `by_weight` puts keys in the order of falling weight
+-- `by_weight` sorts keys by weight, the greatest first
 abbrev pub by_weight : (ℕ → ℕ) → List ℕ → List ℕ
 by_weight w [] = []
 by_weight w (a ∷ A) = put_by w a (by_weight w A)

@@ -65,7 +65,7 @@ IsFalling-composed g cs fall ok = IsFalling-from_sums (composed g cs) (λ r.
       window u (IsFalling-spreads (sum g) (sum g) cs ok) (running_sum g r) (running_sum g (suc r)) (get_or g r 0) (get_or g (suc r) 0) (running_sum-mono g r (suc r) (omega arith)) (fall r),
     ))
 
--- of the columns, only those of the smaller lists need to fall
+-- only the columns of the lower lists (`ds`) have to be in descending order
 pub spreads-above : (total total' : ℕ) → total' ≤ total → (cs ds : List ChildLists) → AllByRecursion (IsChildOf total) cs → AllByRecursion (IsChildOf total') ds
     → AllByRecursion ColumnFalls ds → AllZip ChildIsAbove cs ds → IsAbove (spreads cs total) (spreads ds total')
 spreads-above total total' h [] [] ok ok' fall all = λ r. omega (arith, running_sum-ones total r, running_sum-ones total' r)

@@ -41,7 +41,7 @@ running_sum-le-sum (x ∷ s) (suc r) = omega (arith, running_sum-le-sum s r, sum
 pub sum-above : (s t : List ℕ) → IsAbove s t → sum t ≤ sum s
 sum-above s t above = omega (arith, running_sum-whole t, above (length t), running_sum-le-sum s (length t))
 
--- `onto` leaves out zeros alone, so running sums stay the same
+-- `onto` leaves out only zeros at the end, so running sums stay the same
 pub running_sum-onto : (x : ℕ) (s : List ℕ) (r : ℕ) → running_sum (onto x s) r ≡ running_sum (x ∷ s) r
 running_sum-onto zero [] zero = refl
 running_sum-onto zero [] (suc r) = omega (arith, running_sum-nil r)

@@ -51,7 +51,7 @@ rank_product-near b c d e s t s' t' ft fs' near_s near_t r =
       running_sum-scale (b * d) (rank_product s' t') r,
     )
 
--- each element is repeated c times. So lists that are spread over different numbers of rows can be compared
+-- each element repeated c times. By this, lists that are spread over different numbers of rows can be compared
 abbrev pub stretched : ℕ → List ℕ → List ℕ
 stretched c [] = []
 stretched c (x ∷ u) = replicate c x ++ stretched c u

@@ -22,7 +22,7 @@ sum_below-list s zero = refl
 sum_below-list [] (suc n) = rw zero-add (sum_below-zero n)
 sum_below-list (x ∷ s) (suc n) = ap (λ k. x + k) (sum_below-list s n)
 
--- this is summation by parts: if sums of b aren't above sums of c, this stays true when both are weighted by a function that falls
+-- summation by parts: if sums of b are at most sums of c (plus d), this stays true when both are weighted by a non-increasing function
 pub sum_below-mul-le : (n : ℕ) (a b c : ℕ → ℕ) (d : ℕ) → ((r : ℕ) → a (suc r) ≤ a r) → ((r : ℕ) → r ≤ n → sum_below b r ≤ d + sum_below c r)
     → sum_below (λ r. a r * b r) n ≤ a 0 * d + sum_below (λ r. a r * c r) n
 sum_below-mul-le zero a b c d fall le = omega arith

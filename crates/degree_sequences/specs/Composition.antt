@@ -10,7 +10,7 @@ pub record ChildLists : Type 0 where
   pub column : List ℕ
   pub class : List ℕ
 
--- the weight of row t, counted from 1: the product over the children of the class weight at the row's rank in the child's column
+-- the weight of row t (counted from 1): the product, over the children, of the child's class weight at the row's rank in its column
 abbrev pub weight_by_rank : List ChildLists → ℕ → ℕ
 weight_by_rank [] t = 1
 weight_by_rank (child ∷ children) t = slice_index child.class (rank child.column t - 1) * weight_by_rank children t
@@ -28,6 +28,6 @@ block_sums (count ∷ g) weights = running_sum weights count ∷ block_sums g (d
 abbrev pub composed : List ℕ → List ChildLists → List ℕ
 composed parent children = trimmed (block_sums parent (row_weights children (sum parent)))
 
--- the sum of the weights of `rows` rows, for a table without a parent
+-- for a table without a parent: the sum of the weights of the rows 1 to `rows`
 abbrev pub root_total : List ChildLists → ℕ → ℕ
 root_total children rows = sum (row_weights children rows)

@@ -1,5 +1,6 @@
--- Compression by heads: a list of few runs that stays near a falling list, with the same sum.
--- At accuracy K it exceeds the list by at most one K-th at each rank.
+-- Compression by heads: a list of few runs that stays near a list in descending order and has the same sum.
+-- At accuracy K it exceeds the list by at most one K-th at each rank. A head is used for all elements that follow it, up to
+-- the first one below K / (K + 1) of it: this element is the next head.
 use Rattle.std.specs.Prelude.{ℕ, zero, suc, ◌+◌, ◌-◌, ◌*◌, min, nat_lt, if◌then◌else◌, List, [], ◌∷◌, length, slice_index}
 use Rattle.std.specs.List.{sum}
 use Rattle.degree_sequences.specs.Rank.{rank}
@@ -8,7 +9,7 @@ use Rattle.degree_sequences.specs.Rank.{rank}
 abbrev pub next_head : ℕ → ℕ → ℕ → ℕ
 next_head accuracy head x = if nat_lt ((accuracy + 1) * x) (accuracy * head) then x else head
 
--- the head in force at each element
+-- the head that is used for each element
 abbrev pub heads_from : ℕ → ℕ → List ℕ → List ℕ
 heads_from accuracy head [] = []
 heads_from accuracy head (x ∷ s) = next_head accuracy head x ∷ heads_from accuracy (next_head accuracy head x) s

@@ -1,22 +1,22 @@
--- How often keys stand in a list of keys.
+-- How often keys occur in a list of keys.
 use Rattle.std.specs.Prelude.{ℕ, ◌==◌, nat_le, not, if◌then◌else◌, List, [], ◌∷◌, map}
 use Rattle.std.specs.List.{count_by, filter}
 
--- the degree of a key: how often it stands in the list
+-- the degree of a key: how often it occurs in the list
 abbrev pub degree : List ℕ → ℕ → ℕ
 degree keys a = count_by (λ key. key == a) keys
 
--- the different keys, in the order of their first places
+-- the different keys, in the order of their first occurrences
 abbrev pub different : List ℕ → List ℕ
 different [] = []
 different (key ∷ keys) = key ∷ filter (λ other. not (other == key)) (different keys)
 
--- the falling list with n put in its place
+-- a list in descending order with n inserted, so that it stays in this order
 abbrev pub put_in : ℕ → List ℕ → List ℕ
 put_in n [] = n ∷ []
 put_in n (m ∷ ms) = if nat_le m n then n ∷ (m ∷ ms) else (m ∷ put_in n ms)
 
--- the numbers in falling order
+-- the numbers in descending order
 abbrev pub in_falling_order : List ℕ → List ℕ
 in_falling_order [] = []
 in_falling_order (n ∷ ns) = put_in n (in_falling_order ns)

@@ -3,7 +3,7 @@ use Rattle.std.specs.Prelude.{ℕ, ◌≤◌, ◌==◌, List, length}
 use Rattle.std.specs.List.{sum_by, count_by, list_any, IsDistinct}
 use Rattle.degree_sequences.specs.RunningSums.{running_sum}
 
--- for any r different keys, the number of places of `keys` that have one of these keys is at most the sum of the first r elements of s
+-- any r different keys occur in `keys`, all together, at most as often as the first r elements of s sum to
 abbrev pub DominatesKeys : List ℕ → List ℕ → Type 0
 DominatesKeys s keys = (picked : List ℕ) → IsDistinct ◌==◌ picked
     → count_by (λ key. list_any (λ a. key == a) picked) keys ≤ running_sum s (length picked)

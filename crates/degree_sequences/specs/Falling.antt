@@ -1,4 +1,4 @@
--- Falling lists of whole numbers of any size. Ranks count from 1, and past its end a list is 0.
+-- Natural numbers in descending order; neighbours may be equal. Ranks count from 1, and past its end a list is 0.
 use Rattle.std.specs.Prelude.{ℕ, zero, suc, ◌≤◌, List, [], ◌∷◌, slice_index}
 
 -- each element is at most the element before it

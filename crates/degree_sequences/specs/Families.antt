@@ -5,16 +5,16 @@ use Rattle.degree_sequences.specs.Falling.{IsFalling}
 use Rattle.degree_sequences.specs.RunningSums.{running_sum, IsAbove}
 use Rattle.degree_sequences.specs.Composition.{ChildLists}
 
--- a child of a table with `total` rows: its class list falls, and its column sums to `total`
+-- a child of a table with `total` rows: its class list is in descending order, and its column sums to `total`
 pub record IsChildOf (total : ℕ) (child : ChildLists) : Type 0 where
   pub class_falls : IsFalling child.class
   pub column_sum : sum child.column ≡ total
 
--- the column of a child falls
+-- the column of a child is in descending order
 abbrev pub ColumnFalls : ChildLists → Type 0
 ColumnFalls child = IsFalling child.column
 
--- both lists of a child are above the lists of the other child
+-- each of the child's two lists is above (`IsAbove`) the same list of the other child
 pub record ChildIsAbove (child other : ChildLists) : Type 0 where
   pub column : IsAbove child.column other.column
   pub class : IsAbove child.class other.class
@@ -23,7 +23,7 @@ pub record ChildIsAbove (child other : ChildLists) : Type 0 where
 abbrev pub SumsAreWithin : ℕ → ℕ → List ℕ → List ℕ → Type 0
 SumsAreWithin scale factor s t = (r : ℕ) → scale * running_sum s r ≤ factor * running_sum t r
 
--- a child and the exact child that it is near. Their class lists are near by the numbers `scale` and `factor` (`SumsAreWithin`)
+-- a child and the exact child that it approximates. `scale` and `factor` say how near their class lists are (`SumsAreWithin`)
 pub record MatchedChild : Type 0 where
   pub near : ChildLists
   pub exact : ChildLists

@@ -10,7 +10,7 @@ pub record ChildKeys : Type 0 where
   pub keys : List ℕ
   pub weight : ℕ → ℕ
 
--- the lists of a child dominate its keys and their class weights; its class list falls, and each row has a key
+-- the lists of a child dominate its keys and their class weights; its class list is in descending order, and each row has a key
 pub record DominatesChild (rows : ℕ) (lists : ChildLists) (child : ChildKeys) : Type 0 where
   pub column : DominatesKeys lists.column child.keys
   pub class : DominatesWeights lists.class child.weight

@@ -1,5 +1,4 @@
--- The rank of a row. A list's first element is the number of the rows of rank 1, its second element is the number of the rows of rank 2, and so
--- on.
+-- The rank of a row. A list's first element says how many rows have rank 1, its second how many have rank 2, and so on.
 use Rattle.std.specs.Prelude.{ℕ, suc, ◌-◌, nat_le, if◌then◌else◌, List, [], ◌∷◌}
 
 -- the rank of row t: the first rank at which the running sum reaches t. If t is above the list's sum, it is the length of the list

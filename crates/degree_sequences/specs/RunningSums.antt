@@ -13,14 +13,14 @@ running_sum (x ∷ s) (suc r) = x + running_sum s r
 abbrev pub IsAbove : List ℕ → List ℕ → Type 0
 IsAbove s t = (r : ℕ) → running_sum t r ≤ running_sum s r
 
--- the list of n elements whose running sums are `sums 1`, `sums 2` and so on, if `sums` begins with 0 and never falls
+-- the list of n elements whose running sums are `sums 1`, `sums 2` and so on, if `sums 0` is 0 and `sums` never decreases
 abbrev pub with_running_sums : (ℕ → ℕ) → ℕ → List ℕ
 with_running_sums sums n = map (λ r. sums (suc r) - sums r) (range_with_len 0 n)
 
--- the list whose running sums are the minima of the running sums of s and t
+-- the list whose running sum at each rank is the lesser of the running sums of s and t
 abbrev pub lesser : List ℕ → List ℕ → List ℕ
 lesser s t = trimmed (with_running_sums (λ r. min (running_sum s r) (running_sum t r)) (max (length s) (length t)))
 
--- the list whose running sums are the minima of n and the running sums of s
+-- the list whose running sums are those of s, but at most n
 abbrev pub cut_at : List ℕ → ℕ → List ℕ
 cut_at s n = trimmed (with_running_sums (λ r. min (running_sum s r) n) (length s))

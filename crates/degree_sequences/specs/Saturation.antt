@@ -1,4 +1,4 @@
--- Numbers as 128 bits hold them.
+-- Numbers that saturate at 128 bits.
 use Rattle.std.specs.Prelude.{ℕ, ◌-◌, ◌^◌, min}
 
 -- n, or the largest number of 128 bits if n is larger

@@ -1,4 +1,4 @@
-//! Each definition, computed for small lists.
+//! What the definitions give for small lists.
 ghost use Rattle.std.specs.Prelude.{◌≡◌, ◌-◌, ◌^◌, ◌∷◌, [], map};
 ghost use Rattle.degree_sequences.specs.ByRank.{rank_product, rank_sum, rank_maximum};
 ghost use Rattle.degree_sequences.specs.Composition.{ChildLists, row_weights, composed, root_total};
@@ -20,7 +20,7 @@ pub fn compression()
     ensures two_and_three_ones_finer { compressed 3 (2 ∷ 1 ∷ 1 ∷ 1 ∷ []) ≡ 2 ∷ 1 ∷ 1 ∷ 1 ∷ [] }
 {}
 
-/// Two lists rank by rank, and by their running sums.
+/// Operations rank by rank, and operations on running sums.
 pub fn by_rank()
     ensures product { rank_product (2 ∷ 1 ∷ []) (3 ∷ 1 ∷ 1 ∷ []) ≡ 6 ∷ 1 ∷ [] }
     ensures saturates { map saturated (rank_product (2 ^ 127 ∷ []) (2 ∷ [])) ≡ (2 ^ 128 - 1) ∷ [] }
@@ -30,7 +30,7 @@ pub fn by_rank()
     ensures cut { cut_at (5 ∷ 4 ∷ []) 7 ≡ 5 ∷ 2 ∷ [] }
 {}
 
-/// A parent list with one child, and a root with one child.
+/// The composition of a parent list with one child, and the total of a root with one child.
 pub fn composition()
     ensures weights { row_weights (record { column = 2 ∷ 2 ∷ 2 ∷ []; class = 4 ∷ 1 ∷ [] } ∷ []) 6 ≡ 4 ∷ 4 ∷ 1 ∷ 1 ∷ 0 ∷ 0 ∷ [] }
     ensures blocks { composed (3 ∷ 3 ∷ []) (record { column = 2 ∷ 2 ∷ 2 ∷ []; class = 4 ∷ 1 ∷ [] } ∷ []) ≡ 9 ∷ 1 ∷ [] }

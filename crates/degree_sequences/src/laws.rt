@@ -14,9 +14,9 @@ ghost use Rattle.degree_sequences.specs.RunningSums.{running_sum, lesser, cut_at
 ghost use Rattle.degree_sequences.specs.Runs.{runs};
 ghost use Rattle.degree_sequences.specs.Saturation.{saturated};
 
-/// A degree list has the degrees of the different keys in falling order, and dominates the keys. A
-/// list that dominates keys also dominates their degrees as weights, and the other way round
-/// (SafeBound, SIGMOD 2023).
+/// A degree list has the degrees of the different keys in descending order, and dominates the keys.
+/// A list that dominates keys also dominates their degrees as weights, and conversely (SafeBound,
+/// SIGMOD 2023).
 pub fn degree_lists()
     ensures different { (keys : List ℕ) → IsDistinct ◌==◌ (different keys) }
     ensures rearranged { (keys : List ℕ) → IsPermutation (map (degree keys) (different keys)) (degree_list keys) }
@@ -35,7 +35,7 @@ pub fn ranks()
 {}
 
 /// The running sums of `lesser` and `cut_at`, and the elements of the rank-wise operations. Each
-/// result falls if its lists fall.
+/// result is in descending order if the lists that it is made of are.
 pub fn operations()
     ensures lesser { (s t : List ℕ) (r : ℕ) → running_sum (lesser s t) r ≡ min (running_sum s r) (running_sum t r) }
     ensures cut { (s : List ℕ) (n r : ℕ) → running_sum (cut_at s n) r ≡ min (running_sum s r) n }
@@ -50,8 +50,8 @@ pub fn operations()
     ensures maximum_falls { (s t : List ℕ) → IsFalling s → IsFalling t → IsFalling (rank_maximum s t) }
 {}
 
-/// A compressed list is above its list, has its sum, stays near it and has few runs. Compression by heads and its
-/// accuracy are this project's own.
+/// A compressed list has the same sum as its list, running sums that are no lower, elements that are at most a little
+/// higher, and few runs. Compression by heads and its accuracy are this project's own.
 pub fn compressions()
     // each element is the slope at the sum of the elements before it, or the rest of f's sum if the rest is less
     ensures element { (accuracy : ℕ) (f : List ℕ) (r : ℕ) → r < length (compressed accuracy f)

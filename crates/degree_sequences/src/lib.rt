@@ -1,7 +1,7 @@
-//! Falling lists of degrees: what a degree list is, when a list dominates keys, and how such lists are combined.
+//! Degree lists (frequencies in descending order): what they are, when a list dominates keys, and how lists are combined.
 //!
-//! The bounds of a query rest on these definitions. Statistics are compressed lists of degrees. A
-//! bound is made from them by products rank by rank and by composition along a tree of joins. Degree
+//! The bounds of a query rest on these definitions. Statistics are compressed degree lists. A bound
+//! is computed from them by rank-wise products and by composition along a join tree. Degree
 //! lists and domination are those of SafeBound (SIGMOD 2023). Products and composition are those of
 //! Degree Sequence Bound (ICDT 2023). Compression by heads is this project's own. Nothing here runs:
 //! the crate has definitions, their lemmas, and two modules of laws and examples, each the contract

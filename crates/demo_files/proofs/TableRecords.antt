@@ -1,4 +1,4 @@
--- The records of the tables consist of names and numerals. These stand in a file as they are, without quotes, so each file is read back as its records.
+-- The fields of the records are names and numerals. A file has them as they are, without quotes, so it is read back as its records.
 use Rattle.std.proofs.Common.{◌≡◌, inl, inr, ℕ, suc, zero, ◌+◌, ◌*◌, ◌%◌, ◌^◌, ◌<◌, List, [], ◌∷◌, length, map, decimal, refl, sym, subst, arith, rules}
 use Rattle.std.specs.Prelude.{◌==◌}
 use Rattle.std.specs.Fmt.{digits}

@@ -19,7 +19,7 @@ fn add_file(
 }
 
 /// The shop with this number: `schema.sql`, `query.sql`, and the files of its four tables, about 8
-/// MB in all. No read of these files fails. `NoMemory` means that there was too little memory.
+/// MB in all. No read of these files fails.
 pub fn demo_store(alloc: Global, number: u32) -> Result<MemStore, NoMemory>
     ensures files { IfOk result (λ store. store.files ≡ demo_files number) }
     ensures fail_at { IfOk result (λ store. store.fail_at ≡ []) }

@@ -1,4 +1,4 @@
-//! The files of the tables: a header, and then the records. The bytes are made in place.
+//! The files of the tables: a header, and then the records. Each record is written directly into the file's bytes.
 ghost use Rattle.std.specs.Prelude.{◌≡◌, IfOk};
 ghost use Rattle.demo_files.specs.Files.{customer_records, file_text, item_records, order_records, product_records};
 

@@ -14,7 +14,7 @@ numbers_table name columns keys = record {
   references = [];
 }
 
--- the first column alone is a key
+-- one key: the first column
 abbrev pub by_id : List (List ℕ)
 by_id = (0 ∷ []) ∷ []
 

@@ -2,7 +2,7 @@
 use Rattle.std.specs.Prelude.{ℕ, Bool, not, ◌&&◌, ◌==◌, List, [], ◌∷◌}
 use Rattle.std.specs.List.{list_all, list_any}
 
--- each named entry is one of the placed entries
+-- each entry of the list `named` is in the list `placed`
 abbrev pub are_within : List ℕ → List ℕ → Bool
 are_within named placed = list_all (λ entry. list_any (λ e. entry == e) placed) named
 

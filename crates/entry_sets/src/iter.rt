@@ -4,7 +4,7 @@ ghost use Rattle.entry_sets.specs.Sets.{entries_from, entries_of_set};
 use crate::EntrySet;
 use std::marker::Model;
 
-/// The entries of a set that are still to be given, in FROM order: those from `next` on.
+/// An iterator over a set's entries in FROM order: it still has to yield those from `next` on.
 #[derive(Drop)]
 pub struct Entries {
     set: EntrySet,

@@ -6,7 +6,7 @@ ghost use Rattle.std.specs.List.Sorted.{IsStrictlyIncreasing};
 ghost use Rattle.entry_sets.specs.Naming.{are_just, are_within};
 ghost use Rattle.entry_sets.specs.Sets.{entries_of_set, has_entry, set_of};
 
-/// The list of a set has its entries, and they ascend.
+/// The list of a set's entries has exactly these entries, in ascending order.
 pub fn a_set_has_its_entries()
     ensures has { (set entry : ℕ) → Contains (entries_of_set set) entry ↔ (has_entry set entry ≡ true) }
     ensures bits { (set entry : ℕ) → Contains (entries_of_set set) entry ↔ ((entry < 16) × (bit_at set entry ≡ 1)) }

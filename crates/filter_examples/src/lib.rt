@@ -10,7 +10,7 @@ ghost use Rattle.query_types.specs.declared.types.Cond.{And, Compare, Not, Or};
 ghost use Rattle.filtered_lists.specs.Examples.{column_x, list_where, range_x, value, x_is};
 ghost use Rattle.filter_examples.specs.Columns.{lists_of};
 
-/// Columns that join and filter.
+/// Filters over a column that is the joined column too.
 pub fn small_columns()
     // X = 99 over 1 to 40: a value that is in no row has the rest list; eight values aren't frequent
     ensures absent_among_forty { list_where (lists_of (range_with_len 1 40)) (x_is op.Eq 99) ≡ 1 ∷ [] }

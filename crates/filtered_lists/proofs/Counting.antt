@@ -1,4 +1,4 @@
--- These lemmas count the rows of an entry that pass tests, and the rows that the entry's own conjuncts leave.
+-- These lemmas count the rows of an entry that pass tests, and those that pass the entry's own conjuncts.
 use Rattle.std.proofs.Common.{◌≡◌, ℕ, ◌+◌, ◌≤◌, Bool, true, false, not, ◌&&◌, ◌||◌, eqb, cond, List, [], ◌∷◌, map, length, refl, ap, sym, ◌∙◌, subst, inl, inr, arith}
 use Rattle.std.specs.List.{AllByRecursion, count_by, filter, list_all, list_any, range_with_len, sum}
 use Rattle.std.proofs.lemmas.Bool.{cases_Bool, eqb-true, and_parts, and_from, or_cases, false≢true}
@@ -84,7 +84,7 @@ implied : (b c : Bool) → b ≡ true → (not b || c) ≡ true → c ≡ true
 implied b c h k = rw h at k
 
 module _ (tables : Tables) (entry : ℕ) where
-  -- the entry's own conjuncts leave this row
+  -- the row passes the entry's own conjuncts
   abbrev leaves : List Cond → ℕ → Bool
   leaves conjuncts row = list_all (λ c. not (levels.names_just c entry) || c.holds (λ e. row)) (map (conjunct_of tables) conjuncts)
 

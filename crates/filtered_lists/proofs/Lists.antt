@@ -58,7 +58,7 @@ sum-filtered lists counts entry conjuncts h =
       either = λ s t m n e f. sum-rank_sum s t ∙ omega (arith, e, f);
     }) entry conjuncts
 
--- ---- falling lists
+-- ---- lists in descending order
 
 pub filtered_falls : (lists : ColumnLists) (entry : ℕ) (conjuncts : List Cond) → ListsFall lists → IsFalling (filtered_list lists entry conjuncts)
 filtered_falls lists entry conjuncts h =

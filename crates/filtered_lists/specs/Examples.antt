@@ -46,7 +46,7 @@ range_x low high = record { column = 0; low = low; high = high }
 abbrev pub range_y : Option Value → Option Value → Range
 range_y low high = record { column = 1; low = low; high = high }
 
--- ---- R(X) with the rows 1, 1, 1, 2, 2, 3, joined by X
+-- ---- R(X) with the rows 1, 1, 1, 2, 2, 3, joined on X
 
 -- the leaf of a number: the leaves of 1, 2 and 3 are 15, 26 and 31
 abbrev pub leaf : Value → ℕ
@@ -67,7 +67,7 @@ abbrev pub list_of_value : Value → List ℕ
 list_of_value (Int n) = if is_lt (int_cmp n (pos 2)) then 3 ∷ [] else (if is_lt (int_cmp n (pos 3)) then 2 ∷ [] else 1 ∷ [])
 list_of_value (Text t) = []
 
--- the list of the least node that holds both leaves: of leaves 0 to 15, of the last leaf, or of all leaves
+-- the list of the smallest node that has both leaves: of leaves 0 to 15, of the last leaf, or of all leaves
 abbrev pub list_of_leaves : ℕ → ℕ → List ℕ
 list_of_leaves low high = if nat_le high 15 then 3 ∷ [] else (if nat_le 31 low then 1 ∷ [] else 3 ∷ (3 ∷ []))
 

@@ -78,8 +78,8 @@ abbrev pub of_comparison_or_whole : {A : Type 0} → ComparisonAnswers A → Opt
 of_comparison_or_whole answers None = of_answer answers.whole
 of_comparison_or_whole answers (Some c) = of_comparison answers c.op c.column c.literal
 
--- NOT is pushed down: `false` asks for the opposite of a condition. It
--- turns AND into OR, OR into AND, and each comparison into its opposite
+-- NOT is pushed down: `false` asks for the opposite of a condition. Then
+-- AND becomes OR, OR becomes AND, and each comparison becomes its opposite
 abbrev pub conjunction_step : {A : Type 0} → ComparisonAnswers A → Cond-F (Bool → Conjunction A) → Bool → Conjunction A
 conjunction_step answers (layer.And all) true = one_conjunction (map (λ member. member true) all)
 conjunction_step answers (layer.And all) false = of_answer (or_answer answers (map (λ member. member false) all))

@@ -1,4 +1,4 @@
--- When statistics stand for an entry's table, so that nothing in them is too low; and which rows the entry's own conjuncts leave.
+-- When statistics stand for an entry's table, so that nothing in them is too low; and which rows pass the entry's own conjuncts.
 use Rattle.std.specs.Prelude.{◌≡◌, ◌≤◌, ℕ, Bool, true, ◌&&◌, List, map, length, Option, None, Some}
 use Rattle.std.specs.List.{filter, range_with_len, sum}
 use Rattle.std.specs.Ordering.{is_eq, is_ge, is_le}
@@ -58,12 +58,12 @@ pub record SumTo (lists : ColumnLists) (counts : RowCounts) : Type 0 where
   pub equal : (column : ℕ) (value : Value) → sum (lists.equal column value) ≡ counts.equal column value
   pub range : (range : Range) → sum (lists.range range) ≡ counts.range range
 
--- each list falls
+-- each list is in descending order
 pub record ListsFall (lists : ColumnLists) : Type 0 where
   pub whole : IsFalling lists.whole
   pub equal : (column : ℕ) (value : Value) → IsFalling (lists.equal column value)
   pub range : (range : Range) → IsFalling (lists.range range)
 
--- the rows that an entry's own conjuncts leave
+-- the row numbers of an entry's rows that pass its own conjuncts
 abbrev pub scan_of : Tables → ℕ → List Cond → List ℕ
 scan_of tables entry conjuncts = scan (map (conjunct_of tables) conjuncts) (row_counts tables) entry

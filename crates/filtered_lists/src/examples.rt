@@ -10,7 +10,7 @@ ghost use Rattle.filtered_lists.specs.Examples.{column_of_other, column_x, colum
 ghost use Rattle.filtered_lists.specs.Examples.{list_where, range_x, range_y, six_rows};
 ghost use Rattle.filtered_lists.specs.Lists.{ColumnLists};
 
-/// The list of one comparison, within the list of all rows.
+/// The list of one comparison, limited by the list of all rows.
 pub fn comparisons()
     ensures equal { (lists : ColumnLists) → list_where lists (x_is op.Eq 5) ≡ lesser (lists.equal 0 (value 5)) lists.whole }
     ensures unequal { (lists : ColumnLists) → list_where lists (x_is op.Ne 5)

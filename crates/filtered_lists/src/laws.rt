@@ -11,9 +11,9 @@ ghost use Rattle.filtered_lists.specs.Lists.{ColumnLists, RowCounts, filtered_li
 ghost use Rattle.filtered_lists.specs.Standing.{CountsStandFor, ListsFall, ListsStandFor, SumTo, scan_of};
 
 /// No filtered list and no row bound is too low, if the statistics stand for the entry's table. The
-/// list of the filtered entry dominates the joined column over the rows that the entry's scan
-/// leaves. The sum of the list, and the row bound, are at least the number of these rows. `key`
-/// gives the key of each row in the joined column.
+/// list of the filtered entry dominates the keys that the rows of the entry's scan have in the
+/// joined column. The sum of the list, and the row bound, are at least the number of these rows.
+/// `key` gives the key of each row in the joined column.
 pub fn filters_are_never_under()
     ensures list { (lists : ColumnLists) (tables : Tables) (entry : ℕ) (key : ℕ → ℕ) (conjuncts : List Cond)
         → ListsStandFor lists tables entry key
@@ -34,7 +34,7 @@ pub fn row_bounds_are_sums()
     ensures rows { (counts : RowCounts) (entry : ℕ) (conjuncts : List Cond) → row_bound counts entry conjuncts ≤ counts.whole }
 {}
 
-/// The filtered list falls if the lists fall. At every rank its running sum is at most the running sum of the list of all rows. Without own
+/// The filtered list is in descending order if the lists are. At every rank its running sum is at most that of the list of all rows. Without own
 /// conjuncts, the filtered list is the list of all rows, if this list has no zeros, and the row bound is the number of all rows.
 pub fn filters_stay_within_the_whole()
     ensures falls { (lists : ColumnLists) (entry : ℕ) (conjuncts : List Cond) → ListsFall lists

@@ -29,7 +29,7 @@ use Rattle.sql_meaning.specs.Databases.{IsAskable, IsColumnOf, IsDatabaseOf, IsC
 use Rattle.sql_meaning.specs.Tables.{cells_of}
 use Rattle.gathered_stats.specs.Asked.{asked_columns, joined_columns, no_column, or_no_column, with_place}
 
--- ---- the loop over equalities: the columns of both places are added
+-- ---- the loop over equalities: the columns of both sides are added
 
 abbrev is_of : ℕ → Place → Bool
 is_of entry p = eqb p.entry entry

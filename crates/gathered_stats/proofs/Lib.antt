@@ -1,7 +1,7 @@
 -- How the proofs of this crate go: what was hard, and what closed it.
 --
--- - A record says which lists keys have (`HaveLists`). The code's clauses say "for any lists that these keys have", so no function below
---   `gather_query` speaks of tables or values. Two facts are used once each: the cells of a column have the lists of its values
+-- - A record says which lists keys have (`HaveLists`). The code's clauses say "for any lists that these keys have", so no contract of a function
+--   that `gather_query` uses speaks of tables or values. Two facts are used once each: the cells of a column have the lists of its values
 --   (`their_lists`, from table_stats), and all rows have one key in a column that their table doesn't have (`missing_lists`).
 -- - Steps ask for columns that exist (`Known`). This is proved by one induction over conditions, in the shape of `Passing` of filtered_lists.
 --   Its premises are `IsAskable` and "names this entry alone". For an AND it says that its ranges are of existing columns, and that its

@@ -25,7 +25,7 @@ use Rattle.csv_tables.proofs.TableFacts.{columns_long}
 use Rattle.csv_tables.proofs.KeyFacts.{rows-length}
 use Rattle.gathered_stats.specs.Columns.{HaveLists, cells_in, keys_in, kind_in}
 
--- ---- no row is wider than the columns
+-- ---- no row has more values than there are columns
 
 row_width : (texts : List (List ℕ)) (kinds : List Kind) (columns : List (List ℕ)) (row : ℕ) → length (row_of_columns texts kinds columns row) ≤ length kinds
 row_width texts [] columns row = omega arith

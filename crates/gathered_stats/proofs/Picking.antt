@@ -1,4 +1,4 @@
--- Filter columns are picked with their cells at some rows, one column after another, and then sorted.
+-- Filter columns are picked with their cells in some rows, one column after another, and then sorted.
 use Rattle.std.proofs.Common.{◌≡◌, ℕ, ◌+◌, ◌<◌, true, eqb, List, [], ◌∷◌, ◌++◌, length, map, get_or, take, Option, None, Some, slice_get, refl, ap, sym, ◌∙◌, subst, arith}
 use Rattle.std.specs.Prelude.{IfOk, IfSome, ◌||◌, Bool, Result, Ok, Err}
 use Rattle.std.specs.List.{All, list_any, range_with_len}

@@ -1,4 +1,4 @@
--- `seen` gives the cells that an entry's table shows: the cells of all its rows, or the cells at given rows.
+-- `seen` gives the cells that an entry's table shows: the cells of all its rows, or the cells in given rows.
 use Rattle.std.proofs.Common.{◌≡◌, ℕ, ◌<◌, Bool, true, false, cond, List, [], ◌∷◌, length, map, get_or, refl, ap, sym, subst, arith}
 use Rattle.std.specs.List.{All}
 use Rattle.std.proofs.lemmas.List.{get_or-map, length-map}
@@ -22,7 +22,7 @@ whole_seen table whole = ap (λ (b : Bool). cond b table.cells.now (cells_at tab
 pub rows_seen : (table : EntryTable) → table.whole ≡ false → seen table ≡ cells_at table.rows.now table.cells.now
 rows_seen table rows = ap (λ (b : Bool). cond b table.cells.now (cells_at table.rows.now table.cells.now)) rows
 
--- ---- the cells at given rows are cells of their columns' kinds
+-- ---- the cells in given rows are cells of their columns' kinds
 
 pub picked_cells : (texts : List (List ℕ)) (kind : Kind) (column : List ℕ) → All (IsCell texts kind) column → (rows : List ℕ) → All (λ row. row < length column) rows
     → All (IsCell texts kind) (picked rows column)

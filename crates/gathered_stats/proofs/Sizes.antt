@@ -1,4 +1,4 @@
--- No list has more rows than its table.
+-- No list sums to more than the number of its table's rows.
 use Rattle.std.proofs.Common.{◌≡◌, ℕ, ◌≤◌, Bool, true, false, cond, eqb, List, [], ◌∷◌, map, length, sum, Option, None, Some, ap, arith}
 use Rattle.std.specs.List.{zip}
 use Rattle.std.proofs.lemmas.List.{length-map}

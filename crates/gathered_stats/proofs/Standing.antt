@@ -15,7 +15,7 @@ use Rattle.schema_types.specs.declared.types.Kind.TheVariants as kind
 use Rattle.csv_tables.specs.Values.{Text}
 use Rattle.table_stats.specs.Cells.{IsCellFor}
 
--- ---- the place that `position` finds
+-- ---- the index that `position` finds
 
 module _ {X : Type 0} (p : X → Bool) (d : X) where
   passed : (xs : List X) (k : ℕ) → k < position_or_len p xs → p (get_or xs k d) ≡ false

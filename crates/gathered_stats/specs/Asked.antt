@@ -37,11 +37,11 @@ abbrev pub or_no_column : List ℕ → List ℕ
 or_no_column [] = no_column ∷ []
 or_no_column (column ∷ columns) = column ∷ columns
 
--- an entry's joined columns; if it joins no column, the missing column, over which its row bound is the same as over any other column
+-- an entry's joined columns; if it has no joined column, the column that no table has: its row bound over this column is the same as over any other
 abbrev pub asked_columns : ℕ → List Edge → List ℕ
 asked_columns entry es = or_no_column (joined_columns entry es)
 
--- the columns, with the place's column added at the end if the place is of the entry and the column isn't among the columns yet
+-- `columns`, with the column of `place` appended if it is a column of the entry and isn't in `columns` yet
 abbrev pub with_place : ℕ → List ℕ → Place → List ℕ
 with_place entry columns place = if place.entry == entry && not (list_any (λ column. place.column == column) columns)
     then columns ++ place.column ∷ [] else columns

@@ -1,5 +1,5 @@
--- Filter columns at some rows of their table, and what is gathered for columns of another entry whose rows stand beside these rows: rows with the
--- same index are paired.
+-- Filter columns with their cells in some rows of their table, and what is gathered for columns of another entry. Each of these rows is paired with
+-- a row of the other entry: the row with the same index.
 use Rattle.std.specs.Prelude.{◌≡◌, ℕ, ◌==◌, ◌<◌, true, List, All, IfSome, length, map}
 use Rattle.std.specs.List.{list_any}
 use Rattle.csv_tables.specs.declared.types.Cells.{Cells}
@@ -19,7 +19,7 @@ use Rattle.gathered_stats.specs.Asked.{column_asked, joined_columns}
 use Rattle.gathered_stats.specs.Columns.{HaveLists, cells_in, kind_in}
 use Rattle.gathered_stats.specs.Seen.{cells_at, picked, seen}
 
--- `one` has the table's column with this number, with its cells at these rows
+-- `one` has the table's column with this number, with its cells in these rows
 pub record IsPicked (cells : Cells) (rows : List ℕ) (column : ℕ) (one : PickedColumn) : Type 0 where
   pub exists : column < length cells.kinds
   pub number : one.column ≡ column
@@ -33,7 +33,7 @@ ArePicked cells rows columns = All (λ one. IsPicked cells rows one.column one) 
 abbrev pub ServeColumns : List PickedColumn → Step → Type 0
 ServeColumns columns step = IfSome (column_asked step) (λ column. list_any (λ other. other.column == column) columns ≡ true)
 
--- the steps over `cells`, for a column of `beside` at `rows`: each step has its list from the lists of the column's cells at these rows
+-- the steps over `cells`, for a column of `beside` in the rows `rows`: each step has its list from the lists of the column's cells in these rows
 abbrev pub AreStepsBeside : List (List ℕ) → Cells → ℕ → Cells → List ℕ → List Step → ColumnSteps → Type 0
 AreStepsBeside texts cells accuracy beside rows steps gathered = (lists : ColumnLists)
     → HaveLists texts cells accuracy (picked rows (cells_in beside gathered.column)) lists → gathered.steps ≡ map (listed lists) steps
@@ -43,7 +43,7 @@ pub record AreGatheredBeside (table : EntryTable) (beside : Cells) (rows : List 
   pub columns_are : map (λ gathered. gathered.column) stats.columns ≡ columns
   pub steps_are : All (AreStepsBeside table.pool.now (seen table) table.accuracy beside rows steps) stats.columns
 
--- an entry's own steps over `rows` of its table are gathered for each joined column of the entry `other` at `other_rows` beside them
+-- an entry's own steps over `rows` of its table are gathered for each joined column of entry `other` in `other_rows`, which are paired with `rows`
 pub record IsGatheredBeside (query : Query) (db : Database) (accuracy entry : ℕ) (rows : List ℕ) (other : ℕ) (other_rows : List ℕ) (stats : EntryStats) : Type 0 where
   pub columns_are : map (λ gathered. gathered.column) stats.columns ≡ joined_columns other (equalities_of query)
   pub steps_are : All (AreStepsBeside db.pool (cells_at rows (cells_of db entry)) accuracy (cells_of db other) other_rows (steps_of entry query.conjuncts))

@@ -33,6 +33,6 @@ pub record HaveLists (texts : List (List ℕ)) (cells : Cells) (accuracy : ℕ) 
       → list_between texts (kind_in cells range.column) accuracy (zip (cells_in cells range.column) keys) range.low range.high
       ≡ lists.range range
 
--- a column's keys have lists
+-- there are lists that the column's keys have (`HaveLists`)
 abbrev pub KeysHaveLists : List (List ℕ) → Cells → ℕ → ℕ → Type 0
 KeysHaveLists texts cells accuracy column = (lists : ColumnLists) × HaveLists texts cells accuracy (keys_in cells column) lists

@@ -3,7 +3,7 @@ use Rattle.std.specs.Prelude.{ℕ, ◌<◌, All, if◌then◌else◌, List, leng
 use Rattle.csv_tables.specs.declared.types.Cells.{Cells}
 use Rattle.gathered_stats.specs.declared.entry_table.EntryTable.{EntryTable}
 
--- the column's cells at these rows, in the order of `rows`
+-- the column's cells in these rows, in the order of `rows`
 abbrev pub picked : List ℕ → List ℕ → List ℕ
 picked rows column = map (slice_index column) rows
 

@@ -1,5 +1,5 @@
 //! Gathers the steps of an entry's own conjuncts over rows of its table, for the columns of another entry. Each of these rows is paired with a row
-//! of the other entry: its row stands beside this row.
+//! of the other entry (`Beside`).
 ghost use Rattle.std.specs.Prelude.{◌≡◌, ℕ, ◌==◌, ◌<◌, ◌^◌, All, length, map, slice_index, true, false, IfOk, IfSome, OnOk};
 ghost use Rattle.std.specs.List.{list_any, range_with_len};
 ghost use Rattle.join_graph.specs.Conjuncts.{equalities_of, local_of};
@@ -31,7 +31,7 @@ use row_buf::RowBuf;
 use schema_types::Kind;
 use std::alloc::Global;
 
-/// The cells of a filter column at some rows. `column` is the column's number in its table.
+/// The cells of a filter column in some rows. `column` is the column's number in its table.
 #[derive(Drop)]
 pub(crate) struct PickedColumn {
     pub column: u32,
@@ -39,7 +39,7 @@ pub(crate) struct PickedColumn {
     pub cells: RowBuf<u64>,
 }
 
-// The cells of a column at these rows.
+// The cells of a column in these rows.
 fn picked(alloc: Global, cells: &[u64], rows: &[u32]) -> Result<RowBuf<u64>, NoMemory>
     requires { All (λ row. row < length cells.now) rows.now }
     ensures { IfOk result (λ keys. keys.items ≡ map (slice_index cells.now) rows.now) }
@@ -56,7 +56,7 @@ fn is_picked(columns: &[PickedColumn], column: u32) -> bool
     columns.iter().any(|other| other.column == column)
 }
 
-// A filter column at these rows.
+// A filter column, with its cells in these rows.
 fn pick(
     alloc: Global,
     pool: &Pool,
@@ -79,7 +79,7 @@ fn pick(
     })
 }
 
-// Adds the column that a step compares with literals, at these rows, if the step has such a column and it isn't in `columns` yet.
+// Adds the column that a step compares with literals, with its cells in these rows, if the step has such a column and it isn't in `columns` yet.
 fn add_picked(
     alloc: Global,
     pool: &Pool,
@@ -105,7 +105,7 @@ fn add_picked(
     columns.push(pick(alloc, pool, cells, rows, column)?)
 }
 
-// The columns that steps compare with literals, at these rows.
+// The columns that steps compare with literals, with their cells in these rows.
 fn picked_columns(
     alloc: Global,
     pool: &Pool,
@@ -152,7 +152,7 @@ fn sorted_columns<'a>(
     Ok(filters)
 }
 
-/// Rows of an entry's table, and the rows of another entry's table that stand beside them: both lists have the paired rows at the same index.
+/// Rows of an entry's table, each paired with a row of another entry's table: paired rows have the same index in `rows` and in `other_rows`.
 /// `other_stats` has what was gathered over all rows of the other table.
 #[derive(Clone, Copy)]
 pub struct Beside<'a> {
@@ -163,7 +163,7 @@ pub struct Beside<'a> {
     pub other_stats: &'a EntryStats,
 }
 
-// Whether these are the numbers of all `count` rows of a table, in order.
+// Whether these are the numbers of all `count` rows of a table, in ascending order.
 fn is_each_row(rows: &[u32], count: usize) -> bool
     ensures { result ≡ true → rows.now ≡ range_with_len 0 count }
 {
@@ -178,8 +178,8 @@ fn is_each_row(rows: &[u32], count: usize) -> bool
     true
 }
 
-// Each step with its list, for a joined column of the other entry. If `rows` are all rows of the other entry's table in order, no cell is copied;
-// then `whole`, if it is given, is the list of all rows.
+// Each step with its list, for a joined column of the other entry. If `rows` are all rows of the other entry's table in ascending order, no cell is
+// copied. Then `whole`, if it is given, is used as the list of all rows.
 fn gather_other(
     alloc: Global,
     table: &EntryTable<'_>,
@@ -246,7 +246,7 @@ fn gather_others(
 /// table).
 ///
 /// `parts` is what `split` gives for the query. Only cells of the columns that are asked for are copied. If the other entry's rows are all rows of
-/// its table in order, the lists of all rows are taken from `other_stats`, if they are there.
+/// its table in ascending order, the lists of all rows are taken from `other_stats`, if they are there.
 pub fn gather_beside(
     alloc: Global,
     query: &Query,

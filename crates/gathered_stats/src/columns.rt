@@ -15,8 +15,7 @@ fn has(columns: &[u32], column: u32) -> bool
     columns.iter().any(|other| column == *other)
 }
 
-// Adds the column of `place` at the end of the list, if the place is of this entry and the column isn't in the list yet. A place is an entry with
-// one of its columns.
+// Appends the column of `place` (an entry and one of its columns), if it is a column of this entry and isn't in the list yet.
 fn add(columns: &mut Seq<u32>, place: Place, entry: u8) -> Result<(), NoMemory>
     ensures { OnOk result (columns.new ≡ with_place entry columns.old place) }
 {

@@ -73,8 +73,7 @@ fn gather_columns(
     Ok(EntryStats { columns: gathered })
 }
 
-// The statistics of an entry: of each column that it joins. For an entry that joins no column, they are those of one column that its table doesn't
-// have.
+// The statistics of an entry, for each of its joined columns. If it has no joined column, they are for one column that its table doesn't have.
 fn gather_entry(
     alloc: Global,
     query: &Query,

@@ -1,8 +1,8 @@
 //! Gathers from a query's tables the statistics that its bounds ask for.
 //!
-//! This is the stage between the tables and the bounds. In: a query, its database and an accuracy. Out: for each FROM entry and each of its joined
-//! columns, the steps of the entry's own conjuncts, each with its list (SafeBound, SIGMOD 2023). Steps run over a stack: a comparison puts its
-//! list there, and AND and OR combine the two lists on top (`predicate_bounds`).
+//! This is the step between the tables and the bounds. In: a query, its database and an accuracy. Out: for each FROM entry and each of its joined
+//! columns, the steps of the entry's own conjuncts, each with its list (SafeBound, SIGMOD 2023). Steps run over a stack: a comparison pushes its
+//! list, and AND and OR combine the two lists on top (`predicate_bounds`).
 //!
 //! A list is made only if a step asks for it. A filter column is sorted once for each entry; an entry without conditions sorts no column. The
 //! rest list of a filter column is made once for each joined column, if a value needs it, and copied for each further value.

@@ -62,7 +62,7 @@ impl EntryTable<'_> {
         Ok(copy)
     }
 
-    // The list for the value of a filter column that has this cell: the value's own list if the value is frequent, else the rest list.
+    // The list for the value with this cell in a filter column: the value's own list if the value is frequent, else the rest list.
     fn list_of_cell(
         &self,
         keys: &[u64],

@@ -12,7 +12,7 @@ use crate::lists::is_whole;
 use piece_math::Pieces;
 use predicate_bounds::{ColumnSteps, EntryStats, ListStep, Step};
 
-// The list of the step at this place, if the step has a list.
+// The list of the step with index `at`, if the step has a list.
 fn list_at(gathered: &ColumnSteps, at: usize) -> Option<&Pieces>
     ensures { IfSome result (λ list. slice_get gathered.now.steps at ≡ Some (list_step.List list.now)) }
 {

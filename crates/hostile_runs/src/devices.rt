@@ -129,7 +129,7 @@ fn answer(alloc: Global, ran: &Ran) -> Result<Vec<u8>, NoMemory> {
 }
 
 // The answers while the store fails at its first call, then at its second, and so on, until a run is done. Of equal
-// answers in a row only the first is listed.
+// answers that follow each other only the first is kept.
 fn read_answers(alloc: Global, slowly: bool) -> Result<Vec<u8>, NoMemory> {
     let mut told = Vec::new(alloc);
     let mut last = Vec::new(alloc);
@@ -201,7 +201,7 @@ fn rows_are_cut(alloc: Global, slowly: bool) -> Result<bool, NoMemory> {
     Ok(false)
 }
 
-// As `rows_are_cut`, for calls of `notes`, which leave the beginning of the plan.
+// As `rows_are_cut`, for calls of `notes`: a run in which one fails has written the beginning of the plan.
 fn plans_are_unsaid(alloc: Global, slowly: bool) -> Result<bool, NoMemory> {
     for k in 1u64..1000 {
         let ran = run(alloc, slowly, Failing { notes: k, ..SOUND })?;

@@ -1,4 +1,4 @@
-//! Tests: runs over devices that fail or cut every transfer. Nothing here is called.
+//! Tests: runs over devices that fail or cut every transfer. No other crate calls what is here.
 //!
 //! One join runs again and again, and each time another call of one device fails: once with whole transfers, and once with transfers of one
 //! byte. cases/ has the answers to broken texts.

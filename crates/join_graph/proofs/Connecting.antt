@@ -1,4 +1,4 @@
--- Two ways to keep equalities agree: by which entries are connected, and by names of parts.
+-- Two definitions of kept equalities agree: by which entries are connected, and by names of parts.
 use Rattle.std.proofs.Common.{◌≡◌, ◌⊎◌, ℕ, Bool, true, false, eqb, List, [], ◌∷◌, refl, ap, sym, ◌∙◌, inl, inr}
 use Rattle.std.specs.List.{AllByRecursion}
 use Rattle.std.proofs.lemmas.Bool.{cases_Bool, eqb-true, eqb-false, eq-eqb}
@@ -61,7 +61,7 @@ apart_names name earlier a b tell apart = elim (cases_Bool (eqb (name a) (name b
   | inr n ↦ n
 ]
 
--- ---- the equalities that names compute are the kept ones
+-- ---- the equalities that are computed by names are the kept ones
 
 pub keeps_computed : (name : ℕ → ℕ) (earlier es : List Edge) → Tell name earlier → KeepsAfter earlier es (kept_by_names name es)
 keeps_computed name earlier [] tell = at_end earlier

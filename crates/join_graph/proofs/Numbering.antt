@@ -1,4 +1,5 @@
--- The test `is_alike` picks the numbers of the conjuncts in each part. They are the numbers that `local_of` and `residual_of` list.
+-- The test `is_alike` picks the own conjuncts of one entry, or the residual ones: their numbers are those that `local_of` and `residual_of` list.
+-- `edge_in` picks the equalities.
 use Rattle.std.proofs.Common.{◌≡◌, ℕ, suc, ◌+◌, ◌-◌, ◌<◌, Bool, not, ◌&&◌, cond, List, [], ◌∷◌, ◌++◌, map, length, Option, Some, None, is_none, refl, ap, sym, ◌∙◌, arith}
 use Rattle.std.specs.List.{filter_map, range_with_len}
 use Rattle.std.proofs.lemmas.List.{append_assoc}
@@ -32,7 +33,7 @@ numbers_where-map test f test' same first (x ∷ xs) =
     ap (λ b. cond b (first ∷ numbers_where test (first + 1) (map f xs)) (numbers_where test (first + 1) (map f xs))) (same x)
     ∙ ap (λ ns. cond (test' x) (first ∷ ns) ns) (numbers_where-map test f test' same (first + 1) xs)
 
--- ---- the test `is_alike` finds the conjuncts of each part
+-- ---- the test `is_alike` picks the own conjuncts of an entry, or the residual ones
 
 alike_local : (entry : ℕ) (equality : Option Edge) (n : Named) → ((edge : Edge) → equality ≡ Some edge → n ≡ named.Several) → is_alike (part.Local entry) (part_from equality n) ≡ tells_just entry n
 alike_local entry (Some edge) n several = rw (several edge refl) refl

@@ -1,5 +1,5 @@
--- The code names the part of each of at most sixteen entries in a list. These lemmas say what its loops keep while they join two parts and go through
--- the equalities of a set.
+-- The code has a list with the name of each entry's part, for at most sixteen entries. These lemmas say what its loops keep while they join two
+-- parts and go through the equalities of a set.
 use Rattle.std.proofs.Common.{◌≡◌, ◌≢◌, ℕ, ◌+◌, ◌<◌, ◌≤◌, true, false, cond, eqb, List, [], ◌∷◌, ◌++◌, length, get_or, take, drop, refl, ap, sym, ◌∙◌}
 use Rattle.std.proofs.lemmas.Bool.{ne_eqb}
 use Rattle.std.proofs.lemmas.List.{append_assoc, append-nil}
@@ -11,7 +11,7 @@ use Rattle.join_graph.specs.Kept.{equalities_within, joins_within, order_of_turn
 use Rattle.join_graph.specs.Names.{IsNamed, AreNamed}
 use Rattle.join_graph.proofs.Turning.{append_all, are_named}
 
--- This is the state of the loop that joins two parts. The places below i are done.
+-- This is the state of the loop that joins two parts. The names with indices below i are done.
 pub record Joining (before now : List ℕ) (i old new : ℕ) : Type 0 where
   pub done : (x : ℕ) → x < i → get_or now x 0 ≡ cond (eqb (get_or before x 0) old) new (get_or before x 0)
   pub left : (x : ℕ) → i ≤ x → get_or now x 0 ≡ get_or before x 0
@@ -52,7 +52,7 @@ set_front : (subset i : ℕ) (es : List Edge) (d : Edge) → i < length es
     → equalities_within subset (drop i es) ≡ cond (joins_within subset (get_or es i d)) (get_or es i d ∷ equalities_within subset (drop (i + 1) es)) (equalities_within subset (drop (i + 1) es))
 set_front subset i es d h = rw add-one (ap (equalities_within subset) (drop-cons es i d h))
 
--- an equality that isn't of the set is passed over
+-- an equality that isn't of the set is skipped
 pub passes_by : (subset i : ℕ) (es : List Edge) (d : Edge) (names : List ℕ) (kept : List Edge) (whole : List Edge → List Edge) → i < length es → joins_within subset (get_or es i d) ≡ false
     → Leads subset names kept (drop i es) whole → Leads subset names kept (drop (i + 1) es) whole
 passes_by subset i es d names kept whole h out leads rest named =
@@ -68,7 +68,7 @@ goes_on subset i es d names more kept longer whole h inside step leads rest name
     step (equalities_within subset (drop (i + 1) es) ++ rest) (append_all IsNamed (equalities_within subset (drop (i + 1) es)) rest (are_named subset (drop (i + 1) es)) named)
     ∙ ap (λ s. kept ++ kept_by_names (λ x. get_or names x 0) (s ++ rest)) (sym front) ∙ leads rest named
 
--- a turn goes through the equalities from place i on, and then through those before place i
+-- a turn goes through the equalities from index i on, and then through those before index i
 pub goes_round : (subset turn i : ℕ) (es front back start kept kept' : List Edge) (own names names' : List ℕ)
     → front ≡ take i es → back ≡ drop i es
     → equalities_within subset (take i es) ≡ take turn (equalities_within subset es) → equalities_within subset (drop i es) ≡ drop turn (equalities_within subset es)

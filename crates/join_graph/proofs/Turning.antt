@@ -1,5 +1,5 @@
--- A turn goes through the equalities of a set in text order, from one of them on, and around. These lemmas say where it begins, and what is true of
--- each equality in it.
+-- A turn goes through the equalities of a set in text order: it begins at one of them, and goes on with the first after the last. These lemmas say
+-- where it begins, and what is true of each equality in it.
 use Rattle.std.proofs.Common.{◌≡◌, ℕ, zero, suc, ◌<◌, true, eqb, List, [], ◌∷◌, ◌++◌, length, take, drop, refl, ap, sym, ◌∙◌, inl, inr}
 use Rattle.std.specs.List.{AllByRecursion}
 use Rattle.std.proofs.lemmas.Bool.{cases_Bool, ltb-true, and_parts}
@@ -76,7 +76,7 @@ are_named subset es = names (equalities_within subset es) (filter_all subset es)
     names [] h = tt
     names (e ∷ es) h = (joining_named subset e h.0, names es h.1)
 
--- if `turn` equalities of the set come before place i, then the turn begins at place i
+-- if `turn` equalities of the set come before index i, then the turn begins at index i
 pub turn_begins : (subset turn i : ℕ) (es : List Edge) → turn ≡ length (equalities_within subset (take i es))
     → (equalities_within subset (take i es) ≡ take turn (equalities_within subset es)) × (equalities_within subset (drop i es) ≡ drop turn (equalities_within subset es))
 turn_begins subset turn i es is =

@@ -54,7 +54,7 @@ equality_in (Cond-F.Compare op left right) = compared op (column_of left) (colum
 abbrev pub equality_of : Cond → Option Edge
 equality_of cond = equality_in (out-Cond cond)
 
--- the list has one entry, once or more often
+-- the list has just one entry, which it may have more than once
 abbrev pub are_one : List ℕ → Bool
 are_one [] = false
 are_one (entry ∷ entries) = list_all (λ e. e == entry) entries

@@ -36,7 +36,7 @@ order_of_turn subset turn es = gone_round turn (equalities_within subset es)
 abbrev pub AreConnected : List Edge → ℕ → ℕ → Type 0
 AreConnected es a b = (side : ℕ → Bool) → AllByRecursion (λ e. side e.left.entry ≡ side e.right.entry) es → side a ≡ side b
 
--- `kept` has, in order, each equality of `es` whose two entries aren't connected by the equalities kept before it, `earlier` included
+-- `kept` has, in the order of `es`, each equality whose two entries aren't connected by the equalities kept before it, `earlier` included
 pub data KeepsAfter : List Edge → List Edge → List Edge → Type 0 where
   at_end : (earlier : List Edge) → KeepsAfter earlier [] []
   keeps : (earlier : List Edge) (e : Edge) (es kept : List Edge) → AreApart earlier e.left.entry e.right.entry
@@ -58,7 +58,7 @@ kept_by_names name (e ∷ es) =
     if name e.left.entry == name e.right.entry then kept_by_names name es
     else (e ∷ kept_by_names (joined_parts name e.left.entry e.right.entry) es)
 
--- the equalities of `es` that are kept, in order. At first each entry is a part of its own
+-- the equalities of `es` that are kept, in the order of `es`. At first each entry is a part of its own
 abbrev pub kept_in_order : List Edge → List Edge
 kept_in_order es = kept_by_names (λ entry. entry) es
 

@@ -1,4 +1,4 @@
--- What a list of entries names: no entry, just one entry, or several.
+-- Which entries a list names, in short: no entry, just one entry, or several.
 use Rattle.std.specs.Prelude.{ℕ, Bool, true, false, ◌==◌, if◌then◌else◌, List, [], ◌∷◌, Option, Some, None}
 use Rattle.berge_tree.specs.declared.edges.Edge.{Edge}
 use Rattle.query_types.specs.declared.types.Cond.{Cond}
@@ -27,7 +27,7 @@ part_from None named.Nothing = part.Residual
 part_from None (named.Just entry) = part.Local entry
 part_from None named.Several = part.Residual
 
--- the part in which a conjunct stands
+-- the part in which a conjunct is
 abbrev pub part_of : Cond → Part
 part_of cond = part_from (equality_of cond) (named_of (entries_named cond))
 

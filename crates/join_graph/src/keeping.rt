@@ -61,7 +61,8 @@ fn first_of_turn(edges: &[Edge], subset: EntrySet, turn: u32) -> usize
     edges.len()
 }
 
-// Each entry's part before any equality is kept: the entry alone, named by the entry's number. A part is a group of entries that kept equalities connect.
+// The names of parts before any equality is kept. A part has the entries that kept equalities connect (a connected component): at first each entry
+// is a part of its own, named by the entry's number.
 fn own_names() -> [u8; ENTRIES]
     ensures { (x : ℕ) → x < 16 → slice_index result x ≡ x }
 {

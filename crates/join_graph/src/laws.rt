@@ -1,4 +1,4 @@
-//! What the definitions say, as laws. Each call does nothing.
+//! Laws of the definitions. Each function does nothing, and its contract is the law.
 ghost use Rattle.std.specs.Prelude.{◌≡◌, ◌≢◌, ◌↔◌, ◌⊎◌, ℕ, ℤ, All, Bool, IsSomeAnd, IsTrue, List, [], ◌∷◌, length, slice_get, Some, None};
 ghost use Rattle.std.specs.List.{Contains};
 ghost use Rattle.berge_tree.specs.declared.edges.Edge.{Edge};
@@ -37,7 +37,7 @@ pub fn conjuncts_stand_in_one_part()
     ensures one { (query : Query) → NamesItsEntries query → All (λ cond. places_in_parts (length query.from) cond ≡ 1) query.conjuncts }
 {}
 
-/// `numbers_where`, from 0 on, lists exactly the places of the conjuncts that pass the test.
+/// `numbers_where`, counting from 0, lists exactly the indices of the conjuncts that pass the test.
 pub fn numbers_are_places()
     ensures { (test : Cond → Bool) (conds : List Cond) (k : ℕ)
         → Contains (numbers_where test 0 conds) k ↔ IsSomeAnd (slice_get conds k) (λ cond. IsTrue (test cond)) }

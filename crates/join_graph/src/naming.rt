@@ -8,7 +8,7 @@ ghost use Rattle.join_graph.specs.declared.naming.Named.TheVariants as named;
 
 use query_types::{ColumnRef, Cond, Operand};
 
-/// What a condition names: no entry, just one, or several.
+/// Which entries a condition names, in short: no entry, just one, or several.
 #[derive(Clone, Copy)]
 pub(crate) enum Named {
     Nothing,
@@ -72,7 +72,7 @@ fn named_by_all(members: &[Cond]) -> Named
     names
 }
 
-/// What a condition names.
+/// Which entries a condition names, in short.
 #[cycle(naming)]
 pub(crate) fn named_by(cond: &Cond) -> Named
     ensures { result ≡ named_of (entries_named cond.now) }

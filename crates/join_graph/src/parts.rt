@@ -1,7 +1,7 @@
 use base_io::Seq;
 use berge_tree::Edge;
 
-/// The conjuncts of a query, each in one part. A conjunct's number is its place in text order, counted from 0.
+/// The conjuncts of a query, each in one part. A conjunct's number is its index in text order, counted from 0.
 #[derive(Debug, Drop)]
 pub struct Parts {
     /// For each FROM entry, the conjuncts that name just this entry.

@@ -142,7 +142,7 @@ fn equalities_in(alloc: Global, parts: &[Part]) -> Result<Vec<Edge>, AllocError>
 }
 
 /// Splits the conjuncts of a query into parts. If every entry that a conjunct names is an entry of FROM, each conjunct is in exactly one part.
-/// The only error is want of memory.
+/// It fails only if there is too little memory.
 pub fn split(alloc: Global, query: &Query) -> Result<Parts, NoMemory>
     requires entries { length query.now.from < 2 ^ 8 }
     requires conjuncts { length query.now.conjuncts < 2 ^ 32 }

@@ -1,4 +1,4 @@
--- Joined tables as SQL-92 defines them (7.5), as lists of rows. A semi-join and an anti-join have rows of the left table alone. SQL writes
+-- Joined tables as SQL-92 defines them (7.5), as lists of rows. A semi-join and an anti-join have only rows of the left table. SQL writes
 -- them with EXISTS and NOT EXISTS.
 use Rattle.std.specs.Prelude.{ℕ, Bool, not, List, ◌++◌, map, replicate, Option, None}
 use Rattle.std.specs.List.{filter, flat_map, list_any}
@@ -9,7 +9,7 @@ use Rattle.joined_tables.specs.declared.joins.Join.TheVariants.{Anti, Full, Left
 abbrev pub RowWithNulls : Type 0
 RowWithNulls = List (Option ℕ)
 
--- a table: how many columns it has, and its rows. Some rows may be equal
+-- a table: how many columns it has, and its rows. Rows may be equal
 pub record Table : Type 0 where
   pub columns : ℕ
   pub rows : List RowWithNulls

@@ -31,7 +31,7 @@ next_audit k sources order bounds counts i entry bound rows some more count is a
     ∙ ap (λ (left : List ℕ). level_audits k sources (entry ∷ drop (i + 1) order) left (drop i counts)) (left_at bounds i bound more at')
     ∙ ap (λ (left : List ℕ). level_audits k sources (entry ∷ drop (i + 1) order) (bound ∷ drop (i + 1) bounds) left) (left_at counts i rows count counted)
 
--- ---- the numbers of listed rows
+-- ---- the numbers of joined rows
 
 pub count_at : (levels : List Level) (i : ℕ) → get_or (level_counts levels) i 0 ≡ length (rows_at levels i)
 count_at [] i = refl

@@ -68,7 +68,7 @@ row_out (e ∷ order) (row ∷ choice) x gone = elim (cases_Bool (eqb x e)) [
   | inr n ↦ (let rest : is_in order x ≡ false = rw n at gone in rw n (row_out order choice x rest))
 ]
 
--- ---- the rows of a choice, put at their places
+-- ---- the row numbers of a choice, put at the indexes of their entries
 
 module _ (query : Query) (db : Database) (is : IsDatabaseOf query db) (entries : List ℕ) (order : IsOrderOf query entries) (choice rows : List ℕ)
     (whole : IsChoiceOf (row_counts (tables_of db)) entries choice) (size : length rows ≡ length query.from) where

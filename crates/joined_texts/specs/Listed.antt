@@ -1,4 +1,4 @@
--- Rows that were listed for all entries of a query, and their records.
+-- The joined rows of all entries of a query, and their records.
 use Rattle.std.specs.Prelude.{◌≡◌, ℕ, ◌*◌, ◌-◌, ◌<◌, ◌≤◌, All, List, length}
 use Rattle.limits.specs.Profile.{most_entries}
 use Rattle.csv_tables.specs.declared.types.Database.{Database}
@@ -34,7 +34,7 @@ abbrev pub IsThere : Listed → Type 0
 IsThere (listed.Last executed order) = HasLevels executed.now order.now
 IsThere (listed.Node done node) = node < length done.now.nodes
 
--- each listed choice has a row of each entry of the query, from the query's database
+-- each joined choice has a row of each entry of the query, from the query's database
 pub record IsListed (query : Query) (db : Database) (it : Listed) : Type 0 where
   pub database : IsDatabaseOf query db
   pub entries : IsOrderOf query (choices_listed it).entries

@@ -69,8 +69,8 @@ fn put_levels<N: Sink>(
     Ok(())
 }
 
-/// Writes the audit text, which has a line for each level of the plan's order. The line has the level's number from 1
-/// on, its entry's name in the query, its bound, and the number of rows that were listed. If the sink fails, this
+/// Writes the audit text, which has a line for each level of the plan's order. The line has the level's number (counted
+/// from 1), its entry's name in the query, its bound, and the number of its rows. If the sink fails, this
 /// returns `Failed`, and the sink has a prefix of the text.
 pub fn write_audit<N: Sink>(
     executed: &RowForest,

@@ -1,8 +1,8 @@
 //! Writes the texts of an executed query of any number of FROM entries: the rows text and the audit text.
 //! No call takes memory, so no call can run out of it.
 //!
-//! This is the last stage of a run. In: the levels that `hash_join` listed, or the nodes of a join tree that `bushy_join`
-//! listed; the plan or its order, the query and its database. Out: bytes to a sink, through one buffer on the stack.
+//! This is the last step of a run. In: the levels that `hash_join` made, or the nodes of a join tree that `bushy_join`
+//! made; the plan or its order, the query and its database. Out: bytes to a sink, through one buffer on the stack.
 //! The row numbers of a choice are in the order of the plan, or of the tree's leaves. They are sorted into FROM order, and
 //! then the outputs are printed.
 //!

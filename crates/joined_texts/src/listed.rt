@@ -1,4 +1,4 @@
-//! Rows that were listed for all entries of a query.
+//! The joined rows of all entries of a query.
 ghost use Rattle.std.specs.Prelude.{◌≡◌, ◌-◌, ◌<◌, [], All, length, slice_index_or};
 ghost use Rattle.std.specs.List.{AllByRecursion};
 ghost use Rattle.link_index.specs.Forest.{rows_at, way_to};
@@ -46,7 +46,7 @@ fn read_last(executed: &RowForest, order: &[u8], i: u32, rows: &mut [u32])
     place(order, &choice[..size], rows);
 }
 
-/// How many rows were listed.
+/// How many joined rows there are.
 pub(crate) fn count(listed: &Listed) -> u32
     requires { IsThere listed.now }
     ensures { result ≡ length (choices_listed listed.now).rows }
@@ -57,7 +57,7 @@ pub(crate) fn count(listed: &Listed) -> u32
     }
 }
 
-/// Writes the row numbers of listed row `i` into `rows`, each at the index of its entry.
+/// Writes the row numbers of joined row `i` into `rows`, each at the index of its entry.
 pub(crate) fn read(listed: &Listed, i: u32, rows: &mut [u32])
     requires there { IsThere listed.now }
     requires row { i < length (choices_listed listed.now).rows }

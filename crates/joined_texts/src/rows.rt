@@ -22,7 +22,7 @@ use printed_texts::{Line, put_line};
 use query_types::Query;
 use tree_rows::BushyDone;
 
-// Writes the record of a listed row.
+// Writes the record of a joined row.
 fn put_row<N: Sink>(
     query: &Query,
     db: &Database,
@@ -43,7 +43,7 @@ fn put_row<N: Sink>(
     put_line(outs, Line::Rows(&rows[..size]), db, buffer, sink)
 }
 
-// Writes a record for each listed row.
+// Writes a record for each joined row.
 fn put_rows<N: Sink>(
     query: &Query,
     db: &Database,
@@ -61,8 +61,8 @@ fn put_rows<N: Sink>(
     Ok(())
 }
 
-// Writes the rows text: a header of the outputs' names, and a record of the outputs for each listed row, in the order in
-// which they are listed.
+// Writes the rows text: a header of the outputs' names, and a record of the outputs for each joined row, in the order of
+// the level or node.
 fn write_listed<N: Sink>(
     query: &Query,
     db: &Database,

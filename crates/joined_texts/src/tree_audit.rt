@@ -46,7 +46,7 @@ fn put_nodes<N: Sink>(
 }
 
 /// Writes the audit text of a join tree, which has a line for each inner node, in the order of their numbers. The line has the node's
-/// number, the nodes that it joins, its bound, and the number of rows that were listed. For one entry the text is empty. If the sink
+/// number, the nodes that it joins, its bound, and the number of its rows. For one entry the text is empty. If the sink
 /// fails, this returns `Failed`, and the sink has a prefix of the text.
 pub fn write_tree_audit<N: Sink>(
     done: &BushyDone,

@@ -48,7 +48,7 @@ use Rattle.key_stats.proofs.CarriedLists.{carried_sum}
 use Rattle.key_bounds.specs.Carrying.{AddUp, IsJoined}
 use Rattle.key_bounds.proofs.CellsBeside.{lists_beside}
 
--- ---- an equality of the query, with its sides in order or exchanged
+-- ---- an equality of the query, as it is or with its sides exchanged
 
 from_both : (es : List Edge) (e : Edge) → Contains (both_ways es) e → ((f : Edge) × Contains es f × (e ≡ f)) ⊎ ((f : Edge) × Contains es f × (e ≡ exchanged f))
 from_both [] e has = absurd (in_none e has)

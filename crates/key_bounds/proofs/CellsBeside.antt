@@ -1,4 +1,4 @@
--- Lists that are made of cells at some rows, and of another entry's cells at the rows beside them, are the lists that are made of the values there.
+-- Rows of one entry are paired with rows of another entry. Lists that are made of the cells in these rows are the lists that are made of the values.
 use Rattle.std.proofs.Common.{◌≡◌, ℕ, ◌<◌, List, [], length, map, get_or, pos, Option, ap, sym, ◌∙◌, subst, arith}
 use Rattle.std.specs.Prelude.{slice_index_or}
 use Rattle.std.specs.List.{All, zip}
@@ -29,7 +29,7 @@ use Rattle.gathered_stats.proofs.Seeing.{picked_cells}
 use Rattle.key_carriers.specs.Widened.{tables_at, values_at}
 
 module _ (db : Database) (are : AreTables db) (differ : HaveDifferentCharacters db.pool) where
-  -- ---- a column's cells at some rows
+  -- ---- a column's cells in some rows
 
   module _ (entry : ℕ) (there : entry < length db.slots) (rows : List ℕ) (low : AreRowNumbersOf (cells_of db entry) rows) where
     abbrev cells : Cells
@@ -76,7 +76,7 @@ module _ (db : Database) (are : AreTables db) (differ : HaveDifferentCharacters 
       pub column_at : cells_in (cells_at rows cells) column ≡ here
       column_at = get_or-map (picked rows) cells.columns column [] [] (omega (arith, exists, columns_long db.pool cells.rows cells.kinds cells.columns (cells_are db are differ entry there)))
 
-  -- ---- a column of another entry, at the rows beside
+  -- ---- a column of the other entry, in the paired rows
 
   module _ (entry other : ℕ) (there : entry < length db.slots) (other_there : other < length db.slots) (rows beside : List ℕ) (low : AreRowNumbersOf (cells_of db entry) rows)
       (beside_low : AreRowNumbersOf (cells_of db other) beside) (as_many : length beside ≡ length rows) (accuracy column : ℕ) (exists : column < length (cells_of db other).kinds) where

@@ -13,7 +13,7 @@ use Rattle.gathered_stats.specs.Statistics.{statistics_of}
 use Rattle.key_carriers.specs.Carriers.{carriers, carriers_to}
 use Rattle.key_stats.specs.Lists.{carried_list, carried_rows}
 
--- the list whose running sums are the minima of those of `list` and of all `lists`
+-- the list whose running sum at each rank is the least of the running sums of `list` and all `lists`
 abbrev pub least_list : List ℕ → List (List ℕ) → List ℕ
 least_list list [] = list
 least_list list (other ∷ lists) = least_list (lesser list other) lists

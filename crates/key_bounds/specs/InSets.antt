@@ -55,7 +55,7 @@ known_by_keys keys subset = record {
 
 -- ---- which lists must be known for a set
 
--- if `c` is carried to the entry of this place, `c` has a list of the place's column
+-- if `c` is carried to the entry of `place` (an entry and one of its columns), `c` has a list of this column
 abbrev pub CarriesTo : Place → Carried → Type 0
 CarriesTo place c = c.edge.left.entry ≡ place.entry → IsSome (list_of c.lists place.entry place.column)
 

@@ -1,4 +1,4 @@
--- What statistics of entries and carried lists tell together.
+-- When statistics of entries and carried lists are those of tables.
 use Rattle.std.specs.Prelude.{ℕ, List}
 use Rattle.schema_types.specs.declared.types.Schema.{Schema}
 use Rattle.query_types.specs.declared.types.Query.{Query}

@@ -1,5 +1,5 @@
 //! From a query's tables, makes the bounds that are carried along the references of a schema. They bound the rows of an entry that refer to rows
-//! which another entry's own conjuncts leave.
+//! which pass another entry's own conjuncts.
 ghost use Rattle.std.specs.Prelude.{◌≡◌, All, IfOk, Some, length};
 ghost use Rattle.bound_fold.specs.Lists.{list_of, rows_of};
 ghost use Rattle.join_graph.specs.Conjuncts.{equalities_of, local_of};
@@ -23,7 +23,7 @@ use predicate_bounds::QueryStats;
 use query_types::Query;
 use std::alloc::Global;
 
-// The row bound and the lists of the first entry of `stats`, as those of `entry`.
+// The row bound and the lists of the first entry of `stats`, kept as those of `entry`.
 fn first_lists(alloc: Global, stats: &QueryStats, entry: u8) -> Result<EntryLists, NoMemory>
     requires { AddUp stats.now }
     ensures rows { IfOk result (λ made. rows_of made entry ≡ Some (row_bound_in_stats stats.now 0)) }
@@ -40,7 +40,7 @@ fn first_lists(alloc: Global, stats: &QueryStats, entry: u8) -> Result<EntryList
     Ok(made)
 }
 
-// What is carried along an equality: bounds of the widened table's rows that the right entry's own conjuncts leave.
+// What is carried along an equality: bounds of the widened table's rows that pass the right entry's own conjuncts.
 fn carried_over(
     alloc: Global,
     query: &Query,

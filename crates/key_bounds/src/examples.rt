@@ -1,4 +1,4 @@
-//! Which entries carry in small queries, and the widened table of small tables: theorems by computation.
+//! Theorems by computation over small queries and tables: which entries carry their conjuncts to others, widened tables, and bounds of sets.
 ghost use Rattle.std.specs.Prelude.{◌≡◌, ◌∷◌, []};
 ghost use Rattle.berge_tree.specs.Testing.{edge_of};
 ghost use Rattle.planning.specs.Bounds.{set_bounds_of};
@@ -27,8 +27,8 @@ pub fn widened_tables()
     ensures without_the_stray { referring with_a_stray (edge_of 0 1 1 0) ≡ 0 ∷ 1 ∷ 2 ∷ 3 ∷ 4 ∷ [] }
 {}
 
-/// O and C, where C.REG = 3 for one customer, who has one order. The bound of both entries is 4 without carried conjuncts and 1 with them,
-/// whether or not another order refers to no customer. If the schema doesn't declare the reference, the bound stays 4.
+/// O and C, where C.REG = 3 for one customer, who has one order. The bound of the set of both entries is 4 without carried conjuncts and 1 with
+/// them. It stays 1 with one more order, which refers to no customer. If the schema doesn't declare the reference, the bound stays 4.
 pub fn orders_of_a_region()
     ensures plain { set_bounds_of by_region region_tables 1 ≡ 1 ∷ 5 ∷ 1 ∷ 4 ∷ [] }
     ensures keyed { set_bounds_by_keys shop_schema by_region region_tables 1 ≡ 1 ∷ 5 ∷ 1 ∷ 1 ∷ [] }
@@ -36,15 +36,15 @@ pub fn orders_of_a_region()
     ensures undeclared { set_bounds_by_keys undeclared_schema by_region region_tables 1 ≡ 1 ∷ 5 ∷ 1 ∷ 4 ∷ [] }
 {}
 
-/// Workers and their bosses, who are workers too. One boss, of two workers, is in region 3. The bound of both entries is 3 without carried
-/// conjuncts and 2 with them.
+/// Workers and their bosses, who are workers too. One boss, of two workers, is in region 3. The bound of the set of both entries is 3 without
+/// carried conjuncts and 2 with them.
 pub fn workers_of_a_region()
     ensures plain { set_bounds_of by_manager worker_tables 1 ≡ 1 ∷ 5 ∷ 1 ∷ 3 ∷ [] }
     ensures keyed { set_bounds_by_keys worker_schema by_manager worker_tables 1 ≡ 1 ∷ 5 ∷ 1 ∷ 2 ∷ [] }
 {}
 
-/// Trades have a buyer and a payer, which are two references to one table. The only customer of region 3 buys twice and pays twice, and does
-/// both in one trade. The bound of all three entries is 3 without carried conjuncts and 1 with them.
+/// Trades have a buyer and a payer, which are two references to one table. The only customer of region 3 is the buyer of two trades and the payer
+/// of two trades; one trade is in both pairs. The bound of the set of all three entries is 3 without carried conjuncts and 1 with them.
 pub fn trades_of_a_region()
     ensures plain { set_bounds_of by_both trade_tables 1 ≡ 1 ∷ 5 ∷ 1 ∷ 3 ∷ 1 ∷ 3 ∷ 1 ∷ 3 ∷ [] }
     ensures keyed { set_bounds_by_keys trade_schema by_both trade_tables 1 ≡ 1 ∷ 5 ∷ 1 ∷ 2 ∷ 1 ∷ 2 ∷ 1 ∷ 1 ∷ [] }

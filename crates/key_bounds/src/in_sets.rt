@@ -27,7 +27,7 @@ fn is_carried(carried: &Carried, subset: EntrySet, entry: u8) -> bool
     carried.edge.left.entry == entry
 }
 
-// The least of `rows` and the carried row bound, if that counts for the entry in the set; otherwise `rows`.
+// The lesser of `rows` and the carried row bound, if this bound counts for the entry in the set; otherwise `rows`.
 fn fewer(rows: u64, one: &Carried, subset: EntrySet, entry: u8) -> u64
     ensures { result ≡ fewer_by subset entry one.now rows }
 {
@@ -60,7 +60,7 @@ fn list_at(lists: &EntryLists, place: Place) -> &Pieces
     }
 }
 
-// The list `list`, lowered to the carried list of its column if that counts for the entry in the set.
+// The list `list`, lowered to the carried list of its column if this list counts for the entry in the set.
 fn narrowed(list: Pieces, one: &Carried, subset: EntrySet, place: Place) -> Result<Pieces, NoMemory>
     requires small { sum list < 2 ^ 64 }
     requires carries { CarriesTo place one.now }

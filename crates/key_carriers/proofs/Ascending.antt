@@ -1,4 +1,4 @@
--- If cells ascend by one, the place of a cell is its distance from the first cell.
+-- If cells ascend by one, the index of a cell is its distance from the first cell.
 use Rattle.std.proofs.Common.{◌≡◌, ℕ, ◌+◌, ◌-◌, ◌<◌, ◌≤◌, List, [], ◌∷◌, ◌++◌, length, map, take, get_or, Option, None, Some, ap, sym, ◌∙◌, arith}
 use Rattle.std.specs.List.{range_with_len}
 use Rattle.std.proofs.lemmas.List.{map-id, take_more}

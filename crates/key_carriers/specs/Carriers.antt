@@ -18,7 +18,7 @@ no_table = record { name = []; columns = []; keys = []; references = [] }
 abbrev pub table_at : Schema → ℕ → Table
 table_at schema table = slice_index_or schema.tables table no_table
 
--- the list has this column alone
+-- the list has this column and no other
 abbrev pub is_just : ℕ → List ℕ → Bool
 is_just column [] = false
 is_just column (first ∷ []) = first == column
@@ -28,7 +28,7 @@ is_just column (first ∷ (second ∷ columns)) = false
 abbrev pub is_declared_key : Schema → ℕ → ℕ → Bool
 is_declared_key schema table column = list_any (is_just column) (table_at schema table).keys
 
--- the reference is from this column alone to column `target` alone of the table
+-- the reference is from just this column to just the column `target` of the table
 abbrev pub leads : ℕ → ℕ → ℕ → Reference → Bool
 leads column table target reference = is_just column reference.columns && (reference.table == table && is_just target reference.targets)
 

@@ -44,7 +44,7 @@ fn chained(alloc: Global, cells: &[u64]) -> Result<Chains, NoMemory>
     Ok(chains)
 }
 
-// The place of a cell among `rows` cells that start with `first` and go up by one, if the cell is among them.
+// The index of a cell among `rows` cells that start with `first` and go up by one, if the cell is among them.
 fn place_from(first: u64, rows: u64, cell: u64) -> Option<u32>
     requires few { rows ≤ most_rows }
     ensures { IsPlaceOf (range_with_len first rows) cell 0 result }

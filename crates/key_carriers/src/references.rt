@@ -12,7 +12,7 @@ use query_types::Query;
 use schema_types::{Reference, Schema};
 use std::alloc::Global;
 
-// Whether a list has this column alone.
+// Whether a list has this column and no other.
 fn is_just(column: u32, columns: &[u32]) -> bool
     ensures { result ≡ is_just column columns.now }
 {
@@ -22,7 +22,7 @@ fn is_just(column: u32, columns: &[u32]) -> bool
     }
 }
 
-// Whether a reference is from this column alone to column `target` alone of the table.
+// Whether a reference is from just this column to just the column `target` of the table.
 fn leads(column: u32, table: u32, target: u32, reference: &Reference) -> bool
     ensures { result ≡ leads column table target reference.now }
 {
@@ -143,8 +143,8 @@ fn turned(edge: Edge) -> Edge
 }
 
 /// The equalities along which conjuncts are carried, in text order. Each has the carrying entry on its right, and on its left the entry to which
-/// it carries its own conjuncts. The schema declares a reference from the left column to the right one, which alone is a PRIMARY KEY or UNIQUE.
-/// Some conjunct names the right entry alone. `parts` is what `split` gives for the query.
+/// it carries its own conjuncts. The schema declares a reference from the left column to the right one, which by itself is a PRIMARY KEY or UNIQUE.
+/// Some conjunct names only the right entry. `parts` is what `split` gives for the query.
 pub fn carriers(
     alloc: Global,
     schema: &Schema,

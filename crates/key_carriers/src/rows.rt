@@ -46,7 +46,7 @@ impl Widened {
 }
 
 /// The rows of an equality's left entry that refer to a row of its right entry, each with the row to which it refers. For each row of the left
-/// entry, that row is looked up once, by its cell. Time and memory are linear in the rows of both entries.
+/// entry, the row to which it refers is looked up once, by the cell. Time and memory are linear in the rows of both entries.
 pub fn widened_rows(alloc: Global, db: &Database, edge: Edge) -> Result<Widened, NoMemory>
     requires tables { AreTables db.now }
     requires kinds { AreOfOneKind db.now edge }

@@ -1,4 +1,4 @@
--- What carried lists tell.
+-- When bounds that were made (`Carried`) are the carried row bound and the carried lists.
 use Rattle.std.specs.Prelude.{◌≡◌, ℕ, List, map, All, Some}
 use Rattle.berge_tree.specs.declared.edges.Edge.{Edge}
 use Rattle.query_types.specs.declared.types.Query.{Query}

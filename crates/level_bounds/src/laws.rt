@@ -29,7 +29,7 @@ ghost use Rattle.level_bounds.specs.Scans.{BoundsEachScan, BoundsScans, equaliti
 ghost use Rattle.level_bounds.specs.Whole.{AreCompressed, keys_of, uncompressed};
 
 /// The planner and the meaning of SQL agree which conjuncts are an entry's own. The entry's scan has the rows for which all
-/// of its own conjuncts hold; `local_of` has their places in the query.
+/// of its own conjuncts hold; `local_of` has the numbers of these conjuncts.
 pub fn scans_ask_local_conjuncts()
     ensures same { (tables : Tables) (entry : ℕ) (cond : Cond) → names_just_it (conjunct_of tables cond) entry ≡ names_just entry cond }
     ensures scan { (query : Query) (tables : Tables) (entry : ℕ)

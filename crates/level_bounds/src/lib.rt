@@ -1,4 +1,4 @@
-//! Levels and their bounds: the laws that join what a query means with the bounds of its sets of entries.
+//! Levels and their bounds: the laws that connect what a query means with the bounds of its sets of entries.
 //!
 //! In: what a query means over its tables (`sql_meaning`), and the bound of a set of entries (`tree_bounds`). Out: laws;
 //! nothing here runs.

@@ -54,7 +54,7 @@ most_budget = 20000000
 abbrev pub usual_budget : ℕ
 usual_budget = 1000000
 
--- the most rows of a table that lists take, and the greatest budget that searches take, whatever a program allows. Twelve bounds within
+-- the most rows of a table that lists accept, and the greatest budget that searches accept, whatever a program allows. Twelve bounds within
 -- this budget have a sum below 2^63
 abbrev pub greatest_rows : ℕ
 greatest_rows = 2 ^ 48

@@ -4,7 +4,7 @@ ghost use Rattle.limits.specs.Profile.{most_accuracy};
 use std::marker::Model;
 
 /// The accuracy of compressed lists, from 1 to 64. A higher accuracy gives lists that are nearer to the uncompressed ones and have more
-/// runs. Contracts speak of an accuracy by its number.
+/// runs. In contracts an accuracy is its number.
 #[derive(Clone, Copy)]
 pub struct Accuracy {
     value: u8,

@@ -46,10 +46,10 @@ pub const LEAST_BUDGET: u64 = 1;
 /// The greatest budget, in rows.
 pub const MOST_BUDGET: u64 = 20_000_000;
 
-/// The most rows of a table that lists, bounds and compression take, whatever a program allows.
+/// The most rows of a table that lists, bounds and compression accept, whatever a program allows.
 pub const GREATEST_ROWS: u64 = 1 << 48;
 
-/// The greatest budget that the searches take, in rows, whatever a program allows.
+/// The greatest budget that the searches accept, in rows, whatever a program allows.
 pub const GREATEST_BUDGET: u64 = 1 << 59;
 
 /// The default budget, in rows.

@@ -1,5 +1,5 @@
--- Two parsers are alike on some lists of tokens if they answer the same for each of these lists. If the parts of two parsers are alike there, and the
--- parsers are put together in the same way, they are alike there too.
+-- Two parsers are alike on some lists of tokens if they answer the same for each of these lists. Two parsers that are built in the same way, from
+-- parts that are alike on these lists, are alike on them too.
 use Rattle.std.proofs.Common.{◌≡◌, ℕ, zero, suc, cond, Option, Some, None, List, [], ◌∷◌, ◌++◌, length, refl, ap, subst, ◌∙◌}
 use Rattle.ll_grammars.specs.declared.lexeme.Lexeme.{Lexeme}
 use Rattle.ll_grammars.specs.declared.terminal.Terminal.{Terminal}

@@ -1,5 +1,5 @@
--- These lemmas say what a parser that reads a language answers for a whole list of tokens: the value that the tokens spell, or the place where they
--- go wrong.
+-- These lemmas say what a parser that reads a language answers for a whole list of tokens: the value that the tokens spell, or the byte at which
+-- they go wrong.
 use Rattle.std.proofs.Common.{◌≡◌, ℕ, true, false, List, [], ◌∷◌, Option, Some, None, refl, sym, ap, subst, ◌∙◌}
 use Rattle.ll_grammars.specs.declared.lexeme.Lexeme.{Lexeme}
 use Rattle.ll_grammars.specs.Language.{Language, GoesWrong}

@@ -1,4 +1,4 @@
--- If all tokens of a text have a property, the text's value has a property that follows. There is a lemma for each way to build a language.
+-- If all tokens of a text have a property, the text's value has a property that follows from it. There is a lemma for each way to build a language.
 use Rattle.std.proofs.Common.{inl, inr, All, Contains, IfSome, List, [], ◌∷◌, ◌++◌, Option, Some, None, subst}
 use Rattle.std.proofs.lemmas.List.Elements.{All-nil, All-cons, All-head, All-tail, All-contains_itself}
 use Rattle.ll_grammars.specs.declared.lexeme.Lexeme.{Lexeme}

@@ -1,4 +1,5 @@
--- If all tokens of a text have a property, the text's value has a property that follows. There is a lemma for each form of rules that grammars share.
+-- If all tokens of a text have a property, the text's value has a property that follows from it. There is a lemma for each form of rules that
+-- grammars share.
 use Rattle.std.proofs.Common.{All, [], ◌∷◌}
 use Rattle.std.proofs.lemmas.List.Elements.{All-cons}
 use Rattle.ll_grammars.specs.declared.lexeme.Lexeme.{Lexeme}

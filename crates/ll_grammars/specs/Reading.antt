@@ -1,4 +1,4 @@
--- Predictive parsers. A parser gives a value or no value, and the tokens from the place on where it stopped reading. It decides by the next token alone.
+-- Predictive parsers. A parser gives a value or no value, and the tokens that it hasn't read. It decides by the next token alone.
 use Rattle.std.specs.Prelude.{ℕ, zero, suc, Bool, false, if◌then◌else◌, Option, Some, None, List, [], ◌∷◌, ◌++◌, length}
 use Rattle.ll_grammars.specs.declared.lexeme.Lexeme.{Lexeme}
 use Rattle.ll_grammars.specs.declared.terminal.Terminal.{Terminal}

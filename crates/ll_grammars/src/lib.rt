@@ -1,9 +1,10 @@
 //! Formal languages over tokens, and predictive parsers of them: the theory on which the grammars of
-//! schema and query texts stand. Tokens come in, as lexemes; a grammar's crate makes trees of them.
+//! schema and query texts are built. Tokens come in as lexemes; a grammar's crate makes trees of them.
 //!
 //! A language relates lists of tokens to the values that they spell. It is built from single terminals (`one`) by sequence (`▸`), choice (`∪`),
 //! option (`maybe`) and repetition (`many`). A viable prefix is a beginning of a list that spells a value. A list that spells no value goes wrong at
-//! the first token with which the tokens so far are no viable prefix (`IsSyntaxPlace`). This place depends on the language alone, not on a parser.
+//! the first token for which the tokens up to it, itself included, are no viable prefix (`IsSyntaxPlace`). Which token this is depends on the
+//! language alone, not on a parser.
 //!
 //! A grammar's crate writes each rule four times:
 //!

@@ -82,7 +82,7 @@ impl<'a> Reader<'a> {
         is_taken
     }
 
-    /// Where the next token begins, or the text's end if there is none.
+    /// The byte at which the next token begins, or `end`, the text's end, if no token is left.
     pub fn place(&self, end: u32) -> u32
         ensures { result ≡ place self.now end }
     {

@@ -1,7 +1,7 @@
 //! Why a list of tokens got no value.
 
-/// Why a list of tokens got no value. `At` is the byte at which the text goes wrong: the start of the first token with which the tokens so far are no
-/// beginning of a text of the language. If more tokens are needed, `At` is the text's length. `NoMemory`: memory ran out.
+/// Why a list of tokens got no value. `At` is the byte at which the text goes wrong: the start of the first token for which the tokens up to it,
+/// itself included, begin no text of the language. If more tokens are needed, `At` is the text's length. `NoMemory`: memory ran out.
 #[derive(Clone, Copy, Debug, PartialEq, Eq)]
 pub enum SyntaxError {
     At(u32),

@@ -73,7 +73,7 @@ pub const NAME: &[Terminal] = &[
 ];
 
 impl Terminal {
-    /// The terminal's number, which tells it from the others.
+    /// The terminal's number; different terminals have different numbers.
     pub fn code(self) -> u8
         ensures { result ≡ code self }
     {

@@ -1,4 +1,4 @@
--- The tree of two entries is a plan.
+-- The join tree of two entries satisfies the rules of a tree plan, and its bounds are within the limit of rows.
 use Rattle.std.proofs.Common.{◌≡◌, ℕ, zero, suc, ◌-◌, ◌*◌, ◌<◌, ◌==◌, List, [], ◌∷◌, length, refl, sym, subst, arith}
 use Rattle.std.specs.List.{count_by}
 use Rattle.limits.specs.Profile.{most_rows}

@@ -55,7 +55,7 @@ fn sink(alloc: Global) -> Result<MemSink, NoMemory> {
     MemSink::new(alloc, 50_000, Seq::new(alloc))
 }
 
-// Only makes the call, so that its long contract counts in one short function alone.
+// Makes the call and nothing else, so that only one short function has to deal with the call's long contract.
 fn code_of(
     alloc: Global,
     words: &[&str],

@@ -2,7 +2,7 @@
 use base_io::NoMemory;
 use std::alloc::Global;
 
-/// A text as it is, or a CSV file of a column X, in which one record stands `count` times.
+/// A text as it is, or a CSV file with one column X, which has the same record `count` times.
 #[derive(Clone, Copy)]
 pub enum Text<'a> {
     Whole(&'a [u8]),
@@ -48,7 +48,7 @@ const FILE_OF_THREE: Text<'static> = Text::Whole(
     b"safebound-stats 1 1\ntable x4b 3\npair x58 x58\nwhole 1*3\nfrequent 1 1*1\nfrequent 2 1*1\nfrequent 3 1*1\nrest -\ncut 1\ncut 1\ncut 1\ncut 1\ncut 1\ncut 1\ncut 1\ncut 1\ncut 1\ncut 1\ncut 1\ncut 2\ncut 2\ncut 2\ncut 2\ncut 2\ncut 2\ncut 2\ncut 2\ncut 2\ncut 2\ncut 2\ncut 3\ncut 3\ncut 3\ncut 3\ncut 3\ncut 3\ncut 3\ncut 3\ncut 3\ncut 3\nnode -\nnode -\nnode -\nnode -\nnode -\nnode -\nnode -\nnode -\nnode -\nnode -\nnode 1*1\nnode -\nnode -\nnode -\nnode -\nnode -\nnode -\nnode -\nnode -\nnode -\nnode -\nnode 1*1\nnode -\nnode -\nnode -\nnode -\nnode -\nnode -\nnode -\nnode -\nnode -\nnode 1*1\nnode -\nnode -\nnode -\nnode -\nnode -\nnode 1*1\nnode -\nnode -\nnode -\nnode -\nnode 1*1\nnode -\nnode -\nnode -\nnode -\nnode 1*1\nnode -\nnode -\nnode 1*1\nnode -\nnode -\nnode 1*1\nnode -\nnode 1*1\nnode -\nnode 1*1\nnode 1*1\nnode 1*1\nnode 1*1\nnode 1*2\nnode 1*3\nend\n",
 );
 
-// The same file after a row with 99 is appended, which isn't among the frequent values.
+// The same file after a row with the value 99 is appended. 99 isn't among the frequent values.
 const FILE_OF_FOUR: Text<'static> = Text::Whole(
     b"safebound-stats 1 1\ntable x4b 4\npair x58 x58\nwhole 2*1 1*2\nfrequent 1 1*1\nfrequent 2 1*1\nfrequent 3 1*1\nrest 1*1\ncut 1\ncut 1\ncut 1\ncut 1\ncut 1\ncut 1\ncut 1\ncut 1\ncut 1\ncut 1\ncut 1\ncut 2\ncut 2\ncut 2\ncut 2\ncut 2\ncut 2\ncut 2\ncut 2\ncut 2\ncut 2\ncut 2\ncut 3\ncut 3\ncut 3\ncut 3\ncut 3\ncut 3\ncut 3\ncut 3\ncut 3\ncut 3\nnode -\nnode -\nnode -\nnode -\nnode -\nnode -\nnode -\nnode -\nnode -\nnode -\nnode 1*1\nnode -\nnode -\nnode -\nnode -\nnode -\nnode -\nnode -\nnode -\nnode -\nnode -\nnode 1*1\nnode -\nnode -\nnode -\nnode -\nnode -\nnode -\nnode -\nnode -\nnode -\nnode 2*1\nnode -\nnode -\nnode -\nnode -\nnode -\nnode 1*1\nnode -\nnode -\nnode -\nnode -\nnode 1*1\nnode -\nnode -\nnode -\nnode -\nnode 2*1\nnode -\nnode -\nnode 1*1\nnode -\nnode -\nnode 1*1\nnode -\nnode 2*1\nnode -\nnode 1*1\nnode 1*1\nnode 2*1\nnode 1*1\nnode 2*1 1*1\nnode 2*1 1*2\nend\n",
 );

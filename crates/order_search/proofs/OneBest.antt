@@ -30,7 +30,7 @@ one_best bounds n a b p q =
 one_least : (bounds : List ℕ) (n a b : ℕ) → IsLeastCost bounds n a → IsLeastCost bounds n b → a ≡ b
 one_least bounds n a b p q = omega (arith, p.none_cheaper q.order q.is_order, q.none_cheaper p.order p.is_order, p.costs, q.costs)
 
--- ---- refusals, whatever `IsLeast` says of the least cost
+-- ---- refusals, for any predicate `IsLeast`
 
 pub none_refused : (IsLeast : ℕ → Type 0) (budget cost : ℕ) (e : PlanError) → budget ≤ 2 ^ 59 → cost ≤ budget → ((least : ℕ) → IsLeast least → least ≤ cost) → IsCauseOf IsLeast budget e → e ≡ error.NoMemory
 none_refused IsLeast budget cost (error.Budget least) few within below cause = absurd (omega (arith, below least cause.0))

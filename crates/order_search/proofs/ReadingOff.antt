@@ -66,7 +66,7 @@ first_none w bounds all left none = record {
   none_earlier = λ other way same. tt;
 }
 
--- A sum that is too great becomes the greatest weight. So both sums have to be below it.
+-- if sums of one bound and two rests are equal, the rests are equal. The sums have to be below the greatest weight, which every larger sum becomes
 behind_is : (most bound a b : ℕ) → combined (weight.SumWithin most) bound a ≡ combined (weight.SumWithin most) bound b → combined (weight.SumWithin most) bound a < 2 ^ 128 - 1 → a ≡ b
 behind_is most bound a b same light = elim (cases_lt most bound) [
   | inl beyond ↦ absurd (omega (arith, joined-beyond most bound a beyond))

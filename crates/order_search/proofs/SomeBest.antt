@@ -12,7 +12,7 @@ use Rattle.entry_sets.proofs.Bits.{entry_below, less_without}
 use Rattle.order_search.proofs.NoWorse.{NoWorse, best_of, both, either, itself}
 use Rattle.order_search.proofs.WholeWays.{order_from_way, way_from_order}
 
--- ---- the best way to go on after a front
+-- ---- the best way to continue an order that begins with the entries `front`
 
 record Best (bounds front : List ℕ) (left : ℕ) : Type 0 where
   way : List ℕ

@@ -1,4 +1,4 @@
--- Bounds of all sets of three or of four entries, for worked examples.
+-- A bound for each set of three or four entries, for worked examples.
 use Rattle.std.specs.Prelude.{ℕ, ◌-◌, ◌^◌, List, [], ◌∷◌}
 
 abbrev pub three_entries : List ℕ

@@ -1,5 +1,5 @@
--- Orders in which entries are joined, and which order is best. Bounds are given for every set of entries, each at the number whose bits are
--- the set.
+-- Orders in which entries are joined, and which order is best. `bounds` has a bound for every set of entries. The index of a set is the number
+-- whose bits are the set: that of {0, 2} is 5.
 use Rattle.std.specs.Prelude.{◌≡◌, ℕ, ◌+◌, ◌^◌, ◌<◌, ◌≤◌, ◌⊎◌, max, List, [], ◌∷◌, map, slice_index, ⊤}
 use Rattle.std.specs.List.{sum}
 use Rattle.entry_sets.specs.Sets.{set_of}

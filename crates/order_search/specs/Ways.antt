@@ -16,7 +16,7 @@ abbrev pub combined : Weight → ℕ → ℕ → ℕ
 combined weight.Greatest bound behind = max bound behind
 combined (weight.SumWithin most) bound behind = if nat_le bound most then (min (bound + behind) top_bound) else top_bound
 
--- the bound of the set of joined entries after the entry is joined next. These are all entries but those that are then left
+-- the bound of the set of joined entries after `entry` is joined next. The set has all entries except those that are still left then
 abbrev pub bound_with : List ℕ → ℕ → ℕ → ℕ → ℕ
 bound_with bounds all left entry = slice_index bounds (all - (left - 2 ^ entry))
 

@@ -10,7 +10,7 @@ ghost use Rattle.entry_sets.specs.Sets.{set_of};
 ghost use Rattle.order_search.specs.declared.refusal.PlanError.{PlanError};
 ghost use Rattle.order_search.specs.declared.refusal.PlanError.TheVariants as error;
 
-/// The number of a set of different entries has exactly the bits of these entries.
+/// In the number of a set of different entries, bit i is 1 if and only if entry i is in the set.
 pub fn sets_have_their_bits()
     ensures { (entries : List ℕ) (entry : ℕ) → IsDistinct ◌==◌ entries → (bit_at (set_of entries) entry ≡ 1) ↔ Contains entries entry }
 {}

@@ -1,8 +1,8 @@
 //! The best order. From the bound of every set of entries to the left-deep order in which they are joined.
 //!
-//! In: a bound for each set of the FROM entries, at the number whose bits are the set, and the bound of each entry's scan. The cost of an order is
-//! the greatest bound among its prefixes. Out: the order of least cost, with the bounds of its prefixes. If the least cost is above the budget, there
-//! is no order: the answer is this cost, or that it is past 128 bits.
+//! In: a bound for each set of FROM entries, and the bound of each entry's scan. The bound of the set {0, 2} has the index 5, which is 101 in binary.
+//! The cost of an order is the greatest bound among its prefixes. Out: the order of least cost, with the bounds of its prefixes. If the least cost is
+//! above the budget, there is no order: the answer is this cost, or that it is past 128 bits.
 //!
 //! Callers cite `IsBest`, `levels`, `cost` and `IsPlan` (from the crate plans) for a plan, and `IsCause` for a refusal.
 //!

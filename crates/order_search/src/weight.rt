@@ -10,7 +10,7 @@ use limits::TOP_BOUND;
 pub(crate) enum Weight {
     /// The greatest of the bounds.
     Greatest,
-    /// The sum of the bounds, at most TOP_BOUND, if each bound is at most this number; otherwise TOP_BOUND.
+    /// The sum of the bounds, or TOP_BOUND if the sum is greater. If any bound is above this number, the weight is TOP_BOUND too.
     SumWithin(u128),
 }
 

@@ -38,7 +38,7 @@ query_refusal (query.Kind at) = refusal.Query query_cause.Kind at
 query_refusal (query.Limit which found) = refusal.Limit which file.Query found
 query_refusal query.NoMemory = refusal.Usage
 
--- the refusal of a table's file; the table has this place in the schema
+-- the refusal of a table's file. `number` is the table's number in the schema
 abbrev pub table_refusal : ℕ → TableError → Refusal
 table_refusal number (table.Utf8 at) = refusal.Table number (table_cause.Utf8 at)
 table_refusal number (table.Header column) = refusal.Table number (table_cause.Header column)

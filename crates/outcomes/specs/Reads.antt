@@ -1,4 +1,4 @@
--- What a step that reads from a store answers.
+-- What a step that reads from a store answers. `stage` is the definition of the step: for the files of the store it gives a value or a refusal.
 use Rattle.std.specs.Prelude.{ℕ, ◌≡◌, ◌≢◌, ◌≤◌, Option, None, Some, Result, Ok, Err, ⊤}
 use Rattle.base_io.specs.Causes.{Rose}
 use Rattle.base_io.specs.Files.{Files}
@@ -39,7 +39,7 @@ StopsBy stage (ending.Refused r) = (stage ≡ Err r) × IsOfWhatIsThere r × (r 
 StopsBy stage (ending.Fault file) = ⊥
 StopsBy stage ending.NoMemory = ⊤
 
--- `other` is the one file that a step reads, `file`
+-- a step that reads only `file`: `other` is this file
 abbrev pub AtFile : FileId → Files → FileId → Type 0
 AtFile file files other = other ≡ file
 

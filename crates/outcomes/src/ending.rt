@@ -135,7 +135,7 @@ impl From<StatsError> for Ending {
     }
 }
 
-/// How the reading of a table's file ends with this error. The table is given by its place in the schema.
+/// How the reading of a table's file ends with this error. `table` is the table's number in the schema.
 pub fn table_ending(table: u32, error: TableError) -> Ending
     ensures { result ≡ ending_of table error }
 {

@@ -1,6 +1,6 @@
 //! The files and the streams of a run.
 
-/// A file that a run reads. A table is named by its place in the schema.
+/// A file that a run reads. `Table` has the number of the table in the schema.
 #[derive(Clone, Copy, Debug, PartialEq, Eq)]
 pub enum FileId {
     Schema,

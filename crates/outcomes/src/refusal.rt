@@ -5,7 +5,7 @@ ghost use Rattle.outcomes.specs.Statuses.{code_of_refusal};
 use crate::FileId;
 use schema_types::LimitKind;
 
-/// What is wrong with a schema text at a place.
+/// What is wrong with a schema text at some offset.
 #[derive(Clone, Copy, Debug, PartialEq, Eq)]
 pub enum SchemaCause {
     Syntax,
@@ -13,7 +13,7 @@ pub enum SchemaCause {
     Nullable,
 }
 
-/// What is wrong with a query text at a place.
+/// What is wrong with a query text at some offset.
 #[derive(Clone, Copy, Debug, PartialEq, Eq)]
 pub enum QueryCause {
     Syntax,
@@ -41,7 +41,7 @@ pub enum StatsCause {
     Missing,
 }
 
-/// A refusal, which follows from the words and the files alone. Places are offsets in bytes, from 0.
+/// A refusal, which follows from the words and the files alone. `at` is an offset in bytes, from 0, except in `Stats`.
 #[derive(Clone, Copy, Debug, PartialEq, Eq)]
 pub enum Refusal {
     /// The words are no command of the program.
@@ -50,17 +50,17 @@ pub enum Refusal {
     Missing {
         file: FileId,
     },
-    /// The schema text is refused at this place.
+    /// The schema text is refused at this offset.
     Schema {
         cause: SchemaCause,
         at: u32,
     },
-    /// The query text is refused at this place.
+    /// The query text is refused at this offset.
     Query {
         cause: QueryCause,
         at: u32,
     },
-    /// The file of the table with this place in the schema is refused.
+    /// The file of the table with this number in the schema is refused.
     Table {
         table: u32,
         cause: TableCause,

@@ -1,4 +1,4 @@
--- The number of binary digits of n is the least exponent for which the power of 2 is above n. Counting leading zeros gives the same number.
+-- The number of binary digits of n is the least k with n < 2 ^ k. Counting leading zeros gives the same number.
 use Rattle.std.proofs.Common.{◌≡◌, ℕ, zero, suc, ◌+◌, ◌*◌, ◌/◌, ◌^◌, ◌<◌, ◌≤◌, refl, ap, ◌∙◌, arith, inl, inr, w64}
 use Rattle.std.proofs.Math.Nat.{pow-suc, pow-zero}
 use Rattle.std.proofs.Math.Pow.{pow_mono}

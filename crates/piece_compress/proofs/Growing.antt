@@ -13,7 +13,7 @@ use Rattle.degree_sequences.proofs.FewRuns.{stops}
 use Rattle.degree_sequences.proofs.Ranks.{rank_reaches, rank_least}
 use Rattle.degree_sequences.proofs.RunningSums.{running_sum-mono, running_sum-suc, running_sum-past, running_sum-le-sum}
 
--- ---- elements at places, and their heads
+-- ---- elements at indices, and their heads
 
 pub is_element : (f : List ℕ) (i m : ℕ) → running_sum f i ≤ m → m < sum f → i < length f
 is_element f i m h j = elim (cases_lt i (length f)) [ inl l ↦ l | inr l ↦ absurd (omega (arith, running_sum-past f i l)) ]
@@ -90,7 +90,7 @@ growing_none k f = record {
   short = omega arith;
 }
 
--- the rows of the next element are covered already, so the result stays
+-- the rows of the next element are covered already, so the result doesn't change
 pub growing_passed : (k : ℕ) (f : List ℕ) (i : ℕ) (pieces : List ℕ) (value count head rows covered head' rows' : ℕ) → IsFalling f → Growing k f i pieces value count head rows covered
     → i < length f → head' ≡ next_head k head (get_or f i 0) → rows' ≡ rows + get_or f i 0 → rows' ≤ covered
     → Growing k f (suc i) pieces value count head' rows' covered

@@ -203,7 +203,7 @@ module _ (k : ℕ) (ps : List Piece) (j : ℕ) (pieces : List ℕ) (value count 
           (omega (arith, rows_is)) covered_is close more;
     }
 
-    -- the rows of the run are covered already, so the result stays
+    -- the rows of the run are covered already, so the result doesn't change
     pub run_skipped : rows' ≤ covered → GrowingRuns k ps (j + 1) pieces value count h rows' covered
     run_skipped enough = run_passed 0 covered pieces value count (omega (arith, zero-mul h)) enough (λ some. absurd (omega arith)) (refl, refl, refl)
 

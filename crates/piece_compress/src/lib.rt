@@ -1,6 +1,6 @@
 //! Compression: from a degree list to a list of few pieces, which dominates the same keys.
 //!
-//! In: the degree list of a column, or of some of its rows. It can be as long as the column has different keys. Out: a list of few pieces. Statistics
+//! In: the degree list of a column, or of some of its rows. It has one element for each different key. Out: a list of few pieces. Statistics
 //! keep this list, and bounds are made from it. At accuracy K each of its elements exceeds the degree at the same rank by at most one K-th, and its
 //! sum is the sum of the degrees. Each of its runs has the value of one degree, the run's head. This compression by heads is this project's own.
 //! Domination is that of SafeBound (SIGMOD 2023).
@@ -105,8 +105,8 @@ fn first_degree(falling: &Pieces) -> u64
     runs[0].value as u64
 }
 
-// A degree that lies far enough below the head is the next head.
-// Otherwise the head stays. At accuracy K a degree is far enough below it if K + 1 times the degree is below K times the head.
+// A degree far enough below the head is the next head. Otherwise the head stays.
+// At accuracy K a degree is far enough below the head if K + 1 times the degree is below K times the head.
 fn head_after(head: u64, degree: u64, accuracy: Accuracy) -> u64
     requires head { head ≤ greatest_rows }
     requires degree { degree ≤ head }

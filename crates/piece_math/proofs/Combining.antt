@@ -61,7 +61,7 @@ length-combined-le Maximum (x ∷ s) (y ∷ t) = omega (arith, length-combined-l
 abbrev pub goal_of : Combination → List Piece → List Piece → List ℕ
 goal_of how a b = map saturated (combined_by_rank how (expanded a) (expanded b))
 
--- this is the state of the walk: the list is built up to the rank of the places
+-- this is the state of the walk: the list is built up to the rank of the positions
 pub record Combined (how : Combination) (a b : List Piece) (places : Places) (list : List ℕ) : Type 0 where
   pub walked : Walked a b places
   pub built : list ≡ take walked.rank (goal_of how a b)

@@ -1,5 +1,5 @@
--- A composition may be computed from weights that are saturated (numbers above 2 ^ 128 - 1 become 2 ^ 128 - 1) and trimmed (zeros at the end are left
--- out).
+-- A composition may be computed from weights that are saturated and trimmed. Saturated: numbers above 2 ^ 128 - 1 become 2 ^ 128 - 1. Trimmed: zeros
+-- at the end are left out.
 use Rattle.std.proofs.Common.{Result, ◌≡◌, ℕ, suc, ◌+◌, ◌*◌, ◌<◌, ◌≤◌, List, [], ◌∷◌, length, map, drop, replicate, refl, ap, sym, ◌∙◌, sum, arith}
 use Rattle.std.specs.List.{AllByRecursion, All}
 use Rattle.std.proofs.lemmas.Result.{IfOk-weaker}

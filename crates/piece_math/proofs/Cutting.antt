@@ -51,7 +51,7 @@ cut_no_longer s n r fall over =
     (element_from_sums (cut_at s n) r 0
     (omega (arith, running_sum-cut_at s n r, running_sum-cut_at s n (r + 1), running_sum-past s r over, running_sum-past s (r + 1) (omega arith))))
 
--- this is the state of the loop: the cut list is built up to piece i, and `left` of n is left
+-- this is the state of the loop: the cut list is built up to piece i, and `left` is what remains of n
 pub record CutSoFar (ps : List Piece) (n i left : ℕ) (list : List ℕ) : Type 0 where
   pub rank : ℕ
   pub before : IsBefore ps i rank
@@ -153,7 +153,7 @@ module _ {ps : List Piece} (are : ArePieces ps) {n i left : ℕ} {list : List �
         run_built (built_kept q (omega arith) (omega arith) put1) (cut_run q rest within_piece split less) cut_positive put2
         ∙ take_all (so_far.rank + q + 1) (cut_at (expanded ps) n) (cut_over q rest within_piece split less)
 
--- ---- what is left of n, divided by a value
+-- ---- what remains of n, divided by a value
 
 pub value_positive : (ps : List Piece) (i : ℕ) (d : Piece) → ArePieces ps → i < length ps → 0 < (get_or ps i d).value
 value_positive ps i d are h = go ps i are.falls h

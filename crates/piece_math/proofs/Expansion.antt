@@ -141,7 +141,7 @@ runs_after-push v (y ∷ s) n x = omega (arith, runs_after-push y s n x)
 pub runs-push : (s : List ℕ) (n x : ℕ) → runs (s ++ replicate n x) ≤ runs s + 1
 runs-push s n x = omega (arith, runs_after-push 0 s n x)
 
--- ---- the list falls and is positive
+-- ---- the list is in descending order, and its elements are positive
 
 first-run : (n x : ℕ) (s : List ℕ) → get_or s 0 0 ≤ x → get_or (replicate n x ++ s) 0 0 ≤ x
 first-run zero x s h = h

@@ -1,4 +1,4 @@
--- In a falling list each element before index i is at least the element at index i.
+-- In a list in descending order each element before index i is at least the element at index i.
 use Rattle.std.proofs.Common.{ℕ, ◌<◌, ◌≤◌, List, length, get_or, take, arith}
 use Rattle.std.specs.List.{All}
 use Rattle.std.proofs.lemmas.Grind.{get_or_default_zero}

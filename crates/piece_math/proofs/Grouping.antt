@@ -55,7 +55,7 @@ get_or-grouped g u r v h =
     get_or-saturated (trimmed (block_sums (expanded g) (expanded u))) r
     ∙ ap saturated (get_or-trimmed (block_sums (expanded g) (expanded u)) r ∙ block_element (expanded g) (expanded u) r v h)
 
--- ---- places within a piece
+-- ---- positions within a piece
 
 first_left-more : (ps : List Piece) (i used n : ℕ) → i < length ps
     → ((first_left (drop i ps) (used + n)).value ≡ (first_left (drop i ps) used).value) × ((first_left (drop i ps) (used + n)).count ≡ (first_left (drop i ps) used).count - n)
@@ -75,7 +75,7 @@ rest_longer (p ∷ ps) (suc i) used h = rest_longer ps i used (omega arith)
 abbrev pub IsMixed : List Piece → List Piece → Place → Place → Type 0
 IsMixed g u at row = (ahead_of u row).count < (ahead_of g at).value
 
--- this is the state of the walk: the list is built up to the places, and it has few runs
+-- this is the state of the walk: the list is built up to the positions, and it has few runs
 pub record GroupedSoFar (g u : List Piece) (at row : Place) (list : List ℕ) : Type 0 where
   pub rank : ℕ
   pub blocks : rest_from g at ≡ drop rank (expanded g)

@@ -1,4 +1,4 @@
--- These lemmas are about places of a walk along pieces: which elements are ahead of a place, and which place comes next.
+-- These lemmas are about the positions of a walk along pieces: which elements are ahead of a position, and which position comes next.
 use Rattle.std.proofs.Common.{◌≡◌, ℕ, zero, suc, ◌+◌, ◌-◌, ◌^◌, ◌<◌, ◌≤◌, min, List, [], ◌∷◌, ◌++◌, length, get_or, drop, replicate, refl, ap, sym, ◌∙◌, arith, length-append, zero-add, ◌⊎◌, inl, inr}
 use Rattle.std.proofs.Math.Nat.{suc-add}
 use Rattle.std.proofs.Math.Seq.{drop-nil}
@@ -15,7 +15,7 @@ drop-drop zero n s = ap (λ k. drop k s) (sym (zero-add n))
 drop-drop (suc m) n [] = drop-nil n ∙ sym (drop-nil (suc m + n))
 drop-drop (suc m) n (x ∷ s) = drop-drop m n s ∙ ap (λ k. drop k (x ∷ s)) (sym (suc-add m n))
 
--- Past the last piece a place has 2 ^ 64 - 1 zeros ahead. So a walk along two lists can go on to the end of the longer one.
+-- Past the last piece a position has 2 ^ 64 - 1 zeros ahead. So a walk along two lists can go on to the end of the longer one.
 pub first_left-end : (ps : List Piece) (i used : ℕ) → length ps ≤ i → first_left (drop i ps) used ≡ record { value = 0; count = 2 ^ 64 - 1 }
 first_left-end ps i used h = rw (drop_all i ps h) refl
 
@@ -29,7 +29,7 @@ equal_first (p ∷ ps) used k h =
 pub equal_ahead : (ps : List Piece) (place : Place) (k : ℕ) → k < (ahead_of ps place).count → get_or (rest_from ps place) k 0 ≡ (ahead_of ps place).value
 equal_ahead ps place k h = equal_first (drop place.at ps) place.used k h
 
--- ---- the place after
+-- ---- the next position
 
 some_first : (ps : List Piece) → AreRuns ps → (i : ℕ) → 0 < (first_left (drop i ps) 0).count
 some_first [] fall i = rw (drop-nil i) (omega arith)

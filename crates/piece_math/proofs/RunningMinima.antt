@@ -1,4 +1,4 @@
--- Some lists are given by their running sums, as the lesser of two lists is. These lemmas are about the walk that builds the lesser list.
+-- The lesser of two lists is defined by its running sums. These lemmas are about the walk that builds it.
 use Rattle.std.proofs.Common.{◌≡◌, ℕ, zero, suc, ◌+◌, ◌*◌, ◌^◌, ◌<◌, ◌≤◌, min, max, List, [], ◌∷◌, length, get_or, take, refl, ap, sym, ◌∙◌, subst, sum, arith, add-zero}
 use Rattle.std.specs.List.{AllByRecursion}
 use Rattle.std.proofs.lemmas.List.{take_all}
@@ -61,7 +61,7 @@ lesser_ends s t r over_s over_t fs ft =
       running_sum-past t (r + 1) (omega arith),
     )))
 
--- this is the state of the walk: the lesser list is built up to the places, and `left_sum` and `right_sum` are the two running sums there
+-- this is the state of the walk: the lesser list is built up to the positions, and `left_sum` and `right_sum` are the two running sums there
 pub record Lessened (a b : List Piece) (places : Places) (list : List ℕ) (left_sum right_sum : ℕ) : Type 0 where
   pub walked : Walked a b places
   pub left : left_sum ≡ running_sum (expanded a) walked.rank

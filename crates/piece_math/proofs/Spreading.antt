@@ -126,7 +126,7 @@ runs_after-spread b (suc x ∷ g) (h ∷ v) pos =
 
 -- ---- the walk
 
--- this is the state of the walk: the weights are built up to the rows of the places
+-- this is the state of the walk: the weights of the rows before the positions are built
 pub record SpreadSoFar (a b : List Piece) (places : Places) (list : List ℕ) : Type 0 where
   pub walked : Walked a b places
   pub built : list ≡ take (running_sum (expanded a) walked.rank) (trimmed (spread (expanded a) (expanded b)))

@@ -1,4 +1,4 @@
--- A walk goes along two lists rank by rank. Its two places are at the same rank.
+-- A walk goes along two lists rank by rank. Its two positions are at the same rank.
 use Rattle.std.proofs.Common.{◌≡◌, ℕ, ◌+◌, ◌<◌, ◌≤◌, List, [], length, get_or, drop, refl, ap, sym, ◌∙◌, arith, length-drop}
 use Rattle.std.proofs.lemmas.List.{get_or-drop, drop_all}
 use Rattle.std.proofs.Math.Seq.{drop-nil}

@@ -1,4 +1,4 @@
--- A falling list kept as pieces. Each piece stands for equal elements.
+-- A list in descending order, kept as pieces. Each piece stands for equal elements.
 use Rattle.std.specs.Prelude.{◌≡◌, ℕ, ◌+◌, ◌^◌, ◌<◌, ◌≤◌, ⊤, List, [], ◌∷◌, ◌++◌, replicate, length}
 use Rattle.degree_sequences.specs.Runs.{runs}
 use Rattle.piece_math.specs.declared.pieces.Piece.{Piece}
@@ -13,7 +13,7 @@ abbrev pub first_value : List Piece → ℕ
 first_value [] = 0
 first_value (p ∷ ps) = p.value
 
--- each piece is a run of its own: values strictly fall, and values and counts are positive
+-- each piece is a run of its own: values are strictly descending, and values and counts are positive
 abbrev pub AreRuns : List Piece → Type 0
 AreRuns [] = ⊤
 AreRuns (p ∷ ps) = (first_value ps < p.value) × (0 < p.count) × AreRuns ps

@@ -1,4 +1,4 @@
--- Places in pieces, for a walk along a list by its runs.
+-- Positions in pieces (`Place`), for a walk along a list by its runs.
 use Rattle.std.specs.Prelude.{◌≡◌, ℕ, ◌+◌, ◌-◌, ◌^◌, ◌<◌, ◌≤◌, List, [], ◌∷◌, length, drop, slice_index}
 use Rattle.piece_math.specs.declared.pieces.Piece.{Piece}
 use Rattle.piece_math.specs.declared.walk.Place.{Place}
@@ -6,7 +6,7 @@ use Rattle.piece_math.specs.declared.walk.Places.{Places}
 use Rattle.piece_math.specs.declared.walk.Turn.{Turn}
 use Rattle.piece_math.specs.Expanded.{expanded}
 
--- the list from a place on
+-- the list from a position on
 abbrev pub rest_from : List Piece → Place → List ℕ
 rest_from ps place = drop place.used (expanded (drop place.at ps))
 
@@ -15,11 +15,11 @@ abbrev pub first_left : List Piece → ℕ → Piece
 first_left [] used = record { value = 0; count = 2 ^ 64 - 1 }
 first_left (p ∷ ps) used = record { value = p.value; count = p.count - used }
 
--- the equal elements at a place
+-- the equal elements from a position on, within its piece
 abbrev pub ahead_of : List Piece → Place → Piece
 ahead_of ps place = first_left (drop place.at ps) place.used
 
--- a place within pieces, or their end
+-- a position within pieces, or their end
 pub record IsPlace (ps : List Piece) (place : Place) : Type 0 where
   pub within : place.at ≤ length ps
   pub inside : 0 < (ahead_of ps place).count

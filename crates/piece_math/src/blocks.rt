@@ -16,7 +16,7 @@ use crate::weights::{Child, row_weights};
 use base_io::NoMemory;
 use std::alloc::Global;
 
-// The sum of the weights of one block, and the place after the block.
+// The sum of the weights of one block, and the position after the block.
 #[derive(Clone, Copy)]
 struct Block {
     sum: u128,

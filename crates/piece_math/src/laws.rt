@@ -1,8 +1,8 @@
-//! Why bounds are safe: five laws of falling lists.
+//! Why bounds are safe: five laws of lists in descending order.
 //!
-//! Lists have natural numbers of any size, and a list is 0 past its end. Each law says which lists have to fall. Domination is a statement about any
-//! different keys, in any order. No law computes anything: the bodies are empty, and the contract is the law. Products and compositions of dominating
-//! lists are from Degree Sequence Bound (ICDT 2023).
+//! Lists have natural numbers of any size, and a list is 0 past its end. Each law says which lists have to be in descending order (`IsFalling`).
+//! Domination is a statement about any different keys, in any order. No law computes anything: the bodies are empty, and the contract is the law.
+//! Products and compositions of dominating lists are from Degree Sequence Bound (ICDT 2023).
 ghost use Rattle.std.specs.Prelude.{◌≡◌, ℕ, ◌+◌, ◌*◌, ◌≤◌, List, [], ◌∷◌, length, map};
 ghost use Rattle.std.specs.List.{AllByRecursion, AllZip, sum, sum_by, range_with_len};
 ghost use Rattle.degree_sequences.specs.ByRank.{rank_product, rank_product_of};
@@ -15,15 +15,15 @@ ghost use Rattle.degree_sequences.specs.KeyedRows.{ChildKeys, DominatesChild, we
 ghost use Rattle.degree_sequences.specs.RunningSums.{IsAbove};
 
 /// Product dominates: if two lists dominate two weights of the same keys, their product by rank dominates the
-/// weights multiplied key by key. One of the two lists has to fall.
+/// weights multiplied key by key. One of the two lists has to be in descending order.
 pub fn product_dominates()
     ensures { (s t : List ℕ) (v w : ℕ → ℕ) → IsFalling t
         → DominatesWeights s v → DominatesWeights t w → DominatesWeights (rank_product s t) (λ a. v a * w a) }
 {}
 
 /// Composition dominates, for rows that have a parent key and a key for each child. The lists that are composed dominate the parent keys, the keys of
-/// each child, and the class weights of each child's keys. The lists of keys may have different sums: each sum is at least the number of rows,
-/// because the list dominates.
+/// each child, and the class weights of each child's keys. The lists that dominate keys may have different sums. Each sum is at least the number of
+/// rows, because the list dominates.
 pub fn compose_dominates()
     // the composition dominates the weights that the rows give to the parent keys
     ensures keys { (parent parent_keys : List ℕ) (lists : List ChildLists) (children : List ChildKeys)
@@ -35,15 +35,16 @@ pub fn compose_dominates()
         → sum_by (weight_of_row children) (range_with_len 0 rows) ≤ root_total lists total }
 {}
 
-/// Product is monotone: if each list of one family is above its match in another, so is their product. All lists
-/// have to fall. A list is above another if its running sum at every rank is at least the other's.
+/// Product is monotone: if each list of one family is above the matching list of another, the product of the first family
+/// is above that of the second. All lists have to be in descending order. A list is above another if its running sum at
+/// every rank is at least the other's.
 pub fn product_is_monotone()
     ensures { (lists lower : List (List ℕ)) → AllByRecursion IsFalling lists → AllByRecursion IsFalling lower
         → AllZip IsAbove lists lower → IsAbove (rank_product_of lists) (rank_product_of lower) }
 {}
 
 /// Composition is monotone in the same way. In each family the parent list and the columns have the same sum, and
-/// the upper family's sum is at least the lower's. Only the columns of the lower family need to fall.
+/// the upper family's sum is at least the lower's. Only the columns of the lower family have to be in descending order.
 pub fn compose_is_monotone()
     ensures { (parent lower_parent : List ℕ) (children lower : List ChildLists)
         → AllByRecursion (IsChildOf (sum parent)) children → AllByRecursion (IsChildOf (sum lower_parent)) lower
@@ -53,8 +54,8 @@ pub fn compose_is_monotone()
 
 /// Composition scales. Suppose that K times each running sum of the near parent list is at most K + 1 times the running sum of the exact one, and
 /// likewise for the columns. Suppose the same for the class lists, but with two numbers of each child, its scale and its factor, in place of K and K
-/// + 1. Then it is so for the compositions too: with K times the product of all scales in place of K, and K + 1 times the product of all factors in
-/// place of K + 1. Only the near columns need to fall.
+/// + 1. Then the same holds for the compositions, with two other numbers: K times the product of all scales, and K + 1 times the product of all
+/// factors. Only the near columns have to be in descending order.
 pub fn compose_scales()
     ensures { (accuracy : ℕ) (parent exact_parent : List ℕ) (children : List MatchedChild)
         → SumsAreWithin accuracy (accuracy + 1) parent exact_parent → AllByRecursion (IsNear accuracy) children
@@ -100,7 +101,7 @@ pub fn instances()
         × IsAbove (3 ∷ 3 ∷ []) (3 ∷ 2 ∷ 1 ∷ [])
         × AllZip ChildIsAbove children lower
         × IsAbove (composed (3 ∷ 3 ∷ []) children) (composed (3 ∷ 2 ∷ 1 ∷ []) lower) }
-    // accuracy 1; twice the class list 6, 1 is within three times 4, 1
+    // accuracy 1; twice the running sums of the class list 6, 1 are at most three times those of 4, 1
     ensures compose_scales { let near : ChildLists = record { column = 3 ∷ 3 ∷ []; class = 6 ∷ 1 ∷ [] } in
         let exact : ChildLists = record { column = 3 ∷ 2 ∷ 1 ∷ []; class = 4 ∷ 1 ∷ [] } in
         let child : MatchedChild = record { near = near; exact = exact; scale = 2; factor = 3 } in

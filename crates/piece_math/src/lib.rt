@@ -1,8 +1,8 @@
-//! Falling lists of positive numbers kept as pieces of equal elements, and the operations that bounds are made of.
+//! Lists of positive numbers in descending order, kept as pieces of equal elements, and the operations by which bounds are computed.
 //!
 //! Each operation gives the list that `degree_sequences` defines, in which a number past 128 bits becomes 2^128 - 1. The
 //! time of an operation depends on the number of pieces and never on the number of ranks (Degree Sequence Bound, ICDT 2023;
-//! SafeBound, SIGMOD 2023). Statistics are pieces, and the bounds that are made of them are totals.
+//! SafeBound, SIGMOD 2023). Statistics are kept as pieces, and the bound of a join tree is a total (`root_total`).
 //!
 //! Contracts speak of a `Pieces` as the list that its pieces stand for. Callers cite `expanded` for the list of a slice of pieces, and `runs` for the
 //! number of pieces of a list.

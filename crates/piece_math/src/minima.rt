@@ -1,4 +1,4 @@
-//! Lists by the minima of running sums: the lesser of two lists, and a list cut at a number.
+//! Lists whose running sums are minima: the lesser of two lists, and a list cut at a number.
 ghost use Rattle.std.specs.Prelude.{◌≡◌, ◌+◌, ◌*◌, ◌^◌, ◌<◌, ◌≤◌, IfOk};
 ghost use Rattle.std.specs.List.{sum};
 ghost use Rattle.degree_sequences.specs.RunningSums.{lesser, cut_at};

@@ -18,7 +18,7 @@ pub struct Piece {
     pub count: u64,
 }
 
-/// A falling list of positive numbers. It is kept as pieces, whose values strictly fall. Contracts speak of the list itself.
+/// A list of positive numbers in descending order. It is kept as pieces with strictly descending values. Contracts speak of the list itself.
 #[derive(Debug, Drop)]
 pub struct Pieces {
     parts: SmallVec<Piece, 4>,

@@ -1,25 +1,25 @@
-//! Walks along pieces: how far the elements at a place stay equal, and the place after them.
+//! Walks along pieces: how many elements from a position (`Place`) on are equal, and the position after them.
 ghost use Rattle.std.specs.Prelude.{◌≡◌, ◌+◌, ◌<◌, ◌≤◌, ◌⊎◌, drop, length};
 ghost use Rattle.piece_math.specs.Expanded.{ArePieces};
 ghost use Rattle.piece_math.specs.Places.{rest_from, ahead_of, IsPlace, IsTurn};
 
 use crate::pieces::Piece;
 
-/// A place in a list of pieces: the number of a piece, and how many of its elements are passed.
+/// A position in a list of pieces: the number of a piece, and how many of its elements are passed.
 #[derive(Clone, Copy)]
 pub struct Place {
     pub at: usize,
     pub used: u64,
 }
 
-/// Places in two lists.
+/// A position in each of two lists.
 #[derive(Clone, Copy)]
 pub struct Places {
     pub left: Place,
     pub right: Place,
 }
 
-/// The next ranks on which neither list changes: their number, the element of each list there, and the places after them.
+/// The next ranks on which neither list changes: their number, the element of each list there, and the positions after them.
 #[derive(Clone, Copy)]
 pub struct Turn {
     pub left: u128,
@@ -31,7 +31,7 @@ pub struct Turn {
 /// The start of any list.
 pub const START: Place = Place { at: 0, used: 0 };
 
-/// The equal elements from a place on, within its piece. At the end of the list they are zeros.
+/// The equal elements from a position on, within its piece. At the end of the list they are zeros.
 pub fn ahead(pieces: &[Piece], place: Place) -> Piece
     requires { IsPlace pieces.now place }
     ensures { result ≡ ahead_of pieces.now place }
@@ -50,7 +50,7 @@ pub fn ahead(pieces: &[Piece], place: Place) -> Piece
     }
 }
 
-/// The place after `count` of the equal elements that `ahead` gives.
+/// The position after `count` of the equal elements that `ahead` gives.
 pub fn passed(pieces: &[Piece], place: Place, count: u64) -> Place
     requires pieces { ArePieces pieces.now }
     requires place { IsPlace pieces.now place }
@@ -76,7 +76,7 @@ pub fn passed(pieces: &[Piece], place: Place, count: u64) -> Place
     }
 }
 
-/// The next turn of a walk along two lists, from places that aren't both at the end.
+/// The next turn of a walk along two lists, from positions that aren't both at the end.
 pub fn next_turn(a: &[Piece], b: &[Piece], places: Places) -> Turn
     requires a { ArePieces a.now }
     requires b { ArePieces b.now }

@@ -58,7 +58,7 @@ pub fn row_weights(alloc: Global, children: &[Child], rows: u64) -> Result<Piece
     Ok(weights)
 }
 
-/// The sum of the weights of `rows` rows of a table without a parent, or `u128::MAX` if the sum is larger.
+/// The total weight of `rows` rows of a table without a parent, or `u128::MAX` if the total is larger.
 pub fn root_total(alloc: Global, children: &[Child], rows: u64) -> Result<u128, NoMemory>
     requires columns { All (λ child. sum child.column ≡ rows) children.now }
     ensures { IfOk result (λ total. total ≡ saturated (total_of (map lists_of children.now) rows)) }

@@ -1,9 +1,9 @@
--- Lines and fields, taken one after another.
+-- The first line or field of bytes, and the ones after it.
 use Rattle.std.proofs.Common.{◌≡◌, ℕ, suc, ◌≤◌, Bool, true, false, List, [], ◌∷◌, ◌++◌, length, refl, sym, ap, ◌∙◌, arith, cond, append_assoc, if◌then◌else◌}
 use Rattle.std.specs.List.{filter, onto_first, slice_split}
 use Rattle.plain_records.specs.Plain.{behind, ends_line, front, has_bytes, lines_of}
 
--- the parts behind the first
+-- the parts after the first
 abbrev pub more_parts : (ℕ → Bool) → List ℕ → List (List ℕ)
 more_parts p [] = []
 more_parts p (c ∷ rest) = if p c then slice_split p rest else more_parts p rest
@@ -14,7 +14,7 @@ split_by : (p : ℕ → Bool) (c : ℕ) (rest : List ℕ) (b : Bool) → slice_s
 split_by p c rest true e = refl
 split_by p c rest false e = ap (onto_first c) e
 
--- the first part and those behind it
+-- the first part and those after it
 pub split_first : (p : ℕ → Bool) (bytes : List ℕ) → slice_split p bytes ≡ front p bytes ∷ more_parts p bytes
 split_first p [] = refl
 split_first p (c ∷ rest) = split_by p c rest (p c) (split_first p rest)
@@ -28,12 +28,12 @@ lines_behind : (bytes : List ℕ) → filter has_bytes (more_parts ends_line byt
 lines_behind [] = refl
 lines_behind (c ∷ rest) = kept_by rest (ends_line c) (lines_behind rest)
 
--- a line with a byte, and those behind it
+-- the first line, if it isn't empty, and those after it
 pub first_line : (bytes line : List ℕ) (c : ℕ) → front ends_line bytes ≡ c ∷ line → lines_of bytes ≡ (c ∷ line) ∷ lines_of (behind ends_line bytes)
 first_line bytes line c e =
     ap (filter has_bytes) (split_first ends_line bytes ∙ ap (λ l. l ∷ more_parts ends_line bytes) e) ∙ ap (λ ls. (c ∷ line) ∷ ls) (lines_behind bytes)
 
--- a line without a byte is passed over
+-- an empty line is passed over
 pub no_line : (bytes : List ℕ) → front ends_line bytes ≡ [] → lines_of bytes ≡ lines_of (behind ends_line bytes)
 no_line bytes e =
     ap (filter has_bytes) (split_first ends_line bytes ∙ ap (λ l. l ∷ more_parts ends_line bytes) e) ∙ lines_behind bytes
@@ -46,7 +46,7 @@ pub shorter_behind : (p : ℕ → Bool) (bytes : List ℕ) → length (behind p 
 shorter_behind p [] = omega arith
 shorter_behind p (c ∷ rest) = shorter_by c rest p (p c) (shorter_behind p rest)
 
--- the parts, where the first is longer by these bytes at its front
+-- the parts, with these bytes put in front of the first one
 abbrev pub with_front : List ℕ → List (List ℕ) → List (List ℕ)
 with_front bytes [] = bytes ∷ []
 with_front bytes (part ∷ parts) = (bytes ++ part) ∷ parts

@@ -1,4 +1,4 @@
--- Steps from one place in bytes to the next.
+-- Steps from one offset in bytes to the next.
 use Rattle.std.proofs.Common.{◌≡◌, ◌⊎◌, inl, inr, ℕ, zero, suc, ◌+◌, ◌-◌, ◌<◌, ◌≤◌, min, Bool, true, false, List, [], ◌∷◌, ◌++◌, length, map, take, drop, get_or, refl, sym, ap, ◌∙◌, subst, arith, append-nil, append_assoc, ◌||◌, if◌then◌else◌, length-drop}
 use Rattle.std.specs.Prelude.{IsUtf8, ◌==◌}
 use Rattle.std.specs.Str.{IsCharBoundary}
@@ -10,7 +10,7 @@ use Rattle.plain_records.specs.Places.{FieldSoFar, IsField}
 use Rattle.plain_records.specs.Plain.{after_line, behind, ends_field, ends_line, fields_of_line, first_field, first_record, front, is_comma, lines_of, plain_records}
 use Rattle.plain_records.proofs.LineFacts.{first_line, no_line, split_first}
 
--- ---- which bytes end what
+-- ---- bytes that end a field or a line
 
 -- a byte that ends no field
 record EndsNone (byte : ℕ) : Type 0 where
@@ -43,12 +43,12 @@ line_ascii byte e = end_ascii byte (line_is_end (is_comma byte) (ends_line byte)
 
 -- ---- fields
 
--- a byte that ends no field belongs to it
+-- a byte that doesn't end a field belongs to the field
 pub field_byte : (bytes : List ℕ) (end : ℕ) → end < length bytes → ends_field (get_or bytes end 0) ≡ false
     → first_field (drop end bytes) ≡ get_or bytes end 0 ∷ first_field (drop (end + 1) bytes)
 field_byte bytes end l e = ap first_field (drop_more bytes end 0 l) ∙ rw e refl
 
--- a byte that ends a field, and the end of the bytes
+-- a field has no further byte at a byte that ends a field, nor at the end of the bytes
 field_stops : (bytes : List ℕ) (end : ℕ) → end < length bytes → ends_field (get_or bytes end 0) ≡ true → first_field (drop end bytes) ≡ []
 field_stops bytes end l e = ap first_field (drop_more bytes end 0 l) ∙ rw e refl
 
@@ -94,7 +94,7 @@ taken_then bytes at first end a b =
     ap (λ r. take (first - at) (drop at bytes) ++ take (end - first) r) (ap (λ n. drop n bytes) (sym there) ∙ sym (drop-drop (first - at) at bytes))
     ∙ sym (take_parts (first - at) (end - first) (drop at bytes)) ∙ ap (λ n. take n (drop at bytes)) (sym parts)
 
--- a field that goes on at a place, and from there at a further one
+-- a field that was read up to `first`, and from there up to `end`
 pub field_then : (bytes : List ℕ) (at first end : ℕ) → FieldSoFar bytes at first → FieldSoFar bytes first end → FieldSoFar bytes at end
 field_then bytes at first end f g = record {
   from = omega (arith, f.from, g.from);
@@ -129,12 +129,12 @@ none_in_front : (p : ℕ → Bool) (bytes : List ℕ) → list_any p (front p by
 none_in_front p [] = refl
 none_in_front p (c ∷ rest) = none_by p c rest (p c) refl (none_in_front p rest)
 
--- the fields of a line, and what stands behind the line
+-- the fields of a line, and what comes after the line
 pub record LineIs (bytes : List ℕ) (fields : List (List ℕ)) (rest : List ℕ) : Type 0 where
   pub fields_are : first_record bytes ≡ fields
   pub behind_is : after_line bytes ≡ rest
 
--- bytes that end no field stand before what begins with an end
+-- the line's first field is empty. Bytes that end no field are put in front of the line, and become its first field
 line_along : (field tail : List ℕ) (others : List (List ℕ)) (rest : List ℕ) → list_any ends_field field ≡ false → LineIs tail ([] ∷ others) rest → LineIs (field ++ tail) (field ∷ others) rest
 line_along [] tail others rest h t = t
 line_along (c ∷ field) tail others rest h t =
@@ -163,7 +163,7 @@ line_from bytes at end others rest f t =
       behind_is = ap after_line (field_and_tail bytes at end f.from) ∙ whole.behind_is;
     }
 
--- behind a comma the line goes on
+-- after a comma the line goes on
 pub line_goes_on : (bytes : List ℕ) (at end : ℕ) → IsField bytes at end → end < length bytes → get_or bytes end 0 ≡ 44
     → LineIs (drop at bytes) (first_field (drop at bytes) ∷ first_record (drop (end + 1) bytes)) (after_line (drop (end + 1) bytes))
 line_goes_on bytes at end f l e =
@@ -180,7 +180,7 @@ stop_byte bytes end l e = stop_by (get_or bytes end 0) (drop (end + 1) bytes) (e
 tail_ends : (byte : ℕ) (rest : List ℕ) → ends_line byte ≡ true → LineIs (byte ∷ rest) ([] ∷ []) rest
 tail_ends byte rest e = record { fields_are = rw e refl; behind_is = rw e refl }
 
--- a field with no comma behind it is the line's last
+-- a field with no comma after it is the line's last
 pub line_ends : (bytes : List ℕ) (at end : ℕ) → IsField bytes at end → (end < length bytes → is_comma (get_or bytes end 0) ≡ false)
     → LineIs (drop at bytes) (first_field (drop at bytes) ∷ []) (drop (end + 1) bytes)
 line_ends bytes at end f e = line_from bytes at end [] (drop (end + 1) bytes) f (tail_by (cases_lt end (length bytes)))
@@ -235,11 +235,11 @@ count_end bytes at e = by (cases_lt at (length bytes))
     by (inl l) = let line : ends_line (get_or bytes at 0) ≡ true = e l in ap (λ t. length (first_record t)) (drop_more bytes at 0 l) ∙ rw line refl
     by (inr l) = ap (λ t. length (first_record t)) (drop_all at bytes l)
 
--- a byte that ends no line
+-- the same comes after the line if a byte that doesn't end the line is dropped from its front
 pub rest_more : (bytes : List ℕ) (at : ℕ) → at < length bytes → ends_line (get_or bytes at 0) ≡ false → after_line (drop at bytes) ≡ after_line (drop (at + 1) bytes)
 rest_more bytes at l e = ap after_line (drop_more bytes at 0 l) ∙ rw e refl
 
--- the byte that ends a line
+-- what comes after a line begins after the byte that ends it
 pub rest_end : (bytes : List ℕ) (at : ℕ) → (at < length bytes → ends_line (get_or bytes at 0) ≡ true) → drop (min (at + 1) (length bytes)) bytes ≡ after_line (drop at bytes)
 rest_end bytes at e = drop_min (at + 1) bytes ∙ by (cases_lt at (length bytes))
   where
@@ -259,7 +259,7 @@ past_by bytes at e text = subst IsUtf8 (sym (drop_min (at + 1) bytes)) (by (case
     by (inl l) = text_behind bytes at text l (e l)
     by (inr l) = let more : length bytes ≤ at + 1 = omega (arith, l) in subst IsUtf8 (sym (drop_all (at + 1) bytes more)) IsUtf8-nil
 
--- behind the end of a line, and behind the end of a field
+-- what comes after the end of a line is a text, and so is what comes after the end of a field
 pub text_past : (bytes : List ℕ) (at : ℕ) → (at < length bytes → ends_line (get_or bytes at 0) ≡ true) → IsUtf8 bytes → IsUtf8 (drop (min (at + 1) (length bytes)) bytes)
 text_past bytes at e text = past_by bytes at (λ l. line_ascii (get_or bytes at 0) (e l)) text
 

@@ -19,7 +19,7 @@ no_quote_by c rest false e h = record { first = e; others = h }
 no_quote : (c : ℕ) (rest : List ℕ) → has_quote (c ∷ rest) ≡ false → NoQuote c rest
 no_quote c rest h = no_quote_by c rest (c == 34) refl h
 
--- without a quotation mark a field that begins goes on like one that is begun
+-- without a quotation mark the machine does the same at the start of a field (`StartField`) as within one (`InField`)
 begun_field : (fields : List (List ℕ)) (field bytes : List ℕ) → has_quote bytes ≡ false
     → next_record default_config st.StartField fields field bytes ≡ next_record default_config st.InField fields field bytes
 unfolding next_record
@@ -31,7 +31,7 @@ begun_record : (c : ℕ) (rest : List ℕ) → (c == 34) ≡ false → (c == 13)
 unfolding next_record
 begun_record c rest q cr lf = rw (cr, lf, q) refl
 
--- LF behind CR ends no other record
+-- an LF after CR doesn't end another record
 after_cr_by : (c : ℕ) (rest : List ℕ) (b : Bool) → (c == 10) ≡ b
     → next_record default_config st.AfterCr [] [] (c ∷ rest) ≡ next_record default_config st.StartRecord [] [] (c ∷ rest)
 unfolding next_record
@@ -48,7 +48,7 @@ unfolding records_from
 records_after_cr zero bytes = refl
 records_after_cr (suc n) bytes = ap (records_next (records_from default_config n)) (after_cr bytes)
 
--- the record that goes on with these bytes, and those behind it
+-- within a record, the machine gives the rest of it from these bytes, and then the records after it
 abbrev Goes : ℕ → List (List ℕ) → List ℕ → List ℕ → Type 0
 Goes n fields field bytes =
     records_next (records_from default_config n) (next_record default_config st.InField fields field bytes)
@@ -98,7 +98,7 @@ goes n (c ∷ rest) fields field h =
     let parts = no_quote c rest h in
     goes_by n fields field rest c (c == 44) (c == 13) (c == 10) refl refl refl parts.others (λ fs f. goes n rest fs f parts.others)
 
--- what stands behind a line has no quotation mark
+-- what comes after a line has no quotation mark
 quotes_by : (c : ℕ) (rest : List ℕ) (b : Bool) → has_quote rest ≡ false → has_quote (behind ends_line rest) ≡ false
     → has_quote (if b then rest else behind ends_line rest) ≡ false
 quotes_by c rest true h next = h
@@ -108,7 +108,7 @@ quotes_behind : (bytes : List ℕ) → has_quote bytes ≡ false → has_quote (
 quotes_behind [] h = refl
 quotes_behind (c ∷ rest) h = let parts = no_quote c rest h in quotes_by c rest (ends_line c) parts.others (quotes_behind rest parts.others)
 
--- the records of so many turns, from the start of a line on
+-- from the start of a line on, the machine gives these records. n + 1 is its fuel
 abbrev AreLines : ℕ → List ℕ → Type 0
 AreLines n bytes = records_from default_config (suc n) st.StartRecord bytes ≡ plain_records bytes
 

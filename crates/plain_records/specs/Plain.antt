@@ -20,19 +20,19 @@ abbrev pub has_bytes : List ℕ → Bool
 has_bytes [] = false
 has_bytes (c ∷ rest) = true
 
--- the lines that have a byte. Between CR and LF stands a line without one, so that both together end one line
+-- the lines that aren't empty. The line between CR and LF is empty and left out, so that both together end one line
 abbrev pub lines_of : List ℕ → List (List ℕ)
 lines_of bytes = filter has_bytes (slice_split ends_line bytes)
 
--- commas part the fields of a line
+-- commas separate the fields of a line
 abbrev pub fields_of_line : List ℕ → List (List ℕ)
 fields_of_line line = slice_split is_comma line
 
--- each line that has a byte is a record
+-- each line that isn't empty is a record
 abbrev pub plain_records : List ℕ → List (List (List ℕ))
 plain_records bytes = map fields_of_line (lines_of bytes)
 
--- what stands before the first byte that passes, and what stands behind it
+-- what comes before the first byte that passes the test, and what comes after it
 abbrev pub front : (ℕ → Bool) → List ℕ → List ℕ
 front p [] = []
 front p (c ∷ rest) = if p c then [] else c ∷ front p rest
@@ -45,7 +45,7 @@ behind p (c ∷ rest) = if p c then rest else behind p rest
 abbrev pub ends_field : ℕ → Bool
 ends_field c = is_comma c || ends_line c
 
--- the field at the front of bytes, the fields of the line at their front, and what stands behind that line
+-- the first field of bytes, the fields of their first line, and what comes after that line
 abbrev pub first_field : List ℕ → List ℕ
 first_field bytes = front ends_field bytes
 

@@ -1,4 +1,4 @@
-//! What the words of this crate have to do with those of the crate `csv`.
+//! The records of this crate and those of the crate `csv`.
 ghost use Rattle.std.specs.Prelude.{◌≡◌, ℕ, List, false};
 ghost use Rattle.csv.specs.Reading.{default_config, records};
 ghost use Rattle.plain_records.specs.Plain.{has_quote, plain_records};

@@ -1,4 +1,4 @@
-//! The records of bytes without a quotation mark: their lines, parted at commas.
+//! The records of bytes without a quotation mark: their lines, split at commas.
 #![tactic(auto)]
 
 mod laws;

@@ -1,4 +1,4 @@
-//! Places in bytes: where a field ends, and where the next line begins.
+//! Offsets in bytes: where a field ends, and where the next line begins.
 ghost use Rattle.std.specs.Prelude.{◌≡◌, ◌<◌, ◌≤◌, ◌+◌, false, length, drop, slice_index, IsUtf8};
 ghost use Rattle.plain_records.specs.Places.{FieldSoFar, IsField};
 ghost use Rattle.plain_records.specs.Plain.{after_line, ends_field as stops_field, ends_line as stops_line, first_record, plain_records};
@@ -19,7 +19,7 @@ pub fn ends_field(byte: u8) -> bool
     byte == b',' || byte == b'\r' || byte == b'\n'
 }
 
-/// The end of a field that is read up to a place.
+/// The end of the field that begins at `start` and has been read up to `place`.
 #[inline]
 pub fn field_end(bytes: &[u8], start: usize, place: usize) -> usize
     requires { FieldSoFar bytes.now start place }
@@ -32,7 +32,7 @@ pub fn field_end(bytes: &[u8], start: usize, place: usize) -> usize
     at
 }
 
-/// The place of the first byte from a place on that ends no line, or the end of the bytes.
+/// The offset of the first byte from `place` on that is neither CR nor LF, or the end of the bytes.
 #[inline]
 pub fn skip_line_ends(bytes: &[u8], place: usize) -> usize
     requires { place ≤ length bytes.now }
@@ -49,14 +49,14 @@ pub fn skip_line_ends(bytes: &[u8], place: usize) -> usize
     at
 }
 
-/// A line: how many fields it has, and the place behind the byte that ends it.
+/// A line: how many fields it has, and the offset after the byte that ends it.
 #[derive(Clone, Copy)]
 pub struct Line {
     pub fields: usize,
     pub next: usize,
 }
 
-/// The line that begins at a place.
+/// The line that begins at this offset.
 pub fn line_at(bytes: &[u8], place: usize) -> Line
     requires { place ≤ length bytes.now }
     ensures fields { result.fields ≡ length (first_record (drop place bytes.now)) }

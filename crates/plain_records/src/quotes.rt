@@ -2,7 +2,7 @@
 ghost use Rattle.std.specs.Prelude.{◌≡◌, false, IfSome};
 ghost use Rattle.plain_records.specs.Plain.{has_quote};
 
-/// How many line feeds there are, if no byte is a quotation mark. No contract says so: the number serves to ask for memory.
+/// The number of line feeds, or `None` if some byte is a quotation mark. The number serves to ask for memory; the contract says nothing of it.
 pub fn scan(bytes: &[u8]) -> Option<usize>
     ensures { IfSome result (λ _. has_quote bytes.now ≡ false) }
 {

@@ -1,4 +1,4 @@
--- Besides NoMemory a choice has exactly one answer, and it is the one that is computed.
+-- Besides NoMemory, `choose` has exactly one answer: the one that `plan_answer` computes.
 use Rattle.std.proofs.Common.{◌≡◌, ℕ, ◌-◌, ◌^◌, ◌<◌, ◌≤◌, List, length, Ok, Err, Result, refl, ap, sym, ◌∙◌, arith, inl, inr}
 use Rattle.std.specs.Prelude.{◌⊎◌, ◌≢◌}
 use Rattle.std.proofs.lemmas.Bool.{cases_lt, le-ltb, lt-ltb}
@@ -30,7 +30,7 @@ module _ (bounds scans : List ℕ) (budget : ℕ) where
   fits : (order : List ℕ) → cost bounds order ≤ 2 ^ 128 - 2 → cost bounds order ≤ budget → answer_along bounds scans budget order ≡ Ok (plan_along bounds scans order)
   fits order is_told within = rw (le-ltb (2 ^ 128 - 2) (cost bounds order) is_told, le-ltb budget (cost bounds order) within) refl
 
-  -- ---- the computed answer is promised
+  -- ---- the computed answer is one that `choose` promises
 
   along : (order : List ℕ) → IsBest bounds (length scans) order → IsPromised bounds scans budget (answer_along bounds scans budget order)
   along order is = elim (cases_lt (2 ^ 128 - 2) (cost bounds order)) [
@@ -52,7 +52,7 @@ module _ (bounds scans : List ℕ) (budget : ℕ) where
   unfolding plan_answer
   allowed = along (best_order bounds (length scans)) (best_computed bounds (length scans))
 
-  -- ---- no other answer is promised
+  -- ---- `choose` promises no other answer
 
   same_plan : (plan : Plan) → plan.levels ≡ levels bounds plan.order → plan.scans ≡ scans → plan ≡ plan_along bounds scans plan.order
   same_plan plan has_levels has_scans = rw (sym has_levels, sym has_scans) refl

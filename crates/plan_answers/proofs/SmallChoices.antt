@@ -1,4 +1,4 @@
--- These examples compute the answers of small choices.
+-- Best orders and answers, computed for few entries.
 use Rattle.std.proofs.Common.{◌≡◌, ◌^◌, ◌-◌, [], ◌∷◌, Ok, Err, refl}
 use Rattle.limits.specs.Profile.{top_bound}
 use Rattle.plans.specs.Examples.{plan_of}

@@ -1,4 +1,4 @@
--- The answer of a choice among orders, by computation: the plan of the best order, or why there is no plan.
+-- The answer of `choose`, by computation: the plan of the best order, or why there is no plan.
 use Rattle.std.specs.Prelude.{ℕ, ◌-◌, ◌^◌, nat_lt, if◌then◌else◌, List, length, Result, Ok, Err}
 use Rattle.plans.specs.declared.left_deep.Plan.{Plan}
 use Rattle.order_search.specs.declared.refusal.PlanError.{PlanError}

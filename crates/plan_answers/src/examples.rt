@@ -1,4 +1,4 @@
-//! What `plan_answer` gives for small choices among orders.
+//! What `plan_answer` gives for few entries.
 ghost use Rattle.std.specs.Prelude.{◌≡◌, ◌-◌, ◌^◌, [], ◌∷◌, Ok, Err};
 ghost use Rattle.limits.specs.Profile.{top_bound};
 ghost use Rattle.plans.specs.Examples.{plan_of};
@@ -8,7 +8,7 @@ ghost use Rattle.plan_answers.specs.BestOrder.{all_orders, best_order};
 ghost use Rattle.plan_answers.specs.Bounds.{bounds_of_sets};
 ghost use Rattle.plan_answers.specs.PlanAnswer.{plan_answer};
 
-/// What choices among the orders of one, three and four entries answer. An order through a pair of entries whose bound is past 128 bits is avoided.
+/// The best orders and the answers for one, three and four entries. An order through a pair of entries whose bound is past 128 bits is avoided.
 /// The largest cost that a refusal can name is 2^128 - 2.
 pub fn small_choices()
     ensures orders { all_orders 3 ≡

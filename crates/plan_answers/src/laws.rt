@@ -1,4 +1,4 @@
-//! Laws of the answers of choices. Each call does nothing.
+//! Laws of `best_order`, `plan_answer` and `bounds_of_sets`. Each call does nothing.
 ghost use Rattle.std.specs.Prelude.{◌≡◌, ◌≢◌, ◌≤◌, ◌<◌, ◌^◌, ◌⊎◌, ℕ, List, length, min, slice_index, Result, Ok, Err};
 ghost use Rattle.limits.specs.Profile.{most_budget, top_bound};
 ghost use Rattle.plans.specs.declared.left_deep.Plan.{Plan};

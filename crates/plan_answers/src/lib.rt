@@ -1,4 +1,4 @@
-//! What a choice among orders answers, as a function of the bounds.
+//! What `choose` of order_search answers, as a function of the bounds.
 //!
 //! The contract of `choose` is a relation between bounds and an answer. It leaves open only whether the call runs
 //! out of memory. `plan_answer` (in `specs/PlanAnswer.antt`) is the answer if it doesn't: the plan of `best_order`

@@ -16,7 +16,7 @@ use Rattle.planning.specs.Bounds.{whole_columns}
 abbrev pub FiltersNoEntry : Query → Type 0
 FiltersNoEntry query = (entry : ℕ) → own_conjuncts entry query.conjuncts ≡ []
 
--- the bound of these entries from the number of rows of each table and the degree list of each column, without compression
+-- the bound of these entries without compression: from each table's number of rows and each column's degree list
 abbrev pub uncompressed_bound : Query → Tables → List ℕ → ℕ
 uncompressed_bound query tables entries = bound_of_set (whole_columns tables) (equalities_of query) (set_of entries)
 
@@ -25,12 +25,12 @@ abbrev pub IsNear : Query → Tables → ℕ → List ℕ → ℕ → Type 0
 IsNear query tables accuracy entries bound =
     accuracy ^ length entries * bound ≤ (accuracy + 1) ^ length entries * uncompressed_bound query tables entries
 
--- the bound of each level of the plan is near, as a bound of the first entries of the plan's order
+-- each level's bound is near the uncompressed bound of the level's entries, which are the first ones of the plan's order
 abbrev pub LevelsAreNear : Query → Tables → ℕ → Plan → Type 0
 LevelsAreNear query tables accuracy plan =
     (k : ℕ) → k < length query.from → IsNear query tables accuracy (take (k + 1) plan.order) (slice_index plan.levels k)
 
--- the bound of each inner node of the plan's tree is near, as a bound of the entries at the leaves below it
+-- the bound of each inner node of the plan's tree is near the uncompressed bound of the entries at the leaves below it
 abbrev pub NodesAreNear : Query → Tables → ℕ → BushyPlan → Type 0
 NodesAreNear query tables accuracy plan =
     (k : ℕ) (join : Join) → slice_get plan.joins k ≡ Some join

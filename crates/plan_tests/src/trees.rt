@@ -7,7 +7,7 @@ use order_search::PlanError;
 use std::alloc::Global;
 use tree_plans::{BushyPlan, Join};
 
-// The choice over these bounds, where each entry's scan has two rows.
+// The best tree over these bounds, if each entry's scan has two rows.
 fn chosen(alloc: Global, count: usize, bounds: Vec<u128>, budget: u64) -> Result<BushyPlan, Fail> {
     if count == 0 || count > MOST_ENTRIES || budget > MOST_ROWS as u64 {
         return Err(Fail::Unfit);
@@ -64,7 +64,7 @@ const CHOICES: [Choice<'static>; 5] = [
         joins: &[],
         cost: 7,
     },
-    // The sizes of all sets of entries of a query:
+    // The bounds are how many rows the join of each set of entries has in this query:
     // SELECT C.N FROM C, P, Q, R, S WHERE C.A = P.X AND C.B = Q.X AND C.D = R.X AND C.E = S.X.
     // Each of P, Q, R and S has X = 7 three times and X = 8 once. C has a row with 8 in all four joined columns. It has four more rows, one for each
     // of these columns: in its column the row has a value that P, Q, R and S don't have, and 7 in the others. So the join of all five entries has one
@@ -101,7 +101,7 @@ fn the_best_trees(rt: HostRuntime) -> Result<(), Fail> {
     Ok(())
 }
 
-// Why no tree is chosen over these bounds, followed by `last`, with a budget of six rows.
+// Why no tree is chosen over the bounds `front` followed by `last`, with a budget of six rows.
 fn refusal(
     alloc: Global,
     count: usize,

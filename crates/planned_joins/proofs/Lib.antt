@@ -4,8 +4,8 @@
 -- the plan's shape, that no bound is too low, and that no bound is above the table's rows or the greatest budget. So the contracts speak neither of
 -- statistics nor of a budget, and any plan with these facts serves.
 --
--- - Pointwise, then `less_room`: the sizes of lists and levels are `map`s over ranges, so `size_at` and `size_count` of join_steps
---   (WholeScans), `level_size` and `level_count` of hash_join (PlanRooms) and one lemma on two lists (`zip_each`) give `AllZip ◌≤◌`; the
+-- - Pointwise, then `less_room`: the sizes of lists and levels are `map`s over ranges. So `AllZip ◌≤◌` follows from one lemma on two lists
+--   (`zip_each`), with `size_at` and `size_count` of join_steps (WholeScans), and `level_size` and `level_count` of hash_join (PlanRooms). The
 --   rest is reserve_plan's `less_room`, and for the lists of whole scans `less_buffers`. Nothing here looks into a buffer.
 -- - `ready` is a clause over any lists, since buffers are reserved before the lists are known. `reserve_plan` requires only that the plan is a plan
 --   over some lists, and the caller that joins says over which lists.

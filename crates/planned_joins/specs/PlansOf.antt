@@ -12,7 +12,7 @@ use Rattle.hash_join.specs.Levels.{list_level_sizes}
 abbrev pub HaveFewRows : Tables → ℕ → Type 0
 HaveFewRows tables n = (entry : ℕ) → entry < n → row_counts tables entry ≤ most_rows
 
--- the buffers have room for the rows of each list, and of each level of this order over the lists
+-- the buffers have room for the rows of each list, and for those of each level of this order over the lists
 abbrev pub IsReadyFor : Query → Tables → List (List ℕ) → List ℕ → Reserved → Type 0
 IsReadyFor query tables lists order reserved =
     HasRooms (rooms order (list_sizes query lists) (list_level_sizes query tables lists order)) reserved

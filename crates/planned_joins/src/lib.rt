@@ -2,7 +2,7 @@
 //!
 //! This is the stage after an order is chosen. In: a query, its database, a list of rows for each of its entries, and a plan over these
 //! lists in which no bound is too low. Out: the levels of the plan's order. `reserve_plan` takes all memory by the plan's bounds alone, and
-//! `execute_plan` fills it. It checks no capacity while it joins: the bounds are proved, so each row has its place.
+//! `execute_plan` fills it. It checks no capacity while it joins: the bounds are proved, so there is room for each row.
 //!
 //! The caller makes the lists first. They can be reduced scans. Or `reserve_scans` makes empty lists with room for whole scans, and
 //! `scan_all` of `join_steps` fills them without allocating.

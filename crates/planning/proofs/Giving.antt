@@ -70,7 +70,7 @@ told_lists query stats lists held are =
         subst (λ (b : EntryBounds). HasList b entry column) are
         (list_there lists entry column (scan_list query stats entry column) (told.list_there query stats (length query.from) (joined_columns query) lists held entry column among))
 
--- ---- bounds from row bounds and lists of a query in parts, with the row bounds as bounds of scans
+-- ---- bounds from row bounds and lists, with the equalities that `split` gives. The row bounds are the bounds of the scans
 
 module _ (query : Query) (es : List Edge) (split : es ≡ equalities_of query) (lists : EntryLists) (scans : List ℕ) (count : ℕ) (all : count ≡ length query.from)
     (are : scans ≡ map (bounds_of lists).rows (range_with_len 0 count)) where

@@ -9,14 +9,14 @@
 --   `BoundLists` have to be shown, for a new shape of plan only the first half. If the bounds of entries are the same in every set, facts on single
 --   columns are enough (`stand_in_every_set`): statistics of tables (`ScanBounds`, `NeverUnder`) and degree lists of listed rows (`ListBounds`) are
 --   instances of a few lines.
--- - A constant function of sets computes: `bounds_of_sets b` is `bounds_in_sets (in_every_set b)`, and both are `abbrev`s. So the laws about
---   `bounds_in_sets` hold for `bounds_of_sets` without a lemma.
+-- - Bounds that are the same in every set need no lemma: `bounds_of_sets b` is `bounds_in_sets (in_every_set b)`, and both are `abbrev`s. So the laws
+--   about `bounds_in_sets` hold for `bounds_of_sets`.
 -- - The laws "never too low" are over `entry_bounds`, not over the code's lists (`stand_for_scans` in ScanBounds): what statistics know
 --   is a function, so the laws speak of tables alone, and not of a database, a cell or `EntryLists`. That entries and columns exist
 --   follows from the set: its entries are below n, and both columns of an equality are among the joined ones. So no premise is needed
 --   that a query names its own entries.
--- - The laws on statistics in one record (`Facts`): keys, that they join, and what lists and counts stand for. For an hour it was a hole
---   (`rt check --allow-holes` says for each law that it depends on this hole alone), and meanwhile everything above was proved.
+-- - One record has the laws on statistics (`Facts`): keys, that they join, and what lists and counts stand for. It was a hole at first
+--   (`rt check --allow-holes` says for each law that it depends on this hole alone), and everything above it was proved first.
 -- - A level of a plan is never the top bound: it is at most the cost, so at most the budget (`level_within_budget`), and the second case of
 --   "or 2^128 - 1" is absurd by `omega`.
 -- - The set of an order's first entries has a number below 2^n (`on_way`): along the way through 2^n - 1, each entry's power of 2 is at most what is left.
@@ -45,13 +45,13 @@
 --
 -- Lists of rows, and what is known from them
 --
--- - Sound and complete are two facts (`IsKnown`, `HaveLists`): each list that is known is the one of the definition, and each joined column has a
---   list. So adding a list says nothing of the other columns, and the loop's invariant is two facts.
+-- - Soundness and completeness are two facts (`IsKnown`, `HaveLists`): each list that is known is the one of the definition, and each joined column
+--   has a list. So adding a list says nothing of the other columns, and the loop's invariant is two facts.
 -- - Bounds are a function of what equalities name (`SameBounds`): `entry_bounds_over` has a list for every column, and the code has lists for joined
 --   columns alone. One induction over trees shows that both give all sets the same bounds, with `named_in_turn` and `tree_columns` of tree_bounds.
 -- - Cells and values (`SameDegrees`): two rows have equal cells exactly if the first rows with their values are equal, so relabelling_laws gives the
 --   same degree list for both.
--- - A list in file order of rows below n has at most n rows (`short`), so `AreListsOf` follows from being a family of the scans, and
+-- - A list in file order of rows below n has at most n rows (`short`). So `AreListsOf` follows for each family of the scans, and
 --   nothing about the removal of rows is needed.
 -- - Scans are listed in buffers with room for whole tables, since no bound is known yet: `less_buffers` of reserve_plan makes that room for
 --   the scans (`TableRooms`).

@@ -1,4 +1,4 @@
--- These examples compute answers over the small tables whose reduced scans are examples.
+-- These examples compute answers over small tables. Their reduced scans are computed in SmallReductions.
 use Rattle.std.proofs.Common.{◌≡◌, ℕ, Bool, true, ◌&&◌, List, [], ◌∷◌, Ok, length, map, refl, ap, ◌∙◌, arith}
 use Rattle.std.specs.Prelude.{pos, slice_index}
 use Rattle.std.specs.List.{filter}

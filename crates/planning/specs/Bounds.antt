@@ -12,7 +12,7 @@ use Rattle.gathered_stats.specs.Statistics.{statistics_of}
 abbrev pub scan_bounds_of : Query → Tables → ℕ → List ℕ
 scan_bounds_of query tables accuracy = scan_bounds query (statistics_of tables accuracy)
 
--- the bound of each set of entries, at the number whose bits are the set
+-- the bound of each set of entries. A set's index is the number whose bits are the set
 abbrev pub set_bounds_of : Query → Tables → ℕ → List ℕ
 set_bounds_of query tables accuracy = set_bounds query (statistics_of tables accuracy)
 

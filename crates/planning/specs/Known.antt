@@ -1,4 +1,4 @@
--- Row bounds and lists of columns for entries whose rows are listed, while they are collected one after another.
+-- Row bounds of entries and degree sequences of columns, from a list of rows for each entry, while they are collected one after another.
 use Rattle.std.specs.Prelude.{◌≡◌, ℕ, ◌<◌, ◌≤◌, List, length, Some, None}
 use Rattle.csv_tables.specs.declared.types.Database.{Database}
 use Rattle.bound_fold.specs.declared.lists.EntryLists.{EntryLists}
@@ -12,7 +12,7 @@ pub record HasRows (lists : List (List ℕ)) (count : ℕ) (known : EntryLists) 
   pub there : (entry : ℕ) → entry < count → rows_of known entry ≡ Some (rows_listed lists entry)
   pub past : (entry : ℕ) → count ≤ entry → rows_of known entry ≡ None
 
--- each entry has its row bound, and each list of a column that is known so far is the column's list over the listed rows of its entry
+-- each entry has its row bound, and each degree sequence that is known so far is that of its column over the entry's list of rows
 pub record IsKnown (db : Database) (lists : List (List ℕ)) (accuracy : ℕ) (known : EntryLists) : Type 0 where
   pub rows : HasRows lists (length lists) known
   pub columns : (entry column : ℕ) (list : List ℕ) → list_of known entry column ≡ Some list

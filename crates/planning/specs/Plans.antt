@@ -17,7 +17,7 @@ use Rattle.planning.specs.Bounds.{scan_bounds_of}
 use Rattle.planning.specs.ListedBounds.{entry_bounds_over}
 
 -- the best order of `count` entries with its bounds, or why no order is within the budget. `es` has the equalities between the entries, and
--- `scans` the bound of each scan. `bounds` has in each set a row bound of each entry and a degree sequence of each joined column
+-- `scans` the bound of each scan. For each set, `bounds` has a row bound of each entry and a degree sequence of each joined column
 abbrev pub planned_from : (ℕ → EntryBounds) → List ℕ → List Edge → ℕ → ℕ → Result Plan PlanError
 planned_from bounds scans es count budget = plan_answer (bounds_in_sets bounds es count) scans budget
 

@@ -41,8 +41,8 @@ pub record StandForLists (query : Query) (tables : Tables) (lists : List (List �
 abbrev pub JoinedHaveLists : Query → EntryBounds → Type 0
 JoinedHaveLists query bounds = EachNamedColumn (λ entry column. entry < length query.from → HasList bounds entry column) (equalities_of query)
 
--- the degree sequence of a column falls and sums to the row bound of its entry, and it dominates the degrees of the keys that the listed rows have in
--- the column
+-- the degree sequence of a column is in descending order and sums to the row bound of its entry. It dominates the degrees of the keys that the listed
+-- rows have in the column
 pub record ColumnStands (lists : List (List ℕ)) (key : Keys) (bounds : EntryBounds) (entry column : ℕ) : Type 0 where
   pub has : HasList bounds entry column
   pub dominates : DominatesKeys (bounds.list entry column) (map (key entry column) (list_at lists entry))
@@ -62,8 +62,8 @@ pub record BoundLists (query : Query) (tables : Tables) (lists : List (List ℕ)
   pub fit : (entry : ℕ) → entry < length query.from → rows_listed lists entry ≤ slice_index scans entry
   pub within : (entry : ℕ) → entry < length query.from → slice_index scans entry ≤ row_counts tables entry
 
--- no level over the lists of a set's entries has more rows than the bound of the set, in whatever order the entries stand. Of a set whose
--- bound is `top_bound` nothing is said
+-- no level over the lists of a set's entries has more rows than the bound of the set, in whatever order the entries are joined. If the set's
+-- bound is `top_bound`, its levels may have any number of rows
 abbrev pub BoundLevels : Query → Tables → List (List ℕ) → List ℕ → Type 0
 BoundLevels query tables lists sets = (subset : ℕ) (order : List ℕ) → subset < 2 ^ length query.from → IsOrderOfSet (entries_of_set subset) order
     → (length (level_over (conjuncts_of query tables) (list_at lists) order) ≤ slice_index sets subset) ⊎ (slice_index sets subset ≡ top_bound)

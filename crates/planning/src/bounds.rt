@@ -41,8 +41,8 @@ pub fn scan_bounds(
     Ok(scans)
 }
 
-/// The bound of each set of entries, in rows, at the number whose bits are the set. It is `u128::MAX` if the bound is larger, and 1 for the empty
-/// set. No level over exactly these entries has more rows than a bound below `u128::MAX`, in whatever order the entries stand.
+/// The bound of each set of entries, in rows. A set's index is the number whose bits are the set. A bound is `u128::MAX` if it is larger, and 1 for
+/// the empty set. No level over exactly these entries has more rows than a bound below `u128::MAX`, in whatever order the entries are joined.
 ///
 /// `accuracy` is the accuracy of compressed lists (SafeBound, SIGMOD 2023).
 pub fn subset_bounds(

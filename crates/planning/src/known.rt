@@ -1,4 +1,4 @@
-//! The bounds of all sets of a query's entries and of its scans, whatever they were made from, and the plan by them.
+//! The bounds of all sets of a query's entries and of its scans, whatever they were made from, and the plan that is chosen by them.
 ghost use Rattle.std.specs.Prelude.{◌≡◌, ◌⊎◌, ◌^◌, ◌<◌, ◌≤◌, ℕ, Err, IfOk, length};
 ghost use Rattle.limits.specs.Profile.{most_budget, most_entries};
 ghost use Rattle.order_search.specs.declared.refusal.PlanError.TheVariants as error;
@@ -13,15 +13,15 @@ use plans::Plan;
 use set_bounds::{KnownInSets, bounds_in_sets};
 use std::alloc::Global;
 
-/// A bound for each set of a query's entries, at the number whose bits are the set, and for each scan, in FROM order. All are in rows.
+/// A bound for each set of a query's entries, and for each scan, in FROM order. All are in rows. A set's index is the number whose bits are the set.
 #[derive(Drop)]
 pub struct Known {
     pub sets: Seq<u128>,
     pub scans: Seq<u64>,
 }
 
-/// The bounds of all sets of the entries, from the row bound of each entry and the degree sequence of each of its joined columns. Row bounds and
-/// degree sequences may depend on the set. The bounds of the scans are kept as they are given.
+/// The bounds of all sets of the entries, from each entry's row bound and the degree sequences of its joined columns. Row bounds and degree
+/// sequences may depend on the set. The bounds of the scans are kept as they are given.
 ///
 /// In each turn the bounds of a set's trees, which come from the degree sequences of their columns, are multiplied. The set's bound is the least of
 /// these products (SafeBound, SIGMOD 2023; Degree Sequence Bound, ICDT 2023).

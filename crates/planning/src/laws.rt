@@ -32,15 +32,14 @@ ghost use Rattle.planning.specs.Bounds.{scan_bounds_of, set_bounds_of, whole_col
 ghost use Rattle.planning.specs.Plans.{planned, planned_from};
 ghost use Rattle.planning.specs.Standing.{BoundLevels, BoundLists, EntriesStand, JoinedHaveLists, StandForLists};
 
-/// The statistics of any tables stand for these tables: what they say of the rows is true. They speak of keys that are the same for rows which an
-/// equality joins.
+/// The statistics of any tables stand for these tables: what they say of the rows is true. Rows that an equality joins have the same key.
 pub fn statistics_stand()
     ensures { (query : Query) (tables : Tables) (accuracy : ℕ)
         → (key : Keys) × StandFor query (statistics_of tables accuracy) tables key × AreKeys tables key (equalities_of query) }
 {}
 
 /// No scan has more rows than its bound. No level over the entries of a set has more rows than the bound of the set, in whatever order the
-/// entries stand. Of a set whose bound is the top bound nothing is said.
+/// entries are joined. If a set's bound is the top bound, the law says nothing of its levels.
 pub fn bounds_are_never_under()
     ensures scans { (query : Query) (tables : Tables) (accuracy entry : ℕ) → entry < length query.from
         → length (query_scan query tables entry) ≤ slice_index (scan_bounds_of query tables accuracy) entry }
@@ -93,7 +92,7 @@ pub fn plans_are_never_under()
         → slice_index plan.levels k ≤ budget }
 {}
 
-/// This law is about all plans, whatever bounds they are from. Suppose that no level over lists of scanned rows has more rows than the bound of its
+/// This law is about all plans, wherever their bounds come from. Suppose that no level over lists of scanned rows has more rows than the bound of its
 /// set. Suppose also that each scan's bound is at least the number of its listed rows, and at most the number of rows of its table. Then the plan is
 /// a plan over these lists (`IsPlanOf`), so no bound in it is too low. The first condition holds if the bounds of the entries in each set stand for
 /// the lists (`StandForLists`). Statistics of the tables stand for the scans, and degree sequences of listed rows stand for these rows.

@@ -22,8 +22,8 @@ ghost use Rattle.join_steps.specs.Plans.{IsPlanOf};
 ghost use Rattle.planning.specs.Plans.{planned_over, planned_reduced};
 ghost use Rattle.planning.specs.TakingPart.{JoinsByEqualitiesAlone, TakesPart};
 
-/// No level over lists of scanned rows has more rows than the bound of its set, in whatever order its entries stand. Of a set whose
-/// bound is the top bound nothing is said.
+/// No level over lists of scanned rows has more rows than the bound of its set, in whatever order its entries are joined. If a set's
+/// bound is the top bound, the law says nothing of its levels.
 pub fn bounds_over_lists_are_never_under()
     ensures { (query : Query) (tables : Tables) (lists : List (List ℕ)) (accuracy subset : ℕ) (order : List ℕ)
         → AreOfScans query tables lists → subset < 2 ^ length query.from → IsOrderOfSet (entries_of_set subset) order
@@ -50,8 +50,8 @@ pub fn plans_over_lists_are_never_under()
         → planned_over query tables lists accuracy budget ≢ Err error.NoMemory }
 {}
 
-/// The reduced scans are lists of scanned rows, so no bound of their plan is too low. The outputs of the choices of the last level
-/// over them are the rows of the answer, each as often as in the answer.
+/// The reduced scans are lists of scanned rows, so no bound of their plan is too low. The last level over the reduced scans gives the
+/// rows of the answer, each as often as in the answer.
 pub fn reduced_plans_lose_no_row()
     ensures lists { (query : Query) (tables : Tables) → AreOfScans query tables (reduced_of query tables) }
     ensures plan { (query : Query) (tables : Tables) (accuracy budget : ℕ) (plan : Plan)

@@ -47,10 +47,10 @@ pub fn reduced_lists(
     reduce_scans(alloc, query, equalities, db, &scans)
 }
 
-/// The bounds from the reduced scans of the query, together with these scans. A scan's bound is the number of its rows that are left.
+/// The bounds from the reduced scans of the query, together with these scans. A scan's bound is the number of rows in the reduced scan.
 ///
-/// A row of a scan is left if it has a match for each equality of one of its columns with a column of another entry. A match is a row of the other
-/// entry that has the same value and is left too (semi-join reduction, Bernstein and Goodman 1981). Time and memory are linear in the rows times
+/// A row of a scan is kept if it has a match for each equality that joins its entry with another one. A match is a row of the other
+/// entry that has the same value and is kept too (semi-join reduction, Bernstein and Goodman 1981). Time and memory are linear in the rows times
 /// their equalities, except for sorting columns and for the bounds of all sets. All memory but the result's is freed, and the result's lists have
 /// room for their own rows alone.
 ///

@@ -10,7 +10,7 @@ use bound_fold::EntryLists;
 use row_buf::RowBuf;
 use std::alloc::Global;
 
-/// The number of rows of each list as the row bound of its entry, with no list of a column.
+/// Each entry's row bound: the number of rows in its list. No column has a degree sequence yet.
 pub(crate) fn row_bounds(alloc: Global, lists: &[RowBuf<u32>]) -> Result<EntryLists, NoMemory>
     requires few { length lists.now ≤ most_entries }
     requires sizes { (entry : ℕ) → length (list_at (lists_of lists.now) entry) ≤ most_rows }

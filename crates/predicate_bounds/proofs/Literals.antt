@@ -1,4 +1,4 @@
--- Values and ranges are as they were after they were turned into literals and back.
+-- Values and ranges that are turned into literals and back don't change.
 use Rattle.std.proofs.Common.{◌≡◌, List, [], ◌∷◌, map, Option, None, Some, option_map, refl, ap, ◌∙◌}
 use Rattle.csv_tables.specs.Values as values
 use Rattle.csv_tables.specs.Values.{Value}

@@ -15,7 +15,7 @@ use Rattle.predicate_bounds.specs.declared.steps.Step.{Step}
 use Rattle.predicate_bounds.specs.Narrowing.{more_high, more_low, narrowed}
 use Rattle.predicate_bounds.specs.Steps.{range_of, step_answers}
 
--- ---- the ends of the intersection of the ranges of a column
+-- ---- the ends of the intersection of a column's ranges
 
 low_more : (low : Option Value) (lows : List Value) → greatest_value (cons_option low lows) ≡ more_low low (greatest_value lows)
 low_more None lows = refl

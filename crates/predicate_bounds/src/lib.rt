@@ -1,6 +1,6 @@
 //! Bounds of filtered entries: from an entry's own conjuncts and their lists to a list that dominates the scanned rows.
 //!
-//! In: a query, and for each joined column lists of the filter columns. `read_steps` turns an entry's own conjuncts into steps that run over
+//! In: a query, and each joined column's lists by values and ranges of filter columns. `read_steps` turns own conjuncts into steps that run over
 //! a stack of lists. It pushes NOT down to the comparisons, merges nested ANDs, and swaps the sides of a comparison with its literal on the
 //! left. All comparisons of a column with < <= > >= in an AND become one range. `QueryStats` holds the steps of each joined column, with the
 //! lists that they ask for. `bound_list` and `row_bound` run these steps. This crate doesn't know where the lists come from.

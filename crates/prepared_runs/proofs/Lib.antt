@@ -12,7 +12,7 @@
 --   connect a command with a reservation.
 -- - A function can be proved before the functions that it calls, with stand-ins that have the same contracts. If the stand-in always refuses,
 --   each law about plans is true (`absurd`), and a call with `requires ⊥` needs no body.
--- - A store that can't fail is a wrapper whose invariant is that no call is listed to fail, and whose ghost `faults` is the constant 0: then
+-- - A store that can't fail is a wrapper. Its invariant is that no call is set to fail, and its ghost `faults` is the constant 0: then
 --   `Rose 0 0` is absurd, and `read_at` needed no written proof.
 -- - The shop is a field of the command that no stage looks at (`command_run`). So the verdict of `demo` equals that of an audit by one `ap`
 --   and a `refl`. `Ranges` in safebound_words says for each command that only `demo` has a shop, and that values are in their ranges. It is
@@ -42,7 +42,7 @@
 -- - Whole scans are lists like any others (`lists_in`). Only `list_rows`, which makes lists, asks whether the lists are there already. Rooms,
 --   levels and texts are about lists, with one record (`CanJoin`: the lists lose no row, and there is room for a plan over them).
 -- - The accuracy is an argument of what `sourced` gives, and not of `sourced`, so the lists of a run don't depend on it.
--- - `let Given { known, scans } = f()?` names its goals by the first variable (`in_ok-known`), and the value stands at `field-0`.
+-- - `let Given { known, scans } = f()?` names its goals by the first variable (`in_ok-known`); the value is `field-0`.
 --
 -- Shapes
 --

@@ -1,4 +1,4 @@
--- The rows of a tree's root are those of the last level, and the counts of the rows that were listed are those of the tree's nodes.
+-- The root of a tree has the rows of the last level. The counts of the rows that were listed are the sizes of the tree's nodes.
 use Rattle.std.proofs.Common.{◌≡◌, ℕ, ◌+◌, ◌-◌, ◌*◌, ◌<◌, ◌&&◌, Bool, true, false, List, length, map, ltb, refl, ap, sym, ◌∙◌, subst, arith, inl, inr}
 use Rattle.std.specs.Prelude.{All}
 use Rattle.std.specs.List.{range_with_len}

@@ -94,7 +94,7 @@ pub record Fits (query : Query) (tables : Tables) (lists : List (List ℕ)) (mad
   pub scans : (entry : ℕ) → entry < length query.from → rows_listed lists entry ≤ get_or (scan_bounds made) entry 0
   pub parts : (k : ℕ) → k < part_count made → length (part_rows query tables lists made k) ≤ part_bound made k
 
--- that holds of each plan over the lists
+-- each plan over the lists fits them
 pub over_so : (query : Query) (tables : Tables) (lists : List (List ℕ)) (plan : AnyPlan) → IsPlanOver query tables lists plan → Fits query tables lists plan
 over_so query tables lists (shaped.OrderPlan plan) of = record {
   plan = of.for_each_entry;

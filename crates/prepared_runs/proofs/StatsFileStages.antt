@@ -91,7 +91,7 @@ module _ (terms : PlanTerms) (query : Query) (stats : StatsFile) where
   unfolding stats_file_plan_stage
   all_there none = ap (λ (o : Option ℕ). unless_missing o >>= λ there. plan_of) none
 
-  -- if something is missing or memory runs out, the stage ends as the reading does
+  -- if the file lacks something that the query needs, or memory runs out, `need_ending` is an ending of this stage
   pub need_told : (e : NeedError) → IsNeedCause query stats e → StopsBy (stats_file_plan_stage terms query stats) (need_ending e)
   unfolding stats_file_plan_stage
   need_told (need.Missing from) is = (ap (λ (o : Option ℕ). unless_missing o >>= λ there. plan_of) is, (λ file h. cc), (λ h. cc))

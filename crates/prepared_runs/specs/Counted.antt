@@ -6,6 +6,6 @@ use Rattle.prepared_runs.specs.declared.append.Counted.{Counted}
 abbrev pub counted : TableStats → Counted
 counted section = record { table = section.table; rows = section.rows }
 
--- if the section is of the table of `found`, then its number of rows is that of `found`
+-- if the section is of the same table as `found`, it has the same number of rows
 abbrev pub HasAsMany : Counted → TableStats → Type 0
 HasAsMany found section = section.table ≡ found.table → section.rows ≡ found.rows

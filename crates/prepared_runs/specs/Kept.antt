@@ -62,14 +62,14 @@ HasParts n (joined.Nodes plan done) = IsTreePlan n plan × (length done.nodes �
 
 -- ---- joins over lists that lose no row of the answer
 
--- no row of the answer is lost by the lists (`LoseNoRow`), the plan's bounds fit them (`IsPlanOf`), and each level of the order has its choices
+-- the lists lose no row of the answer (`LoseNoRow`), the plan's bounds fit them (`IsPlanOf`), and each level of the order has its choices
 pub record AreLevelsOf (query : Query) (db : Database) (lists : List (List ℕ)) (plan : Plan) (levels : List Level) : Type 0 where
   pub rows : LoseNoRow query (tables_of db) lists
   pub plan_of : IsPlanOf query (tables_of db) lists plan
   pub count : length levels ≡ length plan.order
   pub choices : (k : ℕ) → k < length plan.order → rows_at levels k ≡ list_levels query (tables_of db) lists plan.order (k + 1)
 
--- no row of the answer is lost by the lists (`LoseNoRow`), the plan's bounds fit them (`IsTreePlanOf`), and each node of the tree has its
+-- the lists lose no row of the answer (`LoseNoRow`), the plan's bounds fit them (`IsTreePlanOf`), and each node of the tree has its
 -- entries and its choices
 pub record AreNodesOf (query : Query) (db : Database) (lists : List (List ℕ)) (plan : BushyPlan) (nodes : List Node) : Type 0 where
   pub rows : LoseNoRow query (tables_of db) lists

@@ -66,7 +66,7 @@ abbrev pub IsRoomOver : Query → Tables → List (List ℕ) → Room → Type 0
 IsRoomOver query ts lists (room.Levels plan reserved) = IsPlanOf query ts lists plan × IsReadyFor query ts lists plan.order reserved
 IsRoomOver query ts lists (room.Nodes plan reserved) = IsTreePlanOf query ts lists plan × HasTreeRooms plan reserved
 
--- no row of the answer is lost by the lists, and there is room for the joins of a plan over them
+-- the lists lose no row of the answer, and there is room for the joins of a plan over them
 pub record CanJoin (query : Query) (db : Database) (joins : Joins) : Type 0 where
   pub rows : LoseNoRow query (tables_of db) (lists_of joins.lists.items)
   pub room : IsRoomOver query (tables_of db) (lists_of joins.lists.items) joins.room

@@ -30,7 +30,7 @@ pub record PlanFromStatsFile : Type 0 where
   pub plan : AnyPlan
   pub memory : Option ℕ
 
--- a statistics file after an append: its schema, the place of one table in the schema, the rows that were added to this table, and the file
+-- a statistics file after an append: its schema, the number of one table in the schema, the rows that were added to this table, and the file
 pub record AppendedRows : Type 0 where
   pub schema : Schema
   pub table : ℕ
@@ -44,8 +44,8 @@ pub data RunOutcome : Type 0 where
   PlannedFromStats : PlanFromStatsFile → RunOutcome
   Appended : AppendedRows → RunOutcome
 
--- for all tables for which the statistics file stands, no scan has more rows than the plan says, and no level of its order, or inner node of
--- its tree, has more rows than the plan says
+-- for all tables for which the statistics file stands: no scan has more rows than the plan says, and no level or inner node of the plan has
+-- more rows than the plan says
 abbrev pub HoldsWhereItStands : PlanFromStatsFile → Type 0
 HoldsWhereItStands made = (tables : Tables) → StandsFor made.query made.file tables
     → IsPlanOver made.query tables (scans_of made.query tables) made.plan

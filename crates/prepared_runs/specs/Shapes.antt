@@ -64,7 +64,7 @@ abbrev pub part_bound : AnyPlan → ℕ → ℕ
 part_bound (shaped.OrderPlan plan) k = slice_index plan.levels k
 part_bound (shaped.TreePlan plan) k = bound_at plan (length plan.scans + k)
 
--- the entries in the order in which their rows stand in a choice for all of them: the plan's order, or the order of the tree's leaves
+-- the entries in the order of their row numbers in a choice for all of them: the plan's order, or the order of the tree's leaves
 abbrev pub joined_entries : AnyPlan → List ℕ
 joined_entries (shaped.OrderPlan plan) = plan.order
 joined_entries (shaped.TreePlan plan) = entries_at plan (node_count plan - 1)

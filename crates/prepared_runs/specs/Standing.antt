@@ -17,7 +17,7 @@ pub record LoseNoRow (query : Query) (tables : Tables) (lists : List (List ℕ))
   pub last : NamesItsEntries query → (order : List ℕ) → IsOrderOfSet (entries_of query) order
       → list_levels query tables lists order (length order) ≡ level (conjuncts_of query tables) (row_counts tables) order (length order)
 
--- no row of the answer is lost by a source's lists. At every accuracy, no list has more rows than its bound, and no level over the lists has
+-- the source's lists lose no row of the answer. At every accuracy, no list has more rows than its bound, and no level over the lists has
 -- more rows than the bound of its set
 pub record IsSource (query : Query) (tables : Tables) (given : Sourced) : Type 0 where
   pub rows : LoseNoRow query tables given.lists

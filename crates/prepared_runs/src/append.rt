@@ -28,7 +28,7 @@ use stats_file::{StatsFile, TableStats};
 use std::alloc::Global;
 use table_files::{TableRows, read_rows};
 
-/// What `append` has made: the place of the table in the schema, the table's new rows, and the statistics file that also counts them.
+/// What `append` has made: the number of the table in the schema, the table's new rows, and the statistics file that also counts them.
 #[derive(Drop)]
 pub struct PreparedAppend {
     pub table: u32,
@@ -36,7 +36,7 @@ pub struct PreparedAppend {
     pub file: StatsFile,
 }
 
-/// The place of a table in the schema, and the number of rows that the table's section of a statistics file counts.
+/// The number of a table in the schema, and how many rows the table's section of a statistics file counts.
 #[derive(Clone, Copy)]
 pub struct Counted {
     pub table: u32,

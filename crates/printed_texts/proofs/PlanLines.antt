@@ -1,4 +1,4 @@
--- The lines of the plan text are written one after another: the lines from place i on are line i and the lines after it.
+-- The lines of the plan text are written one after another. After line i the lines from i + 1 on are still to be written.
 use Rattle.std.proofs.Common.{◌≡◌, ℕ, ◌+◌, ◌<◌, suc, List, ◌∷◌, ◌++◌, drop, length, get_or, ap, sym, refl, ◌∙◌, append_assoc, add-one}
 use Rattle.std.specs.Prelude.{slice_get}
 use Rattle.std.proofs.Math.Seq.{drop-cons}

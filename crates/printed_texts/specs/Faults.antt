@@ -37,7 +37,7 @@ pub record Names : Type 0 where
 abbrev pub table_file : Table → List ℕ
 table_file table = map to_ascii_lowercase table.name ++ codes ".csv"
 
--- the table with this place in the schema, if there is one
+-- the table with this number in the schema, if there is one
 abbrev pub table_in : Option Schema → ℕ → Option Table
 table_in None number = None
 table_in (Some schema) number = slice_get schema.tables number

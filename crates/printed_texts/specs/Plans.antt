@@ -40,7 +40,7 @@ plan_lines sources plan = scan_lines sources plan.scans ++ level_lines 1 sources
 abbrev pub rows_and_line_end : ℕ → List ℕ
 rows_and_line_end rows = codes " " ++ (decimal rows ++ codes "\n")
 
--- the line `level K ALIAS BOUND ROWS`. The alias may hold blanks; the bound stands between the last two blanks
+-- the line `level K ALIAS BOUND ROWS`. The alias may hold blanks; the bound is between the last two blanks
 abbrev pub audit_line : ℕ → List ℕ → ℕ → ℕ → List ℕ
 audit_line k alias bound rows = level_text k alias bound ++ rows_and_line_end rows
 

@@ -1,5 +1,5 @@
--- The plan text of a join tree, and the audit text. A node is named by its number. The leaves come first, numbered from 0 by their places in
--- FROM, and then the inner nodes.
+-- The plan text of a join tree, and the audit text. A node is named by its number. The leaves come first, numbered from 0 in FROM order, and
+-- then the inner nodes.
 use Rattle.std.specs.Prelude.{ℕ, ◌+◌, List, [], ◌∷◌, ◌++◌, length, codes, decimal}
 use Rattle.query_types.specs.declared.types.Source.{Source}
 use Rattle.tree_plans.specs.declared.bushy.BushyPlan.{BushyPlan}

@@ -176,7 +176,7 @@ const FIELD: &[u8] = b"field";
 const KEY: &[u8] = b"key";
 
 // Writes the line of a refused schema, query or statistics text: the word for the text, the cause, and a number that says where. The number
-// is a place in the text, a line, or a FROM entry.
+// is an offset in the text, a line, or a FROM entry.
 fn write_place<N: Sink>(text: &[u8], cause: &[u8], at: u32, sink: &mut N) -> Result<(), Failed>
     ensures { Wrote (growth N.taken N.faults sink.old sink.new) (error_line (text.now ∷ (cause.now ∷ (decimal at ∷ [])))) result }
 {

@@ -9,7 +9,7 @@ use Rattle.filtered_lists.specs.Lists.{ColumnLists, filtered_list}
 use Rattle.predicate_bounds.specs.declared.columns.QueryStats.{QueryStats}
 use Rattle.predicate_bounds.specs.Told.{HasLists}
 
--- the list of the column at `place` may be added: the statistics have the column's lists for some query, and the sum of its filtered list is
+-- the list of the column `place` may be added: the statistics have the column's lists for some query, and the sum of its filtered list is
 -- the row bound of its entry
 pub record MayAdd (stats : QueryStats) (place : Place) (lists : EntryLists) : Type 0 where
   pub query : Query

@@ -19,7 +19,7 @@ scan_rows query known entry = row_bound (known.counts entry) entry query.conjunc
 abbrev pub scan_list : Query → Statistics → ℕ → ℕ → List ℕ
 scan_list query known entry column = filtered_list (known.lists entry column) entry query.conjuncts
 
--- whether the entry and the column are those of a place; `is_among` asks this for a list of places
+-- whether a `Place` is this column of this entry, and whether one of several places is
 abbrev pub is_at : ℕ → ℕ → Place → Bool
 is_at entry column place = place.entry == entry && place.column == column
 
@@ -37,7 +37,7 @@ entry_bounds query known = record {
   list = λ entry column. if is_among (joined_columns query) entry column then scan_list query known entry column else [];
 }
 
--- `lists` has exactly the row bounds of the first n entries and the lists of the columns at these places
+-- `lists` has exactly the row bounds of the first n entries and the lists of the columns `places`
 pub record HoldsKnown (query : Query) (known : Statistics) (n : ℕ) (places : List Place) (lists : EntryLists) : Type 0 where
   pub rows : (entry : ℕ) → rows_of lists entry ≡ (if nat_lt entry n then Some (scan_rows query known entry) else None)
   pub columns : (entry column : ℕ) → list_of lists entry column
@@ -49,6 +49,6 @@ pub record HoldsKnown (query : Query) (known : Statistics) (n : ℕ) (places : L
 abbrev pub scan_bounds : Query → Statistics → List ℕ
 scan_bounds query known = map (scan_rows query known) (range_with_len 0 (length query.from))
 
--- the bound of each set of entries. The bound of a set stands at the index whose bits are the set's entries
+-- the bound of each set of entries. A set's index is the number whose bits are the set
 abbrev pub set_bounds : Query → Statistics → List ℕ
 set_bounds query known = bounds_of_sets (entry_bounds query known) (equalities_of query) (length query.from)

@@ -40,7 +40,7 @@ pub record Tells (query : Query) (stats : QueryStats) (known : Statistics) : Typ
   pub entries : (entry : ℕ) → entry < length query.from → TellsEntry query stats known entry
   pub columns : EachNamedColumn (TellsColumn query stats known) (equalities_of query)
 
--- `stats` has what some `Statistics` say; the field `known` has those
+-- `stats` has the counts and lists of some `Statistics`, which are the field `known`
 pub record StatsAreTold (query : Query) (stats : QueryStats) : Type 0 where
   pub known : Statistics
   pub tells : Tells query stats known

@@ -33,7 +33,7 @@ fn with_rows(alloc: Global, query: &Query, stats: &QueryStats) -> Result<EntryLi
     Ok(lists)
 }
 
-// Adds the list of the joined column at `place` to `lists`, if `lists` doesn't have it yet.
+// Adds the list of the joined column `place`, which is an entry with one of its columns, to `lists`, if `lists` doesn't have it yet.
 fn add_list(
     alloc: Global,
     stats: &QueryStats,

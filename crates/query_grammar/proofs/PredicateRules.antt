@@ -1,5 +1,5 @@
--- The reader of predicates reads their rule. The left operand is read before it is known which predicate follows. So the reader reads the
--- rule with this operand as a common beginning, and this rule has the same texts as the rule of the grammar.
+-- The reader of predicates reads their rule. The left operand is read before it is known which predicate follows. So the reader follows a rule
+-- in which this operand is a common beginning (`Factored`). It has the same texts as the rule of the grammar.
 use Rattle.std.proofs.Common.{◌≡◌, Bool, List, inl, inr, refl, ap, ◌∙◌}
 use Rattle.ll_grammars.specs.declared.lexeme.Lexeme.{Lexeme}
 use Rattle.ll_grammars.specs.declared.terminal.Terminal.TheVariants as terminal

@@ -1,5 +1,5 @@
--- Each token of a query's syntax tree has a property P, and has a terminal that its place asks for. For example, a name has one of the
--- terminals of names, and the digits of a number have a number's terminal.
+-- Each token of a query's syntax tree has a property P, and a terminal of the kind that the tree needs there. For example, a name has one of
+-- the terminals of names, and the digits of a number have a number's terminal.
 use Rattle.std.specs.Prelude.{All, IfSome, ⊤, [], ◌∷◌}
 use Rattle.ll_grammars.specs.declared.lexeme.Lexeme.{Lexeme}
 use Rattle.ll_grammars.specs.declared.terminal.Terminal.TheVariants as terminal

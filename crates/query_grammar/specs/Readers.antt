@@ -1,5 +1,5 @@
 -- The rules of the grammar as parsers from left to right, with one token of look-ahead. If the alternatives of a rule begin alike, this
--- beginning is read first. What each alternative then reads is a function of the beginning.
+-- beginning is read first. Each alternative then gives a function, which is applied to the beginning's value.
 use Rattle.std.specs.Prelude.{ℕ, zero, suc, Bool, Option, Some, None, List, [], ◌∷◌}
 use Rattle.ll_grammars.specs.declared.lexeme.Lexeme.{Lexeme}
 use Rattle.ll_grammars.specs.declared.terminal.Terminal.{Terminal}

@@ -1,4 +1,4 @@
-//! The grammar of query texts, their syntax tree, and a parser. The parser gives the tree that a list of tokens spells, or the place where
+//! The grammar of query texts, their syntax tree, and a parser. The parser gives the tree that a list of tokens spells, or the offset at which
 //! the tokens go wrong.
 //!
 //! This is the second stage of reading a query. It comes after the lexer and a test of `nesting` (how deep parentheses are nested).

@@ -1,4 +1,4 @@
-//! Sets of terminals (kinds of tokens) for the parser of queries. With a set, the parser asks how a rule may begin, or which tokens it takes next.
+//! Sets of terminals (kinds of tokens) for the parser of queries: those with which a rule may begin, or one of which has to come next.
 pub use ll_grammars::NAME;
 use ll_grammars::Terminal;
 

@@ -37,7 +37,7 @@ pub enum Op {
     Ge,
 }
 
-/// A predicate: a comparison (SQL-92 8.2), BETWEEN (8.3) or IN (8.4). `negated` says that NOT stands before
+/// A predicate: a comparison (SQL-92 8.2), BETWEEN (8.3) or IN (8.4). `negated` says that NOT is written before
 /// BETWEEN or IN.
 #[derive(Debug, Drop)]
 pub enum TestNode {

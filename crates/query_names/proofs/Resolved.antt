@@ -1,4 +1,4 @@
--- If a reference stands for a column, the column exists, and so do its entry and its table.
+-- If a reference is resolved to a column, the column exists, and so do its entry and its table.
 use Rattle.std.proofs.Common.{◌≡◌, ℕ, zero, suc, ◌+◌, ◌-◌, Bool, true, false, cond, List, [], ◌∷◌, take, drop, Option, Some, None, ap, sym, ◌∙◌, refl, arith}
 use Rattle.std.specs.Prelude.{option_map, option_and_then, slice_get, slice_range}
 use Rattle.std.specs.List.{filter_map, cons_option}
@@ -91,7 +91,7 @@ in_scope_are from scope =
     numbered_are from scope.first (slice_range from scope.first scope.end)
     (λ k s is. sym (slice_get-dropped scope.first k from) ∙ slice_get-taken (scope.end - scope.first) k (drop scope.first from) s is)
 
--- ---- a column that a reference stands for exists
+-- ---- the column that a reference names exists
 
 only_stands : (schema : Schema) (from : List Source) (name : List ℕ) (entries : List Entry) (found : EntryColumn) → AllEntries from entries → only (filter_map (column_in schema name) entries) ≡ Some found → Stands schema from found
 only_stands schema from name [] found all same = absurd cc

@@ -1,4 +1,4 @@
--- The first two columns of a name decide whether the name stands for exactly one column. So it is enough to look at the first two entries in
+-- The first two columns of a name show whether exactly one column has the name. So it is enough to look at the first two entries in
 -- scope of each table.
 use Rattle.std.proofs.Common.{◌≡◌, ℕ, suc, ◌+◌, ◌-◌, ◌<◌, ◌≤◌, Bool, true, false, cond, nat_eq, List, [], ◌∷◌, ◌++◌, length, take, drop, get_or, Option, Some, None, ap, subst, sym, ◌∙◌, refl, arith}
 use Rattle.std.specs.Prelude.{◌==◌, is_some, count_by, option_map, option_and_then, slice_get}

@@ -1,4 +1,4 @@
--- The results of the stages that read a query: a value, or an error at the first offence. An offence is a place where something is wrong.
+-- The results of the stages that read a query: a value, or an error at the first offence. An offence is the offset of what is wrong.
 use Rattle.std.specs.Prelude.{◌≡◌, ℕ, List, [], ◌∷◌, Option, Some, None, ⊤}
 use Rattle.query_names.specs.declared.errors.QueryError.{QueryError}
 use Rattle.query_names.specs.declared.errors.QueryError.TheVariants as error
@@ -8,7 +8,7 @@ abbrev pub first : {A : Type 0} → List A → Option A
 first [] = None
 first (one ∷ rest) = Some one
 
--- the error is a Name error at the first of these places, or NoMemory, which may come at any time
+-- the error is a Name error at the first of these offsets, or NoMemory, which may come at any time
 abbrev pub IsNameError : List ℕ → QueryError → Type 0
 IsNameError places (error.Name place) = first places ≡ Some place
 IsNameError places error.NoMemory = ⊤

@@ -57,7 +57,7 @@ test_offences_of binder scope test = test_offences (schema_of binder) binder.tex
 unfoldable pub kind_offences_of : Binder → Scope → TestNode → List ℕ
 kind_offences_of binder scope test = kind_offences (schema_of binder) binder.text.now (from_of binder) scope test
 
--- ---- conditions, each with the entries in scope at its place
+-- ---- conditions, each with the entries in its scope
 
 unfoldable pub names_in : Binder → Scoped → List ℕ
 names_in binder c = flat_map (test_offences_of binder c.scope) (tests c.condition)

@@ -34,7 +34,7 @@ pub record IsBound (binder : Binder) (scope : Scope) (operand : OperandNode) (bo
 
 -- ---- tests
 
--- the place of a value of IN, if the value isn't of the left operand's kind; `equal_to` is the equality with a value
+-- the offset of a value of IN, if the value isn't of the left operand's kind; `equal_to` is the equality with a value
 abbrev pub wrong_literal : Bool → LiteralNode → List ℕ
 wrong_literal left l = at (differ left (is_text_literal l)) (first_of_literal l)
 
@@ -54,7 +54,7 @@ test_condition (test.Compare left how right) parts = (any_of parts).whole
 test_condition (test.Between left negated low high) parts = if negated then cond.Not (cond.And parts) else cond.And parts
 test_condition (test.In left negated values) parts = if negated then cond.Not (any_of parts).whole else (any_of parts).whole
 
--- whether a test's comparisons are members of the condition in which the test stands
+-- whether a test's comparisons are members of the condition that the test is a part of
 abbrev pub is_range : TestNode → Bool
 is_range (test.Compare left how right) = false
 is_range (test.Between left negated low high) = not negated
@@ -62,7 +62,7 @@ is_range (test.In left negated values) = false
 
 -- ---- the state after some tests were checked
 
--- No name is wrong. If no place of a wrong kind was kept before, the first of `kinds` is kept. If no length of a list was kept before, the
+-- No name is wrong. If no offset of a wrong kind was kept before, the first of `kinds` is kept. If no length of a list was kept before, the
 -- first of `lists` is kept. The conditions `more` are added to `found`, if FROM has at most 12 entries and no length of a list is kept.
 pub record Looked (binder : Binder) (names kinds lists : List ℕ) (held held' : HeldOffences) (found found' more : List Cond) : Type 0 where
   pub none : names ≡ []

@@ -66,7 +66,7 @@ aliases from = map (λ source. source.alias) from
 
 -- ---- offences in FROM
 
--- the place of a token, if it is wrong
+-- the offset of a token, if it is wrong
 abbrev pub at : Bool → Lexeme → List ℕ
 at wrong token = if wrong then token.start ∷ [] else []
 

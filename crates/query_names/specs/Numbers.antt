@@ -49,6 +49,6 @@ abbrev pub offences_after : List ℕ → Option Lexeme → List Lexeme → List 
 offences_after text before [] = []
 offences_after text before (token ∷ rest) = number_offence text (sign_before before) token ++ offences_after text (Some token) rest
 
--- the places of the numbers outside the range. The place is that of the sign, if the number has one
+-- the offsets of the numbers outside the range, or of their signs, if they have one
 unfoldable pub number_offences : List ℕ → List Lexeme → List ℕ
 number_offences text tokens = offences_after text None tokens

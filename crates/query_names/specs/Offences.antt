@@ -1,4 +1,4 @@
--- Offences: the places of names that mean nothing or more than one thing, and of operands of the wrong kind.
+-- Offences: the offsets of names that mean nothing or more than one thing, and of operands of the wrong kind.
 use Rattle.std.specs.Prelude.{ℕ, Bool, true, false, not, nat_lt, if◌then◌else◌, List, [], ◌∷◌, ◌++◌, length, map, Option, Some, None, is_none, unwrap_or}
 use Rattle.std.specs.List.{flat_map}
 use Rattle.limits.specs.Profile.{most_values}
@@ -88,7 +88,7 @@ module _ (schema : Schema) (text : List ℕ) (from : List Source) (scope : Scope
   is_text_operand (operand.Column reference) = is_text_column (resolve schema text from scope reference)
   is_text_operand (operand.Literal value) = is_text_literal value
 
-  -- the place of `other`, if it isn't of the left operand's kind
+  -- the offset of `other`, if it isn't of the left operand's kind
   abbrev pub kind_offence : Bool → OperandNode → List ℕ
   kind_offence left other = at (differ left (is_text_operand other)) (first_of other)
 
@@ -102,7 +102,7 @@ module _ (schema : Schema) (text : List ℕ) (from : List Source) where
   abbrev pub kind_offences_in : Scoped → List ℕ
   kind_offences_in c = flat_map (kind_offences schema text from c.scope) (tests c.condition)
 
-  -- the places of wrong names: first those in FROM, then those in the SELECT list, then those in the ON conditions and in WHERE
+  -- the offsets of wrong names: first those in FROM, then those in the SELECT list, then those in the ON conditions and in WHERE
   unfoldable pub name_offences : QueryNode → List ℕ
   name_offences query =
       from_offences schema text query

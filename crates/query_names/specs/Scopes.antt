@@ -1,4 +1,4 @@
--- What a reference to a column stands for, and the entries that are in scope at each condition.
+-- Which column a reference names, and the entries that are in scope for each condition.
 use Rattle.std.specs.Prelude.{ℕ, ◌+◌, Bool, ◌&&◌, nat_le, nat_lt, if◌then◌else◌, List, [], ◌∷◌, ◌++◌, length, Option, Some, None, option_map, option_and_then, unwrap_or, slice_get, slice_range}
 use Rattle.std.specs.List.{filter_map, flat_map}
 use Rattle.ll_grammars.specs.declared.lexeme.Lexeme.{Lexeme}
@@ -18,7 +18,7 @@ use Rattle.query_types.specs.declared.types.Source.{Source}
 use Rattle.schema_types.specs.Names.{place_of}
 use Rattle.query_names.specs.Names.{column_in, aliases}
 
--- ---- what a reference stands for (SQL-92 6.4)
+-- ---- which column a reference names (SQL-92 6.4)
 
 abbrev pub numbered : ℕ → List Source → List Entry
 numbered number [] = []
@@ -59,7 +59,7 @@ module _ (schema : Schema) (text : List ℕ) (from : List Source) (scope : Scope
   resolved None column = column_alone (name_of text column)
   resolved (Some table) column = column_of (name_of text table) (name_of text column)
 
-  -- the column that a reference stands for, if there is exactly one
+  -- the column that a reference names, if there is exactly one
   unfoldable pub resolve : ColumnNode → Option EntryColumn
   resolve reference = resolved reference.table reference.column
 
@@ -67,7 +67,7 @@ module _ (schema : Schema) (text : List ℕ) (from : List Source) (scope : Scope
 abbrev pub head_of : ColumnNode → Lexeme
 head_of reference = unwrap_or reference.table reference.column
 
--- ---- conditions, each with the entries in scope at its place, and their tests
+-- ---- conditions, each with the entries in its scope, and their tests
 
 pub record Scoped : Type 0 where
   pub scope : Scope

@@ -1,4 +1,4 @@
-//! Finds the columns that references stand for.
+//! Resolves references to columns.
 ghost use Rattle.std.specs.Prelude.{◌≡◌, ◌≤◌, ◌<◌, ◌+◌, IfOk, length, ◌==◌, count_by, option_map, slice_get};
 ghost use Rattle.sql_tokens.specs.Words.{IsLexemeOf};
 ghost use Rattle.query_names.specs.Scopes.{only, entry_named, whole_scope, column_of};
@@ -71,7 +71,7 @@ impl<'a> Binder<'a> {
         self.catalog.column(column, entry)
     }
 
-    /// The column that a reference stands for, if there is exactly one.
+    /// The column that a reference names, if there is exactly one.
     #[tactic(auto, unfolding(crate::specs::Scopes::resolve, crate::specs::Scopes::column_alone))]
     pub fn resolve(
         &self,

@@ -1,4 +1,4 @@
-//! Offences (places where something is wrong) in conditions that are refused only after all names were checked.
+//! Offences (what is wrong, and where) in conditions. They are refused only after all names were checked.
 ghost use Rattle.std.specs.Prelude.{◌≡◌};
 ghost use Rattle.query_names.specs.Names.{at};
 ghost use Rattle.query_names.specs.Offences.{too_long};
@@ -8,7 +8,7 @@ use limits::MOST_VALUES;
 use ll_grammars::Lexeme;
 use query_grammar::TestNode;
 
-/// The first offences so far that are refused only after all names were checked. `kind` is the place of the first operand of the wrong kind,
+/// The first offences so far that are refused only after all names were checked. `kind` is the offset of the first operand of the wrong kind,
 /// and `list` is the length of the first IN list that is too long.
 #[derive(Clone, Copy, Debug)]
 pub struct HeldOffences {
@@ -17,7 +17,7 @@ pub struct HeldOffences {
 }
 
 impl HeldOffences {
-    /// If `wrong` is true and no place was kept before, keeps the place of `token`, which has the wrong kind.
+    /// If `wrong` is true and no offset was kept before, keeps the offset of `token`, which has the wrong kind.
     pub(crate) fn note_kind(&mut self, wrong: bool, token: Lexeme)
         ensures kind { self.new.kind ≡ or_first self.old.kind (at wrong token) }
         ensures list { self.new.list ≡ self.old.list }

@@ -32,7 +32,7 @@ fn left_of(test: &TestNode) -> OperandNode
     }
 }
 
-/// Whether a test is BETWEEN without NOT. The two comparisons of this test are members of the condition in which it stands.
+/// Whether a test is BETWEEN without NOT. The two comparisons of this test are members of the condition that the test is a part of.
 fn is_range(test: &TestNode) -> bool
     ensures { result ≡ is_range test.now }
 {
@@ -52,7 +52,7 @@ impl<'a> Binder<'a> {
         self.entries.sources.len() <= MOST_ENTRIES && held.list.is_none()
     }
 
-    /// Adds the comparison of two operands. If the kind of `other` is wrong, its place is kept.
+    /// Adds the comparison of two operands. If the kind of `other` is wrong, its offset is kept.
     fn compare(
         &self,
         left: &BoundOperand,

@@ -6,14 +6,14 @@ use base_io::NoMemory;
 use schema_types::LimitKind;
 use std::alloc::{AllocError, AllocFailed};
 
-/// Why a query text isn't accepted. Places are offsets in the text, in bytes from 0.
+/// Why a query text isn't accepted. `at` is an offset in the text, in bytes from 0.
 #[derive(Clone, Copy, Debug, PartialEq, Eq)]
 pub enum QueryError {
-    /// The text breaks the grammar at this place.
+    /// The text breaks the grammar at this offset.
     Syntax { at: u32 },
-    /// The name at this place means nothing, or more than one thing.
+    /// The name at this offset means nothing, or more than one thing.
     Name { at: u32 },
-    /// The operand at this place is compared with an operand of the other kind (a number with a text).
+    /// The operand at this offset is compared with an operand of the other kind (a number with a text).
     Kind { at: u32 },
     /// The number of things, `found`, is above the limit. If the number is above 2^64 - 1, `found` is 2^64 - 1.
     Limit { which: LimitKind, found: u64 },

@@ -1,11 +1,11 @@
-//! The names of a query text: what each name stands for over a schema, whether compared operands are of one kind, and what a condition means.
+//! The names of a query text: what each name refers to in a schema, whether compared operands are of one kind, and what a condition means.
 //!
 //! This stage comes after `query_grammar`, which gives the tree of a query text, and before `sql_parse`, which gives the query or the refusal
 //! of the text. In a `Catalog` a schema's tables and columns are found by name. `read_entries` gives the FROM entries with their aliases. A
-//! `Binder` over both says what references and conditions mean. `read_entries` and the binder refuse the first wrong name, by its place.
+//! `Binder` over both says what references and conditions mean. `read_entries` and the binder refuse the first wrong name, with its offset.
 //!
-//! Callers cite `resolve` (in `specs/Scopes.antt`) for what a reference stands for, and `query_of` (in `specs/Values.antt`) for the query
-//! that a tree means. `name_offences` and `all_kind_offences` (in `specs/Offences.antt`) list the places that are refused. A caller writes
+//! Callers cite `resolve` (in `specs/Scopes.antt`) for the column that a reference names, and `query_of` (in `specs/Values.antt`) for the query
+//! that a tree means. `name_offences` and `all_kind_offences` (in `specs/Offences.antt`) list the offsets that are refused. A caller writes
 //!
 //! ```text
 //! let catalog = Catalog::new(alloc, schema)?;
@@ -15,7 +15,7 @@
 //! binder.add_members(&visible, condition, &mut held, &mut conjuncts)?;
 //! ```
 //!
-//! and then knows that the condition has no wrong name. `held` has the place of its first operand of the wrong kind, and `conjuncts` has the
+//! and then knows that the condition has no wrong name. `held` has the offset of its first operand of the wrong kind, and `conjuncts` has the
 //! members of the condition that the text means.
 #![tactic(auto)]
 

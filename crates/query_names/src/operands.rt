@@ -94,7 +94,7 @@ pub fn bind_literal(
 }
 
 impl<'a> Binder<'a> {
-    /// The value, the kind and the first token of an operand, or the place of its wrong name.
+    /// The value, the kind and the first token of an operand, or the offset of its wrong name.
     #[tactic(auto, unfolding(crate::specs::Binding::name_offences_of))]
     pub(crate) fn bind_operand(
         &self,

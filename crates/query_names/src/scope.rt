@@ -1,4 +1,4 @@
-//! The FROM entries that are in scope at a place of a query text.
+//! The FROM entries that are in scope for a condition or an output of a query text.
 use base_io::Seq;
 use schema_types::Kind;
 

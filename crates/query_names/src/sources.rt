@@ -80,7 +80,7 @@ fn entry(
     Ok(Source { table, alias })
 }
 
-/// The FROM entries, or the place of the first wrong name in FROM.
+/// The FROM entries, or the offset of the first wrong name in FROM.
 pub fn read_entries(
     alloc: Global,
     catalog: &Catalog<'_>,

@@ -1,4 +1,4 @@
-//! The value of a number literal, and the condition that a test of a query text stands for.
+//! The value of a number literal, and the condition that a test of a query text means.
 ghost use Rattle.std.specs.Prelude.{◌≡◌, IfOk, if◌then◌else◌};
 ghost use Rattle.sql_tokens.specs.Words.{IsLexemeOf};
 ghost use Rattle.query_types.specs.declared.types.Cond.TheVariants as cond;

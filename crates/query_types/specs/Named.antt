@@ -19,7 +19,7 @@ entries_step (Cond-F.Or any) = flat_map (λ inner. inner) any
 entries_step (Cond-F.Not inner) = inner
 entries_step (Cond-F.Compare op left right) = entries_of_operand left ++ entries_of_operand right
 
--- the entries that a condition names; an entry stands here as often as the condition names it
+-- the entries that a condition names, each as often as the condition names it
 abbrev pub entries_named : Cond → List ℕ
 entries_named = fold-Cond (List ℕ) entries_step
 

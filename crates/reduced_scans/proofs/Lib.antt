@@ -1,6 +1,6 @@
 -- How the proofs of this crate go: what was hard, and how it was solved.
 --
--- - `IsUseFor` names a value by its place in the list of values. So it stays true when values are appended (`use_later`), and no function
+-- - `IsUseFor` names a value by its index in the list of values. So it stays true when values are appended (`use_later`), and no function
 --   from values to slots is needed.
 -- - Recursion passes the first item's number on, and not a shifted function, so no equality of functions has to be proved.
 -- - `level` is `over_restricted` of sql_meaning, since a reduced list is a filter of the table's rows (`same_members`).

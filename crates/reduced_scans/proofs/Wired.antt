@@ -178,7 +178,7 @@ module _ (scans : List (List ℕ)) (equalities : List Edge) (key : Keys) (number
           (subst (λ (f : Edge). place < length (list_at scans (near f on).entry) → (u : Use) × Contains new_uses u × IsUseFor new number on (key_on key (near f on) (row_at scans (near f on).entry place)) (first_item scans (near f on).entry + place) u) edges
           (this on place) low)
 
--- ---- all items and slots are within their numbers
+-- ---- the item and the slots of each use exist
 
 entry_low : (scans : List (List ℕ)) (entry place : ℕ) → place < length (list_at scans entry) → entry < length scans
 entry_low scans entry place low = elim (cases_lt entry (length scans)) [

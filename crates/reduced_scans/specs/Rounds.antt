@@ -24,7 +24,7 @@ round_from es equal family entry [] = []
 round_from es equal family entry (list ∷ lists) =
     filter (finds_all es equal family entry) list ∷ round_from es equal family (suc entry) lists
 
--- the rows of a family that are left after a number of rounds
+-- the rows of a family that remain after a number of rounds
 abbrev pub after_rounds : List Edge → (Edge → ℕ → ℕ → Bool) → ℕ → List (List ℕ) → List (List ℕ)
 after_rounds es equal zero family = family
 after_rounds es equal (suc count) family = after_rounds es equal count (round_from es equal family 0 family)
@@ -34,7 +34,7 @@ abbrev pub rows_in_all : List (List ℕ) → ℕ
 rows_in_all [] = 0
 rows_in_all (list ∷ lists) = length list + rows_in_all lists
 
--- the rows of the scans that are left after as many rounds as there are rows, and one more. A further round would change nothing
+-- the rows of the scans that remain after as many rounds as there are rows, and one more. A further round would change nothing
 unfoldable pub reduced_of : Query → Tables → List (List ℕ)
 reduced_of query tables =
     after_rounds (equalities_of query) (are_equal_at tables) (rows_in_all (scans_of query tables) + 1) (scans_of query tables)

@@ -1,4 +1,4 @@
--- The rows that semi-joins remove before uses are made of the remaining rows. No public contract uses this file.
+-- Which rows semi-joins may remove. Uses are made only for the rows that remain. No public contract uses this file.
 use Rattle.std.specs.Prelude.{◌≡◌, ◌≢◌, ℕ, ◌-◌, Bool, true, false, ◌&&◌, nat_le, List, length, slice_index_or}
 use Rattle.std.specs.List.{Contains, filter}
 use Rattle.berge_tree.specs.declared.edges.Edge.{Edge}
@@ -32,6 +32,6 @@ pub record StaySifted (key : Keys) (equalities : List Edge) (old new : List (Lis
   pub stay : (scans : List (List ℕ)) (equal : Edge → ℕ → ℕ → Bool) → TellsByKey scans equalities key equal
       → IsSifted scans equalities equal old → IsSifted scans equalities equal new
 
--- the value is in the range that begins at `least`, and its place in the range is marked
+-- the value is in the range that begins at `least`, and it is marked there
 abbrev pub is_marked : ℕ → List Bool → ℕ → Bool
 is_marked least marks value = nat_le least value && slice_index_or marks (value - least) false

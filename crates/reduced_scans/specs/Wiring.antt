@@ -16,7 +16,7 @@ first_item [] entry = 0
 first_item (scan ∷ scans) zero = 0
 first_item (scan ∷ scans) (suc entry) = length scan + first_item scans entry
 
--- the row at a place of an entry's list
+-- the row with index `place` in an entry's list
 abbrev pub row_at : List (List ℕ) → ℕ → ℕ → ℕ
 row_at scans entry place = slice_index (list_at scans entry) place
 

@@ -9,7 +9,7 @@ use std::alloc::Global;
 use std::marker::Model;
 
 /// The values that were numbered so far. Each value is a pair of the number of its equality and its cell. Texts are equal if their numbers in
-/// the pool are equal. In contracts this is the list of these pairs, and a pair's number is its place in the list.
+/// the pool are equal. In contracts this is the list of these pairs, and a pair's number is its index in the list.
 #[derive(Drop)]
 pub(crate) struct EqualityValues {
     pairs: IndexSet<(u32, u64)>,
@@ -41,7 +41,7 @@ impl EqualityValues {
         self.pairs.len()
     }
 
-    /// The number of a value in this equality. A new value gets the next number. The values before keep their numbers.
+    /// The number of a value in this equality. A new value gets the next number. Earlier values keep their numbers.
     pub(crate) fn number(&mut self, equality: u32, cell: u64) -> Result<u32, NoMemory>
         requires { length self.old < 2 ^ 31 }
         ensures class { IfOk result (λ class. slice_get self.new class ≡ Some (equality, cell)) }

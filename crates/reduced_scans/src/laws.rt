@@ -28,9 +28,9 @@ pub fn reduced_scans_are_by_rounds()
         → reduced ≡ reduced_of query tables }
 {}
 
-/// No row of the answer is lost. If one scanned row for each entry together satisfy all equalities, each of these rows is a reduced row. So
-/// the rows of each choice of the last level are reduced rows, in any order of the entries, and over the reduced scans this level is the same
-/// list. The values of the outputs in the choices of this level are the answer; each row occurs as often as in the answer.
+/// No row of the answer is lost. If scanned rows, one for each entry, satisfy all equalities together, each of them is a reduced row. So
+/// in any order of the entries, each choice of the last level has only reduced rows. Over the reduced scans this level is the same list. The
+/// outputs of this level's choices are the rows of the answer, each as often as in the answer.
 pub fn no_row_of_the_answer_is_lost()
     ensures choices { (query : Query) (tables : Tables) (reduced : List (List ℕ)) (choice : List ℕ) → NamesItsEntries query
         → AreReducedScans query tables reduced → SatisfiesEqualities query tables choice

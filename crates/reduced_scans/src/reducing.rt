@@ -25,7 +25,7 @@ use query_types::Query;
 use row_buf::RowBuf;
 use std::alloc::Global;
 
-// Marks the rows that stay. The marks of a list come after the marks of the list before it. The numbered values and their uses are freed.
+// Marks the rows that are kept. The marks of a list come after the marks of the list before it. The numbered values and their uses are freed.
 fn marks_of(
     alloc: Global,
     db: &Database,
@@ -51,7 +51,7 @@ fn marks_of(
     Ok(marks)
 }
 
-// Counts the marked rows of a list. `first` is the place of the mark of the list's first row.
+// Counts the marked rows of a list. `first` is the index of the mark of the list's first row.
 fn marked_count(list: &[u32], marks: &RowBuf<bool>, first: u32) -> u64
     requires marks { first + length list.now ≤ length marks.now.items }
     requires few { length marks.now.items ≤ most_entries * most_rows }
@@ -119,8 +119,8 @@ fn marked_lists(
 /// `scans` has the scan of each FROM entry, and `equalities` has the equalities that `split` of join_graph finds. The call has two steps:
 ///
 /// 1. Semi-joins along the equalities, from the first to the last and back, remove rows whose value the other side doesn't have. A semi-join
-///    looks a value up by its place in the range of the other side's values. Where that range is too long, it removes nothing.
-/// 2. The values that are left get numbers, by one hash of each cell. Then a worklist removes rows without a match, until nothing changes.
+///    looks values up in marks, one for each number in the range of the other side's values. Where that range is too long, it removes nothing.
+/// 2. The remaining values get numbers, by one hash of each cell. Then a worklist removes rows without a match, until nothing changes.
 ///
 /// Time and memory are on average linear in the number of rows times the number of their equalities. All memory but that of the result is
 /// freed before the call returns. The result and its lists have no spare capacity.

@@ -187,7 +187,7 @@ fn copy(alloc: Global, list: &[u32]) -> Result<RowBuf<u32>, NoMemory>
     Ok(rows)
 }
 
-/// The rows of each scan that are left after semi-joins along all equalities, from the first to the last and back. A semi-join removes rows
+/// The rows of each scan that remain after semi-joins along all equalities, from the first to the last and back. A semi-join removes rows
 /// that have no partner. If the values of the other side lie too far apart, it removes no row.
 pub(crate) fn sifted(
     alloc: Global,

@@ -1,4 +1,4 @@
-//! The set of a column's values in the rows of a list, if the values lie in a short range. A value is looked up by its place in the range.
+//! The set of a column's values in the rows of a list, if the values lie in a short range. Each number in the range has a mark.
 ghost use Rattle.std.specs.Prelude.{◌≡◌, ◌+◌, ◌-◌, ◌*◌, ◌<◌, ◌≤◌, true, All, IfOk, IfSome, length, slice_index};
 ghost use Rattle.limits.specs.Profile.{most_rows};
 ghost use Rattle.reduced_scans.specs.SemiJoins.{is_marked};
@@ -6,10 +6,10 @@ ghost use Rattle.reduced_scans.specs.SemiJoins.{is_marked};
 use base_io::NoMemory;
 use std::alloc::Global;
 
-// A range of at most this many places is always short.
+// A range of at most this many numbers is always short.
 const FEW: u64 = 64;
 
-/// A set of values: the least value of their range, and for each place of the range whether its value is in the set.
+/// A set of values: the least value of their range, and for each number in the range whether it is in the set.
 #[derive(Drop)]
 pub(crate) struct ValueSet {
     least: u64,
@@ -44,7 +44,7 @@ fn ends_of(cells: &[u64], list: &[u32]) -> (u64, u64)
     (least, greatest)
 }
 
-// Marks the places of the cells of the rows of `list`. All these cells lie in the range.
+// Marks the cells in the rows of `list`. All these cells lie in the range.
 fn mark(cells: &[u64], list: &[u32], least: u64, marks: &mut [bool])
     requires rows { All (λ row. row < length cells.now) list.now }
     requires above { All (λ row. least ≤ slice_index cells.now row) list.now }
@@ -57,7 +57,7 @@ fn mark(cells: &[u64], list: &[u32], least: u64, marks: &mut [bool])
     }
 }
 
-/// The set of a column's cells in the rows of `list`, if their range has at most 64 + 8 * `rows` places; otherwise `None`.
+/// The set of a column's cells in the rows of `list`, if their range has at most 64 + 8 * `rows` numbers; otherwise `None`.
 pub(crate) fn values_of(
     alloc: Global,
     cells: &[u64],

@@ -39,7 +39,7 @@ pub fn lists_stay()
         → IsOneToOne f column → IsOneToOne g joined → Contains column value
         → list_of_value accuracy (zip (map f column) (map g joined)) (Some (f value))
         ≡ list_of_value accuracy (zip column joined) (Some value) }
-    // the list of a value that no row has, whatever number stands for it in the old and in the new numbers
+    // the list of a value that no row has, whatever number it has among the old and the new numbers
     ensures absent { (accuracy : ℕ) (f g : ℕ → ℕ) (column joined : List ℕ) (other value : Option ℕ)
         → IsOneToOne f column → IsOneToOne g joined → IsMissing (map f column) other → IsMissing column value
         → list_of_value accuracy (zip (map f column) (map g joined)) other ≡ list_of_value accuracy (zip column joined) value }

@@ -4,8 +4,8 @@
 //! In: two columns, and one-to-one functions that replace their numbers. Out: laws; no code runs. So a value may be represented by its cell,
 //! by the first row that has it, or by any key that differs for different values: its list is the same.
 //!
-//! - Degrees and leaves stay. Frequent values and cuts are the new numbers of the old frequent values and cuts.
-//! - No list changes: of all rows, of a value, of a value that no row has, of a node, of a range.
+//! - Degrees and leaves don't change. Frequent values and cuts are the new numbers of the old frequent values and cuts.
+//! - No list changes: neither the list of all rows, nor that of a value, a value that no row has, a node or a range.
 //! - A list that dominates keys dominates all keys that are equal in the same rows.
 //!
 //! Callers cite `IsOneToOne`, `KeepsOrder`, `PassAlike`, `StandAlike` and `AreEqualAlike` (in `specs/Relabelling.antt`), and `laws`.

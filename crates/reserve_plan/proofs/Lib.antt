@@ -1,7 +1,7 @@
 -- How the proofs of this crate go: what was hard, and how it was solved.
 --
--- That levels have exactly the room asked for is a clause of `RowForest::reserve`. In goals `&order[1..]` is `take (length - 1) (drop 1
--- order)`, so the last answer has one `take_all`.
+-- `RowForest::reserve` has a clause by which levels have exactly the room that was asked for. In goals `&order[1..]` is
+-- `take (length order - 1) (drop 1 order)`, so the answers of `reserve` use `take_all`.
 
 pub mod Roomy
 pub mod Few

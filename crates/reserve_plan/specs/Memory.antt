@@ -14,11 +14,11 @@ use Rattle.reserve_plan.specs.Rooms.{Rooms, rooms}
 abbrev pub lists_bytes : List ℕ → ℕ
 lists_bytes sizes = BUFFER_BYTES * length sizes + ROW_NUMBER_BYTES * sum sizes
 
--- the bytes of the hash chains of some rows; there are as many buckets as rows, and at least one
+-- the bytes of hash chains with room for this many rows. There are as many buckets as rows, and one bucket for no rows
 abbrev pub row_chain_bytes : ℕ → ℕ
 row_chain_bytes rows = chain_bytes rows (max rows 1)
 
--- the bytes of a list of hash chains. For each size there are chains of that many rows
+-- the bytes of a list of hash chains. For each size there are chains with room for that many rows
 abbrev pub chain_list_bytes : List ℕ → ℕ
 chain_list_bytes sizes = CHAINS_BYTES * length sizes + sum (map row_chain_bytes sizes)
 

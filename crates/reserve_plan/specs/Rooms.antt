@@ -6,7 +6,7 @@ use Rattle.link_index.specs.Places.{Loaded}
 use Rattle.link_index.specs.Forest.{Level}
 use Rattle.reserve_plan.specs.declared.reserved.Reserved.{Reserved}
 
--- how many items each buffer of a plan has to take. The levels stand in the order of the plan
+-- how many items each buffer of a plan has to take. `chains` and `levels` are in the order of the plan
 pub record Rooms : Type 0 where
   -- for each level after the first, how many rows its chains (hash tables by which a join finds rows) take
   pub chains : List ℕ
@@ -40,11 +40,11 @@ pub record IsRoomFor {T : Type 0} (count : ℕ) (buffer : Rows T) : Type 0 where
 abbrev pub buffer_for : ℕ → Rows ℕ
 buffer_for size = record { items = []; spare = size }
 
--- empty chains with room for exactly `rows` rows, and with as many buckets, but at least one
+-- empty chains with room for exactly `rows` rows. They have `rows` buckets, or one bucket for no rows
 abbrev pub chains_for : ℕ → Loaded
 chains_for rows = record { keys = []; room = rows; buckets = max rows 1 }
 
--- empty chains with room for at least `count` rows, and with at least `count` buckets and at least one
+-- empty chains with room for at least `count` rows. They have at least `count` buckets, and at least one where `count` is 0
 pub record IsRoomForKeys (count : ℕ) (chains : Loaded) : Type 0 where
   pub empty : chains.keys ≡ []
   pub room : count ≤ chains.room

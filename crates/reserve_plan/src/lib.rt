@@ -2,10 +2,10 @@
 //!
 //! This is the stage after the order is chosen. In: an order of the FROM entries, and how many rows each entry's list and each level have at
 //! most. Out: buffers with room for that many rows. `reserve` is the last step of a query that can run out of memory: filling the buffers
-//! allocates nothing. `row_buffers` makes empty lists with room, for rows that aren't listed yet.
+//! allocates nothing. `row_buffers` makes empty buffers of row numbers, one for each entry's list.
 //!
-//! Callers cite `rooms`, which says how many items each buffer of a plan has to take, and `HasRooms`. The bounds of a plan may be higher than
-//! the numbers of rows; `less_needs_less_room` says that there is room for the rows all the same.
+//! Callers cite `rooms`, which says how many items each buffer of a plan has to take, and `HasRooms`. Buffers are reserved for a plan's
+//! bounds, which may be higher than the numbers of rows. By `less_needs_less_room` these buffers have room for the rows, too.
 //!
 //! `plan_memory` says how many bytes a plan takes, before any memory is taken. `plan_bytes` defines this number: each buffer's capacity times
 //! the size of an item, and the bytes of each list of buffers.
@@ -27,7 +27,7 @@ pub use memory::{lists_memory, plan_memory, plans_take_few_bytes, row_chain_byte
 pub use reserved::{CHAINS_BYTES, Reserved};
 pub use reserving::{empty_chains, greatest, reserve, row_buffers};
 
-/// Buffers with room for more rows have room for fewer rows, too. The call does nothing.
+/// Buffers with room for some numbers of rows have room for lower numbers, too. The call does nothing.
 pub fn less_needs_less_room()
     ensures { (order lists levels more_in_lists more_in_levels : List ℕ) (reserved : Reserved)
         → AllZip ◌≤◌ lists more_in_lists → AllZip ◌≤◌ levels more_in_levels

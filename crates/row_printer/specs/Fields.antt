@@ -29,6 +29,6 @@ fields_text (field ∷ []) = lone_field_text field
 fields_text [] = []
 fields_text (first ∷ second ∷ fields) = join_with_byte 44 (map field_text (first ∷ second ∷ fields))
 
--- a record: its fields, and CR and LF
+-- the text of a record: its fields, and then CR and LF
 abbrev pub record_text : List (List ℕ) → List ℕ
 record_text fields = fields_text fields ++ codes "\r\n"

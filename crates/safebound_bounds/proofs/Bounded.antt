@@ -39,7 +39,7 @@ use Rattle.safebound_bounds.proofs.MetRows.{HasAtLeast, all_rows, met_at_least, 
 some_of : {X : Type 0} (o : Option X) (x : X) → o ≡ Some x → IsSome o
 some_of o x e = rw e refl
 
--- ---- a list that was found has the properties of all lists
+-- ---- what holds of every list also holds of a list that was found
 
 pub found_at : (entry column : ℕ) (lists : List ColumnList) (P : ColumnList → Type 0) → ((i : ℕ) → i < length lists → P (list_at lists i)) → (l : ColumnList)
     → find (is_of entry column) lists ≡ Some l → P l × (is_of entry column l ≡ true)
@@ -201,7 +201,7 @@ module _ (rows : List ℕ) (equalities : List Equality) (lists : List ColumnList
       either_told (length choices) (bound_of_set (known_in rows lists runs (edges_of equalities) subset) (edges_of equalities) subset) bound
       (set_within rows equalities lists runs right subset tables fit choices satisfy differ) is
 
--- ---- if the sum of every list is at least its entry's row bound
+-- ---- if the sum of every list is at least its entry's row bound, row bounds and lists are the same in every set
 
 module _ (rows : List ℕ) (equalities : List Equality) (lists : List ColumnList) (runs : List Run) (right : IsRight rows equalities lists runs)
     (full : (i : ℕ) → i < length lists → IsFull rows runs (list_at lists i)) where

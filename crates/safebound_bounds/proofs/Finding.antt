@@ -1,4 +1,4 @@
--- These lemmas are for loops. They are about the first item that passes a test, about small numbers, and about the images of the first items.
+-- Lemmas for the invariants of loops: on the first item that passes a test, on numbers below a limit, and on mapping the first i items.
 use Rattle.std.proofs.Common.{◌≡◌, ℕ, zero, suc, ◌+◌, ◌<◌, ◌≤◌, Bool, true, false, cond, List, [], ◌∷◌, ◌++◌, length, take, drop, get_or, map, Some, None, find, refl, ap, sym, ◌∙◌, add-one, arith}
 use Rattle.std.proofs.lemmas.List.{take_more}
 
@@ -22,7 +22,7 @@ module _ {X : Type 0} (t : X → Bool) where
   none_left (x ∷ xs) zero past = absurd (omega arith)
   none_left (x ∷ xs) (suc i) past = none_left xs i (omega arith)
 
--- ---- small numbers and one more small number
+-- ---- numbers below m, with one more number below m at the end
 
 pub small_more : (m : ℕ) (xs : List ℕ) (x : ℕ) → ((i : ℕ) → get_or xs i 0 < m) → x < m → (i : ℕ) → get_or (xs ++ x ∷ []) i 0 < m
 small_more m [] x few low zero = low
@@ -30,7 +30,7 @@ small_more m [] x few low (suc i) = omega (arith, few 0)
 small_more m (y ∷ xs) x few low zero = few 0
 small_more m (y ∷ xs) x few low (suc i) = small_more m xs x (λ k. few (suc k)) low i
 
--- ---- the images of the first i items and one more item
+-- ---- mapping the first i items and one more item
 
 module _ {X Y : Type 0} (f : X → Y) where
   mapped_last : (xs : List X) (x : X) → map f (xs ++ x ∷ []) ≡ map f xs ++ f x ∷ []

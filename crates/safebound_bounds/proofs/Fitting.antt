@@ -1,4 +1,4 @@
--- A list that is fitted to a number of rows falls, its elements are positive, and its sum is the number of rows.
+-- A list that is fitted to a number of rows is in descending order, its elements are positive, and its sum is the number of rows.
 use Rattle.std.proofs.Common.{◌≡◌, ℕ, zero, suc, ◌+◌, ◌-◌, ◌<◌, ◌≤◌, min, List, [], ◌∷◌, ◌++◌, length, take, get_or, replicate, ap, sym, ◌∙◌, subst, sum, arith}
 use Rattle.std.specs.List.{AllByRecursion}
 use Rattle.std.proofs.lemmas.List.{append-nil, take_all, take_more}
@@ -14,7 +14,7 @@ use Rattle.safebound_lists.proofs.Following.{elements_at_least, list_of_more, no
 use Rattle.piece_math.proofs.Cutting.{positive-cut_at}
 use Rattle.safebound_bounds.specs.Meaning.{fitted}
 
--- ---- a falling list and then a run of no larger elements
+-- ---- a descending list with a run of no larger elements at its end
 
 run_falls : (n v : ℕ) → IsFalling (replicate n v)
 run_falls zero v r = omega arith
@@ -32,7 +32,7 @@ falls_on (x ∷ []) v n fall all zero = omega (arith, first_of_run n v, all.0)
 falls_on (x ∷ (y ∷ s)) v n fall all zero = fall 0
 falls_on (x ∷ s) v n fall all (suc r) = falls_on s v n (λ k. fall (suc k)) all.1 r
 
--- ---- the list of runs that are right
+-- ---- the list that right runs stand for is in descending order
 
 front_falls : (runs : List Run) → AreRight runs → (n : ℕ) → n ≤ length runs → IsFalling (list_of (take n runs))
 front_falls runs right zero low r = omega arith
@@ -74,7 +74,7 @@ fitted_falls rows s fall = falls_on (cut_at s rows) 1 (rows - sum (cut_at s rows
 
 -- ---- the fitted list as the code makes it
 
--- A list of positive elements is no longer than its sum. So there is room for as many ones as rows are left.
+-- The length of a list of positive elements is at most its sum. So the code can append a 1 for each row that isn't counted yet.
 pub no_longer : (s : List ℕ) → AllByRecursion (λ x. 0 < x) s → length s ≤ sum s
 no_longer s all = no_more_than_sum s (one_or_more s all)
 

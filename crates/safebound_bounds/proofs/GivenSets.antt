@@ -80,7 +80,7 @@ module _ {A : Type 0} (rows : List ℕ) (equalities : List Equality) (lists : Li
   wants_memory_within limit room (Ok a) h = tt
   wants_memory_within limit room (Err why) h = subst (IsWithinCause rows equalities lists runs limit room) (sym h) tt
 
--- ---- a cause for which all bounds are refused is also one with a limit of work, and one for one set
+-- ---- a cause for which `bounds` refuses a call is also a cause of `bounds_within` and of `set_bound`
 
 module _ (rows : List ℕ) (equalities : List Equality) (lists : List ColumnList) (runs : List Run) where
   within_cause : (limit room : ℕ) (why : Refusal) → IsBoundsCause rows equalities lists runs room why → IsWithinCause rows equalities lists runs limit room why

@@ -1,4 +1,4 @@
--- The number of rows that runs count is added up run by run.
+-- The rows that runs count are added up run by run, and the sum stays within 2^48.
 use Rattle.std.proofs.Common.{◌≡◌, ℕ, ◌+◌, ◌*◌, ◌<◌, ◌≤◌, ◌^◌, List, length, take, ap, ◌∙◌, sum, arith}
 use Rattle.std.proofs.lemmas.List.{take_more}
 use Rattle.safebound_lists.specs.declared.runs.Run.{Run}

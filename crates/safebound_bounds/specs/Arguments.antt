@@ -66,7 +66,7 @@ runs_of runs list = take list.length (drop list.first runs)
 abbrev pub AreRunsRightAt : List ColumnList → List Run → ℕ → Type 0
 AreRunsRightAt lists runs i = AreRight (runs_of runs (list_at lists i))
 
--- the place of the first wrong run in the first list that has a wrong run
+-- of the first list that has a wrong run, the first wrong run. `place` is this run's index in the call's array of runs
 pub record IsWrongRun (lists : List ColumnList) (runs : List Run) (place : ℕ) : Type 0 where
   pub list : ℕ
   pub first_list : IsFirstWrong (AreRunsRightAt lists runs) (length lists) list

@@ -1,5 +1,5 @@
--- The causes for which a call for bounds is refused. Each cause also says that the causes which the call tests earlier don't apply. So at
--- most one result is right, apart from NoMemory.
+-- The causes for which a call for bounds is refused. Each cause also says that the causes which the call tests earlier don't apply. So for
+-- given arguments at most one result is possible, apart from NoMemory.
 use Rattle.std.specs.Prelude.{◌≡◌, ◌⊎◌, ℕ, ◌^◌, ◌<◌, ◌≤◌, ⊤, List, length}
 use Rattle.limits.specs.Profile.{most_conjuncts, most_entries}
 use Rattle.safebound_lists.specs.declared.refusal.Refusal.{Refusal}
@@ -39,9 +39,9 @@ pub record IsRight (rows : List ℕ) (equalities : List Equality) (lists : List 
   pub runs_right : AreRunsRight lists runs
   pub listed : (i : ℕ) → i < length equalities → ColumnsHaveLists lists (equality_at equalities i)
 
--- the cause of each refusal. Entries: there are no entries, or more than 12. Rows, Equality, List, Run: this is the first wrong one.
--- Equalities: there are more than 256. MissingList: this is the first equality with a column that has no list. Room: the caller's buffer is
--- too small for all bounds. NoMemory needs no cause
+-- the cause of each refusal. Entries: there are no entries, or more than 12. Rows, Equality, List, Run: `place` is the index of the first
+-- wrong one. Equalities: there are more than 256. MissingList: `place` is the index of the first equality with a column that has no list.
+-- Room: the caller's buffer is too small for all bounds. NoMemory needs no cause
 abbrev pub IsBoundsCause : List ℕ → List Equality → List ColumnList → List Run → ℕ → Refusal → Type 0
 IsBoundsCause rows equalities lists runs room (refusal.Entries count) = (count ≡ length rows) × ((count ≡ 0) ⊎ (most_entries < count))
 IsBoundsCause rows equalities lists runs room (refusal.Rows place) =
@@ -64,15 +64,15 @@ IsBoundsCause rows equalities lists runs room (refusal.Room needed) =
 IsBoundsCause rows equalities lists runs room refusal.NoMemory = ⊤
 IsBoundsCause rows equalities lists runs room _ = ⊥
 
--- the causes with a limit of work: those without a limit, and one more. It is that all values are right and there is room, but the work is
--- above the limit
+-- the causes of `bounds_within`: those of `bounds`, and one more. It is that all values are right and there is room, but the work is above
+-- the limit
 abbrev pub IsWithinCause : List ℕ → List Equality → List ColumnList → List Run → ℕ → ℕ → Refusal → Type 0
 IsWithinCause rows equalities lists runs limit room (refusal.Work needed) =
     IsRight rows equalities lists runs × (2 ^ length rows ≤ room) × (limit < work_of lists (edges_of equalities) (length rows))
     × (needed ≡ in_64_bits (work_of lists (edges_of equalities) (length rows)))
 IsWithinCause rows equalities lists runs limit room why = IsBoundsCause rows equalities lists runs room why
 
--- the causes for one set: those for all sets, with enough room, and one more. It is that all values are right, but the set has an entry that
+-- the causes of `set_bound`: those of `bounds` with enough room, and one more. It is that all values are right, but the set has an entry that
 -- doesn't exist
 abbrev pub IsSetCause : List ℕ → List Equality → List ColumnList → List Run → ℕ → Refusal → Type 0
 IsSetCause rows equalities lists runs subset (refusal.Set given) = IsRight rows equalities lists runs × (given ≡ subset) × (2 ^ length rows ≤ subset)

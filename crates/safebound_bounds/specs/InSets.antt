@@ -1,4 +1,4 @@
--- The row bounds and lists in a set, from the values of the code. No public contract uses this file.
+-- The row bounds and lists in a set, taken from the code's struct `Given`. No public contract uses this file.
 use Rattle.std.specs.Prelude.{◌≡◌, ℕ, ◌^◌, ◌<◌, ◌≤◌, List, length, slice_index}
 use Rattle.std.specs.List.{sum}
 use Rattle.berge_tree.specs.declared.edges.Edge.{Edge}

@@ -49,11 +49,11 @@ known rows lists runs = record {
 
 -- ---- row bounds and lists in a set
 
--- how many rows of an entry have a value in a column, at most: the sum of its list
+-- how many rows of an entry have a value in a column, at most: the sum of the column's list
 abbrev pub rows_with_value : List ColumnList → List Run → Place → ℕ
 rows_with_value lists runs p = sum (unwrap_or (given lists runs p.entry p.column) [])
 
--- `rows`, or, if the column is the entry's, at most the number of rows with a value in this column
+-- if the column at `p` is one of the entry's, the lesser of `rows` and the number of rows with a value in this column. Otherwise `rows`
 abbrev pub fewer_at : List ColumnList → List Run → ℕ → Place → ℕ → ℕ
 fewer_at lists runs entry p rows = if p.entry == entry then min rows (rows_with_value lists runs p) else rows
 
@@ -82,6 +82,6 @@ in_64_bits bound = min bound no_bound
 abbrev pub bound_in : (ℕ → EntryBounds) → List Edge → ℕ → ℕ
 bound_in b es subset = in_64_bits (bound_of_set (b subset) es subset)
 
--- the bounds of all sets of n entries. The bound of a set stands at the index whose bits are the set's entries
+-- the bounds of all sets of n entries. The bound of a set is at the index whose bits are the set's entries
 abbrev pub all_bounds : (ℕ → EntryBounds) → List Edge → ℕ → List ℕ
 all_bounds b es n = map (bound_in b es) (range_with_len 0 (2 ^ n))

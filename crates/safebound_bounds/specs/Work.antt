@@ -15,7 +15,7 @@ length_if (Some list) = list.length
 abbrev pub runs_listed : List ColumnList → Place → ℕ
 runs_listed lists p = length_if (find (is_of p.entry p.column) lists)
 
--- how many runs the lists of both columns of an equality have
+-- how many runs the lists of an equality's two columns have together
 abbrev pub runs_joined : List ColumnList → Edge → ℕ
 runs_joined lists e = runs_listed lists e.left + runs_listed lists e.right
 

@@ -13,7 +13,7 @@ pub struct Equality {
 /// The value of `first` in a list without runs, for a column in which no row has a value.
 pub const NO_VALUES: u64 = u64::MAX;
 
-/// The list of an entry's column: `length` runs of the call's array of runs, from place `first` on.
+/// The list of an entry's column: `length` runs of the call's array of runs, from index `first` on.
 #[repr(C)]
 #[derive(Clone, Copy, Debug, PartialEq, Eq)]
 pub struct ColumnList {

@@ -75,7 +75,8 @@ fn first_wrong(
     Ok(())
 }
 
-// The bounds of all sets, if every list counts as many rows as its entry's row bound. Then row bounds and lists are the same in every set.
+// The bounds of all sets, if every list counts at least as many rows as its entry's row bound. Then row bounds and lists are the same in
+// every set.
 fn full_bounds(alloc: Global, parts: &Parts, given: &Given) -> Result<Seq<u128>, NoMemory>
     requires right { IsRight given.now.rows.now given.now.equalities.now given.now.lists.now given.now.runs.now }
     requires edges { parts.now.equalities ≡ edges_of given.now.equalities.now }

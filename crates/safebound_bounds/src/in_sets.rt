@@ -53,7 +53,7 @@ fn rows_with_value(lists: &[ColumnList], runs: &[Run], place: Place) -> u64
     }
 }
 
-// `rows`, or, if the column at `place` is the entry's, at most the number of rows with a value in this column.
+// If the column at `place` is one of the entry's, the lesser of `rows` and the number of rows with a value in this column. Otherwise `rows`.
 fn fewer_at(lists: &[ColumnList], runs: &[Run], entry: u8, place: Place, rows: u64) -> u64
     requires there { (i : ℕ) → i < length lists.now → AreRunsThere (length runs.now) (list_at lists.now i) }
     requires right { (i : ℕ) → i < length lists.now → AreRunsRightAt lists.now runs.now i }
@@ -65,7 +65,7 @@ fn fewer_at(lists: &[ColumnList], runs: &[Run], entry: u8, place: Place, rows: u
     rows.min(rows_with_value(lists, runs, place))
 }
 
-// `rows`, a row bound of an entry, lowered by an equality if both entries of the equality are in the set.
+// `rows` is a row bound of `entry`. It is lowered by `fewer_at` for both columns of the equality, if both its entries are in the set.
 fn met_at(
     lists: &[ColumnList],
     runs: &[Run],

@@ -40,7 +40,7 @@ fn runs_of_each(alloc: Global, lists: &[ColumnList], edges: &[Edge]) -> Result<S
     Ok(each)
 }
 
-// The work, plus the runs of an equality, if both its entries are in the set.
+// If both entries of the equality are in the set, the work plus the equality's runs. Otherwise the work.
 fn with_runs(work: u128, subset: EntrySet, edge: Edge, runs: u128) -> u128
     requires { work + runs < 2 ^ 128 }
     ensures { result ≡ (if joins_within subset edge then work + runs else work) }

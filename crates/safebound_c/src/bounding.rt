@@ -72,7 +72,7 @@ pub extern "C" fn safebound_bounds_within(
     )
 }
 
-/// The bound of one set of entries alone, in rows.
+/// Writes to `detail` the bound of one set of entries, in rows. No other set is bounded.
 #[unsafe(no_mangle)]
 pub extern "C" fn safebound_set_bound(
     alloc: Global,

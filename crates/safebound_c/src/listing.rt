@@ -14,7 +14,7 @@ use crate::status::told;
 use safebound_lists::{Run, append, compress, cut, degrees, greater_of, lesser_of};
 use std::alloc::Global;
 
-/// Writes the degree sequence of a column's keys, as runs with falling degrees.
+/// Writes the degree sequence of a column's keys, as runs in descending order of degrees.
 #[unsafe(no_mangle)]
 pub extern "C" fn safebound_degrees(
     alloc: Global,
@@ -61,8 +61,8 @@ pub extern "C" fn safebound_append(
     told(append(alloc, runs, others, into), detail)
 }
 
-/// Writes the list whose running sums are the lesser of two lists' running sums. This list dominates the rows that satisfy the conditions of
-/// both lists.
+/// Writes the list in which each running sum is the lesser of the two lists' running sums. If each of the two lists dominates the rows of a
+/// condition, this list dominates the rows that satisfy both conditions.
 #[unsafe(no_mangle)]
 pub extern "C" fn safebound_lesser(
     alloc: Global,

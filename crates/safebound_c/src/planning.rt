@@ -10,7 +10,7 @@ use crate::status::told;
 use safebound_plans::{JoinNode, Level, order, order_memory, tree, tree_memory};
 use std::alloc::Global;
 
-/// Writes the levels of the best left-deep order over bounds of all sets.
+/// Writes the levels of the best left-deep order by the bounds of all sets.
 #[unsafe(no_mangle)]
 pub extern "C" fn safebound_order(
     alloc: Global,
@@ -25,7 +25,7 @@ pub extern "C" fn safebound_order(
     told(order(alloc, bounds, budget, into), detail)
 }
 
-/// Writes the joins of the best join tree over bounds of all sets.
+/// Writes the joins of the best join tree by the bounds of all sets.
 #[unsafe(no_mangle)]
 pub extern "C" fn safebound_tree(
     alloc: Global,

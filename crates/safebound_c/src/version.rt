@@ -7,7 +7,7 @@ ghost use Rattle.safebound_c.specs.Version.{version_text};
 use crate::status::told;
 use safebound_lists::Refusal;
 
-// The text and a 0 at its end.
+// The text of the version, and then a byte 0.
 const VERSION: &[u8; 6] = b"0.3.0\0";
 
 fn version(into: &mut [u8]) -> Result<u64, Refusal>
@@ -25,7 +25,7 @@ fn version(into: &mut [u8]) -> Result<u64, Refusal>
     Ok(count as u64)
 }
 
-/// Writes the library's version as text, with a 0 at its end.
+/// Writes the library's version as a text that ends with a byte 0.
 #[unsafe(no_mangle)]
 pub extern "C" fn safebound_version(into: &mut [u8], detail: &mut u64) -> u32
     ensures exact { TellsAnswer (IsFilled version_text into.old into.new) (NeedsRoom (length version_text) (length into.old))

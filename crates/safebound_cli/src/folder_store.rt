@@ -6,7 +6,7 @@ use std::fs;
 use std::io::{self, Read, Seek, SeekFrom};
 use std::rt::Files;
 
-// A file, its name, and the place at which its next read begins.
+// A file, its name, and the byte offset at which its next read begins.
 #[derive(Drop)]
 struct Opened<F> {
     name: String,

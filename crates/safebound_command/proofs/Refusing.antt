@@ -1,4 +1,5 @@
--- A call with more words than any command line has is refused as Usage, and does nothing else.
+-- No command takes more than 16 words. A call with more words that is refused as Usage, reads no file and writes only the line of its
+-- status satisfies the headline.
 use Rattle.std.proofs.Common.{◌≡◌, ℕ, ◌<◌, List, [], ◌∷◌, length, None, Some, refl, sym, subst}
 use Rattle.base_io.specs.Devices.{Growth}
 use Rattle.base_io.specs.Files.{Files}

@@ -1,4 +1,4 @@
--- If the word at some place of a call isn't UTF-8, then some word of the call isn't UTF-8.
+-- A word that isn't UTF-8, given by its index, proves that `Any` word of the call isn't UTF-8.
 use Rattle.std.proofs.Common.{ℕ, ◌<◌, List, map, length, get_or}
 use Rattle.std.specs.Borrow.{Bor}
 use Rattle.std.specs.List.{Any}

@@ -29,7 +29,7 @@ stream text faults = record {
   faults_after = faults;
 }
 
--- a buffer of the caller's (a room) after a call, and how many bytes were written at its front
+-- a buffer of the caller (its room) after a call, and how many bytes were written at its front
 pub record Written : Type 0 where
   pub room : List ℕ
   pub count : ℕ
@@ -70,6 +70,6 @@ pub record HasBadWord (words : List (List ℕ)) (out notes : Written) (code : �
   pub no_out : out.count ≡ 0
   pub no_notes : notes.count ≡ 0
 
--- the program was run, or a word isn't UTF-8. Copying the words takes no memory. If the run ran out of memory, its exit status says so
+-- the program was run, or a word isn't UTF-8. Copying the words allocates no memory. If the run ran out of memory, its exit status says so
 abbrev pub CallEnds : List (List ℕ) → Files → Written → Written → ℕ → Type 0
 CallEnds words files out notes code = ((misses : ℕ) × Ran words files out notes misses code) ⊎ HasBadWord words out notes code

@@ -12,7 +12,7 @@ use std::str;
 pub(crate) enum NoWords {
     /// A word isn't UTF-8.
     NotUtf8,
-    /// There are more than `MOST_WORDS` words. No command of the program has as many.
+    /// There are more than `MOST_WORDS` words. No command of the program takes that many.
     TooMany,
 }
 

@@ -129,7 +129,7 @@ module _ (made : StatsCall) (schema : Schema) (bytes : List ℕ) (wrote : WroteS
 
 -- ---- the bytes that one append wrote
 
--- the tables with the added rows of one append are the tables with new rows of appended_stats
+-- the tables with the rows that one append added satisfy `HasNewRows` of the crate appended_stats
 has_added : (query : Query) (tables : Tables) (table : ℕ) (rows : List Row) → HasNewRows query table rows tables (with_added query tables (record { table = table; rows = rows } ∷ []))
 has_added query tables table rows entry low = elim (cases_Bool (table_of query entry == table)) [
   | inl e ↦ rw e (ap (λ (s : List Row). tables entry ++ s) (append-nil rows))

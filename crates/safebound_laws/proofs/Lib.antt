@@ -1,7 +1,7 @@
--- For any tables that are read, there is a database with their rows (Databases). The values of cells need no new induction. The loop that
--- reads a file carries its invariant as a record over plain values (`RowsSoFar` of csv_tables). The steps over the records as a list carry
--- the same invariant, without any code (TableCells). Only two facts are new: a value in its range has a cell, and the fields of a text are
--- texts.
+-- For any tables that are read, there is a database with their rows (Databases). The proof about the values of cells needs no new invariant.
+-- In csv_tables, the loop that reads a file has an invariant that is a record over plain values (`RowsSoFar`). Here the recursion over the
+-- list of records carries the same record, without any code (TableCells). Only two facts are new: a value in its range has a cell, and the
+-- fields of a UTF-8 text are UTF-8.
 --
 -- One record says what is known about the bytes of a statistics file (KnownBytes). `stats` gives this record, each append hands it on, and a
 -- plan takes it. The record says that the file stands for the tables of the query that `stats` read. Only at the end is this carried over to

@@ -102,7 +102,7 @@ plan_made schema_file query_file stats_file terms files outcome ran =
 
 -- ---- the rows of another query's entries
 
--- an entry of the other query has the rows of the first entry of its table
+-- an entry of the query `other` gets the rows of the first entry of `query` that has the same table
 abbrev pub moved : Query → Tables → Query → Tables
 moved query tables other place = tables (unwrap_or (first_entry query (table_of other place)) 0)
 

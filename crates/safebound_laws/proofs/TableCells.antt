@@ -1,4 +1,4 @@
--- The rows in a table's file are the rows of some cells, whose texts are in a pool that grows.
+-- For the rows in a table's file there are cells with these values. The texts of the cells are in a pool, which may grow with each value.
 use Rattle.std.proofs.Common.{◌≡◌, ℕ, zero, suc, ◌+◌, ◌<◌, ◌≤◌, ℤ, Bool, true, false, not, if◌then◌else◌, List, [], ◌∷◌, ◌++◌, length, get_or, Option, None, Some, Result, Ok, Err, refl, ap, sym, ◌∙◌, subst, arith, SFits, append-nil}
 use Rattle.std.specs.Prelude.{All, ◌==◌, ◌&&◌, nat_lt, nat_le, option_map, replicate}
 use Rattle.std.specs.List.{AllByRecursion, IsDistinct, list_any}
@@ -142,7 +142,7 @@ value_cell kind.Int field value old pool utf8 e =
     (decimal_after 0 (without_sign field)) (greatest_magnitude (is_minus field)) size refl is) e
 value_cell (kind.Text most) field value old pool utf8 e = text_value most (nat_le (length (chars field)) most) field value old pool utf8 e
 
--- ---- if two steps in a row have a value, each of them has one
+-- ---- if `then_all` has a value, its first step and the rest have one
 
 pub record ThenBoth {A : Type 0} (first : Result A TableError) (rest : Result (List A) TableError) (all : List A) : Type 0 where
   pub x : A

@@ -66,7 +66,7 @@ pub record PlanIsNear (made : StatsCall) (planned : PlanCall) (schema : Schema) 
 
 -- ---- the rows that were appended
 
--- new rows for the table with this place in the schema
+-- new rows for the table with this number in the schema
 pub record Added : Type 0 where
   pub table : ℕ
   pub rows : List Row
@@ -80,7 +80,7 @@ pub record AddsRowsOfFile (schema : Schema) (append : AppendCall) (added : Added
   pub there : file_of append.files append.names.rows_file ≡ Some bytes
   pub read : rows_of_file table bytes ≡ Ok added.rows
 
--- the two lists are equally long, and the call of `append` at each place added the rows at the same place of the other list
+-- the two lists are equally long, and call i of `append` added the rows at index i of the other list
 abbrev pub AddEach : Schema → List AppendCall → List Added → Type 0
 AddEach schema [] [] = ⊤
 AddEach schema [] (added ∷ more) = ⊥

@@ -11,6 +11,6 @@ use Rattle.safebound_words.specs.declared.command.PlanWork.{PlanWork}
 abbrev pub printed : RunOutcome → Option (List ℕ) × Option (List ℕ)
 printed outcome = (notes_text outcome, out_text outcome)
 
--- what `plan` asks without a flag for a source: statistics of whole columns at an accuracy, and no text for out
+-- the work that `plan` asks for without `--keys`, `--reduce` or `--count`: statistics of whole columns at an accuracy, and no text for out
 abbrev pub plan_of_columns : PlanTerms → ℕ → PlanWork
 plan_of_columns terms accuracy = record { terms = terms; accuracy = accuracy; source = sources.Columns; out = out.Nothing }

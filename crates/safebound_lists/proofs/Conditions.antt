@@ -1,5 +1,5 @@
--- The lemmas bound the number of rows with a picked key that satisfy two conditions, or at least one of two. They also bound the running sums of the greater
--- of two lists.
+-- Take the rows whose key is picked. The lemmas bound how many of them satisfy both of two conditions, and how many satisfy at least one.
+-- They also bound the running sums of the greater of two lists.
 use Rattle.std.proofs.Common.{◌≡◌, ℕ, zero, suc, ◌+◌, ◌≤◌, Bool, true, false, ◌&&◌, ◌||◌, cond, List, [], ◌∷◌, map, ◌∙◌, sym, arith}
 use Rattle.std.specs.List.{count_by, filter, sum_by}
 use Rattle.std.proofs.lemmas.List.Sums.{sum_by-le-sum_by}

@@ -1,4 +1,4 @@
--- A falling list is split into runs. Equal elements stand side by side, so the loop goes from run to run.
+-- A descending list is split into runs. Equal elements are neighbours, so the loop goes from run to run.
 use Rattle.std.proofs.Common.{◌≡◌, ℕ, ◌+◌, ◌-◌, ◌<◌, ◌≤◌, true, false, eqb, List, ◌++◌, length, get_or, take, drop, replicate, ap, sym, ◌∙◌, subst, arith, inl, inr, add-zero}
 use Rattle.std.specs.List.{AllWithin}
 use Rattle.std.specs.List.Sorted.{IsPartitionPoint, IsPartitionedBy}
@@ -24,7 +24,7 @@ equal_come_first list start fall some i j d before low is =
     omega (arith, equal, falls_to list fall start (start + i) (omega arith), falls_to list fall (start + i) (start + j) (omega arith)) in
     eq-eqb _ _ (at_rest list start i d (omega arith) ∙ same)
 
--- `count` is the place in the rest where the elements end that are equal to its first element. So the run has `count` elements
+-- The rest is the list from `start` on. Exactly its first `count` elements are equal to its first one, so the run has `count` elements.
 module _ (list : List ℕ) (start count : ℕ) (some : start < length list) (bound : count ≤ length (drop start list))
     (split : IsPartitionPoint (λ x. eqb x (get_or list start 0) ≡ true) (λ x. eqb x (get_or list start 0) ≡ false) (drop start list) count) where
   pub run_within : start + count ≤ length list

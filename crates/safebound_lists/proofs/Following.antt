@@ -69,8 +69,8 @@ room_for before run may =
 
 -- ---- the test of the runs, one after another
 
--- The loop of `first_wrong_run` has found that the runs before `place` are right. `least` is their least degree (2^64 - 1 if there are no runs before
--- `place`), and `left` is 2^48 less the sum of their list
+-- The loop of `first_wrong_run` has found that the runs before index `place` are right. `least` is their least degree (2^64 - 1 if there are
+-- no runs before `place`), and `left` is 2^48 minus the sum of their list
 pub record IsTested (runs : List Run) (place least left : ℕ) : Type 0 where
   pub right : (i : ℕ) → i < place → IsRightAt runs i
   pub least_below : AllByRecursion (λ e. least ≤ e.degree) (take place runs)

@@ -1,5 +1,5 @@
--- Why calls on lists refuse. A call tests for its causes in a fixed order, and each cause also says that the earlier causes don't apply. So at most
--- one refusal is right. Want of memory is the exception: it needs no cause.
+-- Why calls on lists refuse. A call tests for its causes in a fixed order, and each cause also says that the earlier causes don't apply. So
+-- for given arguments at most one refusal is possible. NoMemory is the exception: it needs no cause.
 use Rattle.std.specs.Prelude.{◌≡◌, ◌⊎◌, ℕ, ◌+◌, ◌<◌, ◌≤◌, ⊤, List, length}
 use Rattle.std.specs.List.{sum}
 use Rattle.limits.specs.Profile.{greatest_rows, most_accuracy}
@@ -14,14 +14,14 @@ use Rattle.safebound_lists.specs.declared.runs.Run.{Run}
 use Rattle.safebound_lists.specs.First.{IsFirstWrong}
 use Rattle.safebound_lists.specs.Runs.{AreBothRight, AreRight, IsRightAt, MayBeAdded, MayBeCompressed, MayBeRaised, list_of}
 
--- why a call for the degrees of keys refuses: too many keys, too little room, or want of memory, which needs no cause
+-- why a call for the degrees of keys refuses: too many keys, too little room, or no memory, which needs no cause
 abbrev pub IsDegreesCause : List ℕ → ℕ → Refusal → Type 0
 IsDegreesCause keys room (refusal.Keys count) = (count ≡ length keys) × (greatest_rows < length keys)
 IsDegreesCause keys room (refusal.Room needed) = (length keys ≤ greatest_rows) × (needed ≡ runs_in (degree_list keys)) × (room < needed)
 IsDegreesCause keys room refusal.NoMemory = ⊤
 IsDegreesCause keys room _ = ⊥
 
--- why a call for the sum of two lists refuses: a wrong run, a sum that is too large, too little room, or want of memory
+-- why a call for the sum of two lists refuses: a wrong run, a sum that is too large, too little room, or no memory
 abbrev pub IsAppendCause : List Run → List Run → ℕ → Refusal → Type 0
 IsAppendCause runs others room (refusal.Run place) = IsFirstWrong (IsRightAt runs) (length runs) place
 IsAppendCause runs others room (refusal.OtherRun place) = AreRight runs × IsFirstWrong (IsRightAt others) (length others) place
@@ -32,7 +32,7 @@ IsAppendCause runs others room (refusal.Room needed) =
 IsAppendCause runs others room refusal.NoMemory = ⊤
 IsAppendCause runs others room _ = ⊥
 
--- why a call for a compressed list refuses: an accuracy out of its range, a wrong run, too little room, or want of memory
+-- why a call for a compressed list refuses: an accuracy out of its range, a wrong run, too little room, or no memory
 abbrev pub IsCompressCause : List Run → ℕ → ℕ → Refusal → Type 0
 IsCompressCause runs accuracy room (refusal.Accuracy given) = (given ≡ accuracy) × ((accuracy ≡ 0) ⊎ (most_accuracy < accuracy))
 IsCompressCause runs accuracy room (refusal.Run place) =
@@ -42,7 +42,7 @@ IsCompressCause runs accuracy room (refusal.Room needed) =
 IsCompressCause runs accuracy room refusal.NoMemory = ⊤
 IsCompressCause runs accuracy room _ = ⊥
 
--- why a call for the lesser of two lists refuses: a wrong run, too little room, or want of memory
+-- why a call for the lesser of two lists refuses: a wrong run, too little room, or no memory
 abbrev pub IsLesserCause : List Run → List Run → ℕ → Refusal → Type 0
 IsLesserCause runs others room (refusal.Run place) = IsFirstWrong (IsRightAt runs) (length runs) place
 IsLesserCause runs others room (refusal.OtherRun place) = AreRight runs × IsFirstWrong (IsRightAt others) (length others) place
@@ -51,7 +51,7 @@ IsLesserCause runs others room (refusal.Room needed) =
 IsLesserCause runs others room refusal.NoMemory = ⊤
 IsLesserCause runs others room _ = ⊥
 
--- why a call for the greater of two lists refuses: a wrong run, a sum that is too large, too little room, or want of memory
+-- why a call for the greater of two lists refuses: a wrong run, a sum that is too large, too little room, or no memory
 abbrev pub IsGreaterCause : List Run → List Run → ℕ → Refusal → Type 0
 IsGreaterCause runs others room (refusal.Run place) = IsFirstWrong (IsRightAt runs) (length runs) place
 IsGreaterCause runs others room (refusal.OtherRun place) = AreRight runs × IsFirstWrong (IsRightAt others) (length others) place
@@ -62,7 +62,7 @@ IsGreaterCause runs others room (refusal.Room needed) =
 IsGreaterCause runs others room refusal.NoMemory = ⊤
 IsGreaterCause runs others room _ = ⊥
 
--- why a call that cuts a list at a number of rows refuses: a wrong run, too little room, or want of memory
+-- why a call that cuts a list at a number of rows refuses: a wrong run, too little room, or no memory
 abbrev pub IsCutCause : List Run → ℕ → ℕ → Refusal → Type 0
 IsCutCause runs rows room (refusal.Run place) = IsFirstWrong (IsRightAt runs) (length runs) place
 IsCutCause runs rows room (refusal.Room needed) = AreRight runs × (needed ≡ runs_in (cut_at (list_of runs) rows)) × (room < needed)

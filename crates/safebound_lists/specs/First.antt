@@ -1,7 +1,7 @@
 -- The first element of an argument that is wrong.
 use Rattle.std.specs.Prelude.{ℕ, ◌<◌}
 
--- `place` is the first of `count` places whose element is wrong
+-- `place` is the first index below `count` whose element is wrong
 pub record IsFirstWrong (IsRight : ℕ → Type 0) (count place : ℕ) : Type 0 where
   pub within : place < count
   pub wrong : ¬ IsRight place

@@ -1,4 +1,4 @@
--- Lists as runs. A run has a degree and a number of keys, each of which stands in as many rows as the degree says.
+-- Lists as runs. A run has a degree and a number of keys. Each of these keys is in as many rows as the degree says.
 use Rattle.std.specs.Prelude.{ℕ, ◌+◌, ◌<◌, ◌≤◌, List, [], ◌∷◌, ◌++◌, map, length, take, slice_index_or}
 use Rattle.std.specs.List.{AllByRecursion, sum}
 use Rattle.limits.specs.Profile.{greatest_rows, most_accuracy}
@@ -15,22 +15,22 @@ piece_of run = record { value = run.degree; count = run.keys }
 abbrev pub list_of : List Run → List ℕ
 list_of runs = expanded (map piece_of runs)
 
--- the run at a place, and `no_run` past the end
+-- `run_at` gives the run at an index, and `no_run` past the end
 abbrev pub no_run : Run
 no_run = record { degree = 0; keys = 0 }
 
 abbrev pub run_at : List Run → ℕ → Run
 run_at runs i = slice_index_or runs i no_run
 
--- `run` may follow the runs `before`: its degree and its number of keys are above 0, no earlier degree is lower, and the list of all of these runs sums to
--- at most 2^48
+-- `run` may follow the runs `before`: its degree and its number of keys are above 0, no earlier degree is lower, and the list of all of these
+-- runs sums to at most 2^48
 pub record MayFollow (before : List Run) (run : Run) : Type 0 where
   pub degree : 0 < run.degree
   pub keys : 0 < run.keys
   pub falls : AllByRecursion (λ earlier. run.degree ≤ earlier.degree) before
   pub sum : sum (list_of (before ++ run ∷ [])) ≤ greatest_rows
 
--- the run at place i may follow the runs before it
+-- the run at index i may follow the runs before it
 abbrev pub IsRightAt : List Run → ℕ → Type 0
 IsRightAt runs i = MayFollow (take i runs) (run_at runs i)
 

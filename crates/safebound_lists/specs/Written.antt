@@ -11,7 +11,8 @@ pub record IsFilled {A : Type 0} (front old new : List A) (count : ℕ) : Type 0
   pub counted : length front ≡ count
   pub filled : new ≡ front ++ drop count old
 
--- the room now begins with `count` runs that stand for the list; their degrees strictly fall, and the other elements are as they were
+-- the room now begins with `count` runs that stand for the list. Each has a lower degree than the run before, and the other elements are
+-- as they were
 pub record IsWritten (list : List ℕ) (old new : List Run) (count : ℕ) : Type 0 where
   pub front : List Run
   pub stands_for : list_of front ≡ list

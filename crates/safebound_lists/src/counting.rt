@@ -16,7 +16,7 @@ use limits::GREATEST_ROWS;
 use piece_math::Pieces;
 use std::alloc::Global;
 
-// How many elements, from `start` on, are equal to the element at `start`. In a falling list equal elements stand side by side.
+// How many elements, from `start` on, are equal to the element at `start`. In a descending list equal elements are neighbours.
 fn run_length(list: &[u64], start: usize) -> usize
     requires falls { IsFalling list.now }
     requires start { start < length list.now }
@@ -28,7 +28,7 @@ fn run_length(list: &[u64], start: usize) -> usize
     list[start..].partition_point(|next| *next == first)
 }
 
-// A falling list as pieces. The loop goes from run to run, since a long list of degrees has few runs.
+// A descending list as pieces. The loop goes from run to run, since a long list of degrees has few runs.
 fn pieces_of_falling(alloc: Global, list: &[u64]) -> Result<Pieces, NoMemory>
     requires falls { IsFalling list.now }
     requires positive { All (λ x. 0 < x) list.now }
@@ -44,8 +44,9 @@ fn pieces_of_falling(alloc: Global, list: &[u64]) -> Result<Pieces, NoMemory>
     Ok(pieces)
 }
 
-/// Writes the degree sequence of a column at the front of `into`, as runs whose degrees strictly fall, and says how many runs these are. `keys`
-/// has the key of each row. The call refuses more than 2^48 keys, want of memory, and too little room; `into` is then as it was.
+/// Writes the degree sequence of a column at the front of `into`, as runs whose degrees strictly decrease. The answer is how many runs were
+/// written. `keys` has the key of each row. The call is refused if there are more than 2^48 keys, if memory runs out, or if `into` is too
+/// small. Then `into` is as it was.
 pub fn degrees(alloc: Global, keys: &[u64], into: &mut [Run]) -> Result<u64, Refusal>
     ensures done { IfOk result (IsWritten (degree_list keys.now) into.old into.new) }
     ensures few { OnOk result (length keys.now ≤ greatest_rows) }

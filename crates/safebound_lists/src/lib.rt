@@ -1,10 +1,10 @@
-//! What a planner asks of lists that it holds itself. Each call checks every value that it is given, calls the proved crates, and writes its
-//! answer into a buffer of the caller's, the room.
+//! Calls for a planner that keeps lists itself. Each call checks every value that it is given, calls the proved crates, and writes its answer
+//! into the caller's buffer, which is called the room.
 //!
-//! Lists are given as runs. One call makes the degree sequence of a column from its keys, and one makes a list with fewer runs. Other calls do what
-//! conditions do to lists: they add two lists rank by rank, take the lesser of each two running sums or the greater of each two elements, or cut a
-//! list. Each call answers how many elements it wrote. If it answers a `Refusal`, the room is as it was. No call has a precondition: it tests what it
-//! needs.
+//! Lists are given as runs. One call makes the degree sequence of a column from its keys, and one makes a list with fewer runs. Other calls
+//! make a list from two lists, rank by rank: the sum of their elements, the greater of their elements, or the lesser of their running sums.
+//! One call cuts a list. Each call answers how many elements it wrote. If it answers a `Refusal`, the room is as it was. No call has a
+//! precondition: it tests what it needs.
 //!
 //! Callers cite `AreRight` for lists, and `MayBeCompressed`, `MayBeAdded`, `AreBothRight` and `MayBeRaised` for what calls take. They cite
 //! `IsWritten` for what is in the room afterwards, and for each call the causes of its refusals.

@@ -5,7 +5,7 @@ ghost use Rattle.safebound_lists.specs.declared.refusal.Refusal.TheVariants as r
 use base_io::NoMemory;
 use std::alloc::AllocError;
 
-/// Why a call was refused. A refused call changed nothing in the caller's room. `place` is the number of an element of a list, counted from 0.
+/// Why a call was refused. A refused call changed nothing in the caller's room. `place` is the index of an element, counted from 0.
 #[derive(Clone, Copy, Debug, PartialEq, Eq)]
 pub enum Refusal {
     /// The room is too small: the answer has `needed` elements.
@@ -14,10 +14,10 @@ pub enum Refusal {
     NoMemory,
     /// There are more than 2^48 keys.
     Keys { count: u64 },
-    /// The run at this place breaks a rule of its list: degrees and numbers of keys are above 0, degrees don't rise, and the degrees of all keys
-    /// sum to at most 2^48.
+    /// The run at this index breaks a rule of its list: degrees and numbers of keys are above 0, degrees don't increase, and the degrees of all
+    /// keys sum to at most 2^48.
     Run { place: u64 },
-    /// The run at this place of the second list is wrong, as in `Run`.
+    /// The run at this index of the second list is wrong, as in `Run`.
     OtherRun { place: u64 },
     /// The degrees of the list that a call would make of two lists sum to more than 2^48: to `sum`.
     Sum { sum: u64 },
@@ -25,16 +25,16 @@ pub enum Refusal {
     Accuracy { given: u64 },
     /// The number of entries isn't from 1 to 12.
     Entries { count: u64 },
-    /// The row bound at this place is above 2^48.
+    /// The row bound at this index is above 2^48.
     Rows { place: u64 },
     /// There are more than 256 equalities.
     Equalities { count: u64 },
-    /// The equality at this place names an entry that isn't there, or one entry on both sides.
+    /// The equality at this index names an entry that doesn't exist, or one entry on both sides.
     Equality { place: u64 },
-    /// The list at this place has a mistake. Its entry isn't there, or an earlier list is of the same column, or the list has no runs and no mark
-    /// `NO_VALUES`, or it names runs that aren't there.
+    /// The list at this index has a mistake. Its entry doesn't exist, or an earlier list is of the same column, or the list has no runs and no
+    /// mark `NO_VALUES`, or it names runs that don't exist.
     List { place: u64 },
-    /// A column of the equality at this place has no list.
+    /// A column of the equality at this index has no list.
     MissingList { place: u64 },
     /// The number of bounds isn't 2^n for a number of entries n from 1 to 12.
     Bounds { count: u64 },
@@ -42,19 +42,19 @@ pub enum Refusal {
     GivenBudget { given: u64 },
     /// The number of levels isn't the number of entries.
     Levels { count: u64 },
-    /// The level at this place names an entry that isn't there.
+    /// The level at this index names an entry that doesn't exist.
     Level { place: u64 },
     /// The number of joins isn't one less than the number of entries.
     Joins { count: u64 },
-    /// The join at this place names a node that isn't before it.
+    /// The join at this index names a node that isn't before it.
     Join { place: u64 },
     /// The best plan passes the budget. `least` is the least budget that would do.
     Budget { least: u64 },
-    /// The set names an entry that isn't there.
+    /// The set names an entry that doesn't exist.
     Set { given: u64 },
-    /// There is no such kind of join.
+    /// No kind of join has this number.
     JoinKind { given: u64 },
-    /// The work passes the limit. `needed` is the least limit that would do, or 2^64 - 1 where it is more.
+    /// The work passes the limit. `needed` is the least limit that would do, or 2^64 - 1 if that limit is above 2^64 - 1.
     Work { needed: u64 },
     /// Each plan has a level or a join without a bound, or the number that was asked for has more than 64 bits.
     PastBits,

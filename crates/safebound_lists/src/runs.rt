@@ -10,7 +10,7 @@ use limits::GREATEST_ROWS;
 use piece_math::Pieces;
 use std::alloc::Global;
 
-/// `keys` keys stand in `degree` rows each.
+/// `keys` different keys, each of which is in `degree` rows.
 #[repr(C)]
 #[derive(Clone, Copy, Debug, PartialEq, Eq)]
 pub struct Run {
@@ -18,7 +18,7 @@ pub struct Run {
     pub keys: u64,
 }
 
-/// The place of the first run that is wrong, if there is one.
+/// The index of the first run that is wrong, if there is one.
 pub fn first_wrong_run(runs: &[Run]) -> Option<usize>
     ensures { MatchOption result (AreRight runs.now) (λ place. IsFirstWrong (IsRightAt runs.now) (length runs.now) place) }
 {

@@ -1,4 +1,4 @@
--- The costs are over bounds of 64 bits. A cost that is below the greatest number of 128 bits fits 64 bits.
+-- Costs of bounds that were widened from 64 bits to 128. A cost that is below the greatest number of 128 bits fits 64 bits.
 use Rattle.std.proofs.Common.{◌≡◌, ◌⊎◌, inl, inr, ℕ, zero, suc, ◌+◌, ◌-◌, ◌<◌, ◌≤◌, ◌^◌, Bool, true, false, eqb, max, List, [], ◌∷◌, map, get_or, refl, arith}
 use Rattle.std.specs.List.{AllByRecursion}
 use Rattle.std.specs.Prelude.{if◌then◌else◌}
@@ -8,7 +8,7 @@ use Rattle.bushy_plan.specs.BestTree.{cost as tree_cost, inner_greatest}
 use Rattle.bushy_plan.specs.PlanTrees.{PlanTree, leaf_set, leaf, node}
 use Rattle.safebound_plans.specs.Bits.{all_widened, no_bound, in_128_bits}
 
--- the greatest number of 128 bits stands for every number from there on
+-- the number fits 64 bits, or it is the greatest number of 128 bits, which means 2^128 - 1 or more
 abbrev IsNarrow : ℕ → Type 0
 IsNarrow x = (x < 2 ^ 64) ⊎ (x ≡ 2 ^ 128 - 1)
 

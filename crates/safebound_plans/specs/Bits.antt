@@ -2,7 +2,7 @@
 use Rattle.std.specs.Prelude.{ℕ, ◌-◌, ◌^◌, ◌==◌, if◌then◌else◌, List, map}
 use Rattle.limits.specs.Profile.{top_bound}
 
--- the greatest bound of 64 bits, which stands for every number from there on
+-- the greatest bound of 64 bits. It means 2^64 - 1 or more
 abbrev pub no_bound : ℕ
 no_bound = 2 ^ 64 - 1
 

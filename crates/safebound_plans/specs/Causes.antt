@@ -1,5 +1,5 @@
--- Why calls for plans refuse. A call tests for its causes in a fixed order, and each cause also says that the earlier causes don't apply. So at most
--- one refusal is right. Want of memory is the exception: it needs no cause.
+-- Why calls for plans refuse. A call tests for its causes in a fixed order, and each cause also says that the earlier causes don't apply. So
+-- for given arguments at most one refusal is possible. NoMemory is the exception: it needs no cause.
 use Rattle.std.specs.Prelude.{◌≡◌, ℕ, ◌+◌, ◌<◌, ◌≤◌, ⊤, List, length}
 use Rattle.limits.specs.Profile.{greatest_budget}
 use Rattle.order_search.specs.Causes.{IsCause}
@@ -31,8 +31,8 @@ IsOrderCause bounds budget room refusal.PastBits =
 IsOrderCause bounds budget room refusal.NoMemory = ⊤
 IsOrderCause bounds budget room _ = ⊥
 
--- why a call for a tree refuses: a wrong number of bounds, a budget that is too large, too little room, no tree within the budget, or no tree in which
--- each node has a bound
+-- why a call for a tree refuses: a wrong number of bounds, a budget that is too large, too little room, no tree within the budget, or no tree
+-- in which each node has a bound
 abbrev pub IsTreeCause : List ℕ → ℕ → ℕ → Refusal → Type 0
 IsTreeCause bounds budget room (refusal.Bounds count) = AreOfNoSets bounds count
 IsTreeCause bounds budget room (refusal.GivenBudget given) = IsBudgetCause bounds budget given

@@ -2,7 +2,7 @@
 use Rattle.std.specs.Prelude.{◌≡◌, ℕ, ◌^◌, ◌≤◌, List, length}
 use Rattle.limits.specs.Profile.{greatest_budget, most_entries}
 
--- there are as many bounds as sets of n entries, n from 1 to 12
+-- there are 2^n bounds, one for each set of n entries, and n is from 1 to 12
 pub record AreOfSets (bounds : List ℕ) (n : ℕ) : Type 0 where
   pub some : 1 ≤ n
   pub few : n ≤ most_entries

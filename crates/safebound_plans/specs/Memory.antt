@@ -18,11 +18,11 @@ no_level = record { entry = 0; bound = 0 }
 abbrev pub no_node : JoinNode
 no_node = record { left = 0; right = 0; bound = 0 }
 
--- the level at this place is of an entry that exists
+-- the level at this index is of an entry that exists
 abbrev pub IsLevelRightAt : ℕ → List Level → ℕ → Type 0
 IsLevelRightAt entries levels place = (slice_index_or levels place no_level).entry < entries
 
--- the join at this place joins two nodes that are before it
+-- the join at this index joins two nodes that are before it. First come the nodes of the entries, and then one node for each join
 abbrev pub IsJoinRightAt : ℕ → List JoinNode → ℕ → Type 0
 IsJoinRightAt entries joins place =
     let join = slice_index_or joins place no_node in (join.left < entries + place) × (join.right < entries + place)
@@ -65,7 +65,8 @@ IsOrderMemoryCause rows levels refusal.PastBits =
     × (2 ^ 64 ≤ order_bytes rows levels)
 IsOrderMemoryCause rows levels _ = ⊥
 
--- why a call for a tree's bytes refuses: no entries or too many, a wrong number of joins, a join of a node that isn't before it, or 2^64 bytes or more
+-- why a call for a tree's bytes refuses: no entries or too many, a wrong number of joins, a join of a node that isn't before it, or 2^64
+-- bytes or more
 abbrev pub IsTreeMemoryCause : List ℕ → List JoinNode → Refusal → Type 0
 IsTreeMemoryCause rows joins (refusal.Entries count) = (count ≡ length rows) × ¬ AreOfEntries rows
 IsTreeMemoryCause rows joins (refusal.Joins count) = (count ≡ length joins) × AreOfEntries rows × ¬ (length joins + 1 ≡ length rows)

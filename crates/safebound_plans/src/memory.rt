@@ -14,7 +14,7 @@ use safebound_lists::Refusal;
 use tree_plans::Join;
 use tree_rows::joins_memory;
 
-// The place of the first level whose entry doesn't exist.
+// The index of the first level whose entry doesn't exist.
 fn first_wrong_level(levels: &[Level], entries: u64) -> Option<u64>
     ensures { MatchOption result ((place : ℕ) → place < length levels.now → IsLevelRightAt entries levels.now place)
         (IsFirstWrong (IsLevelRightAt entries levels.now) (length levels.now)) }
@@ -27,7 +27,7 @@ fn first_wrong_level(levels: &[Level], entries: u64) -> Option<u64>
     None
 }
 
-// The place of the first join that names a node that isn't before it.
+// The index of the first join that names a node that isn't before it.
 fn first_wrong_join(joins: &[JoinNode], entries: u64) -> Option<u64>
     requires few { entries + length joins.now ≤ 2 ^ 32 }
     ensures { MatchOption result ((place : ℕ) → place < length joins.now → IsJoinRightAt entries joins.now place)

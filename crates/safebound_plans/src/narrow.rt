@@ -1,4 +1,4 @@
-//! The caller's bounds of 64 bits, made into what the searches take: bounds of 128 bits, and a scan for each entry.
+//! Makes the arguments of the searches from the caller's bounds of 64 bits: bounds of 128 bits, and a scan for each entry.
 ghost use Rattle.std.specs.Prelude.{◌≡◌, ℕ, length, IfOk, MatchOption};
 ghost use Rattle.safebound_plans.specs.Given.{AreOfSets};
 ghost use Rattle.safebound_plans.specs.Bits.{all_widened, in_128_bits as widened_of};
@@ -19,7 +19,7 @@ pub(crate) fn entries_of(bounds: &[u64]) -> Option<u8>
     None
 }
 
-// The bound with 128 bits. The greatest number of 64 bits stands for every number from there on, so it becomes the greatest of 128 bits.
+// The bound with 128 bits. The greatest number of 64 bits means 2^64 - 1 or more, so it becomes the greatest of 128 bits.
 fn widened(bound: u64) -> u128
     ensures { result ≡ widened_of bound }
 {

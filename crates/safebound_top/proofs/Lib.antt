@@ -8,8 +8,8 @@
 --   `LoseNoRow`).
 -- - In a clause, `x.now` is the value of a reference `x`. For a `Copy` parameter `x`, the value with which the function was called is `x.entry`.
 -- - If a function's exit is the last one of two nested matches, its answer is called `returns`.
--- - An edit puts a mistake into the code, and the proofs must find it. If the mistake comes after a call, put it into a function where no answer names
---   an exit (`run_command`): then the right exits are proved as before, and only the wrong exit fails.
+-- - An edit puts a mistake into the code, and the proofs must find it. If the mistake comes after a call, put it into a function where no
+--   answer names an exit (`run_command`): then the right exits are proved as before, and only the wrong exit fails.
 
 pub mod Courses
 pub mod Promises

@@ -1,4 +1,4 @@
--- The text that is still to be written to out is the text that the run has for out.
+-- The text of the output that is still pending (`PendingOutput`) is the text for out of the run (`out_text_of`).
 use Rattle.std.proofs.Common.{◌≡◌, ℕ, List, length, map, refl, ap, sym, ◌∙◌}
 use Rattle.std.specs.Prelude.{Option, Some}
 use Rattle.csv_tables.specs.declared.types.Database.{Database}

@@ -76,7 +76,7 @@ module _ (out notes : Growth) (made : PlanFromStatsFile) (still : DidNotGrow out
   pub plan_cut : (e : Failed) → Wrote notes (stats_file_plan_text made) (Err e) → TextsWritten out notes (PlannedFromStats made) (Err sink.Notes)
   plan_cut e h = record { texts = (h.failed, still, h.prefix); later_out = omega (arith, still.1); later_notes = h.later }
 
--- ---- a write failed, and then its line is written
+-- ---- a write failed, and then the line that reports it is written
 
 module _ (t0 t1 t2 : Option (List ℕ)) (f0 f1 f2 : ℕ) (line : List ℕ) (told : StatusTold (between t1 t2 f1 f2) line) where
   cut_then_told : (text : Option (List ℕ)) → WasCut (between t0 t1 f0 f1) text → WasCutAndTold (between t0 t2 f0 f2) text line

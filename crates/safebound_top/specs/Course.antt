@@ -42,7 +42,7 @@ abbrev pub WroteIfAny : Growth → Option (List ℕ) → Result (Unit {0}) Faile
 WroteIfAny out None result = DidNotGrow out × (result ≡ Ok tt)
 WroteIfAny out (Some text) result = Wrote out text result
 
--- the texts of an outcome were written, and a failed write was told in the notes
+-- the texts of an outcome were written, or a write failed and a line in the notes reports it
 pub data TextsEnded (s : Status) (out notes : Growth) (outcome : RunOutcome) (line : List ℕ) : Type 0 where
   Done : s ≡ status.Done → GrewWhole notes (notes_text outcome) → GrewWhole out (out_text outcome) → TextsEnded s out notes outcome line
   CutInNotes : s ≡ status.WriteFault sink.Notes → FaultsRose notes → DidNotGrow out
@@ -51,7 +51,7 @@ pub data TextsEnded (s : Status) (out notes : Growth) (outcome : RunOutcome) (li
       → GrewOrWasCut (grown notes.taken_before (notes_text outcome)) notes.taken_after notes.faults_before notes.faults_after line
       → TextsEnded s out notes outcome line
 
--- a stage was read to its end and its texts were written, or its reading ended early and a line told why
+-- a stage was read to its end and its texts were written, or its reading ended early and a line in the notes says why
 pub data StageRan (s : Status) (store : Reading) (out notes : Growth) (stage : Files → Result RunOutcome Refusal) (ComesTo : Files → FileId
     → Type 0)
     (line : List ℕ) : Type 0 where
@@ -60,7 +60,7 @@ pub data StageRan (s : Status) (store : Reading) (out notes : Growth) (stage : F
   Went : (outcome : RunOutcome) → Reads store stage ComesTo (Ok outcome) → TextsEnded s out notes outcome line
       → StageRan s store out notes stage ComesTo line
 
--- the words are refused: the store's count of missing files didn't rise, out didn't grow, and a line told the refusal
+-- the words are refused: the store's count of missing files didn't rise, out didn't grow, and a line in the notes reports the refusal
 pub record IsUnasked (call : Call) (line : List ℕ) : Type 0 where
   pub status : call.status ≡ status.Refused refusal.Usage
   pub words : command_stage call.words ≡ Err refusal.Usage
@@ -68,7 +68,7 @@ pub record IsUnasked (call : Call) (line : List ℕ) : Type 0 where
   pub out : DidNotGrow call.out
   pub told : StatusTold call.notes line
 
--- the words are a command, and it ran
+-- the words are a command, and the command ran
 pub record IsAsked (call : Call) (line : List ℕ) : Type 0 where
   pub words : command_stage call.words ≡ Err refusal.Usage → ⊥
   pub ran : StageRan call.status call.store call.out call.notes (verdict call.words) (IsReached call.words) line
@@ -77,7 +77,7 @@ pub data How (call : Call) (line : List ℕ) : Type 0 where
   Unasked : IsUnasked call line → How call line
   Asked : IsAsked call line → How call line
 
--- the whole course of a call, whose line is the fault text
+-- the whole course of a call. Its line is the fault text of its status
 pub record Course (call : Call) : Type 0 where
   pub line : List ℕ
   pub is_line : (files : Files) → call.store.files ≡ Some files → line ≡ fault_text call.status call.words files

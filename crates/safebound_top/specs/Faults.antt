@@ -1,4 +1,4 @@
--- The line that tells the status of a call, from its words and its files.
+-- The line that reports the status of a call, from its words and its files.
 use Rattle.std.specs.Prelude.{ℕ, List, [], Option, None, Some, Result, Ok, Err}
 use Rattle.base_io.specs.Files.{Files}
 use Rattle.schema_types.specs.declared.types.Schema.{Schema}
@@ -17,8 +17,7 @@ stats_file_of (works.Plan task) = []
 stats_file_of (works.WriteStats accuracy) = []
 stats_file_of (works.PlanFromStats file terms) = file
 
--- the names that a line may use: the names of the command's files, and the names in the schema. Only a command that appends rows names the file of a
--- table's rows
+-- the names that a line may use: the names of the command's files, and the names in the schema. Only `append` names a file of new rows
 abbrev pub names_by : List ℕ → Aim → Option Schema → Names
 names_by name (aims.Query query work) schema =
     record { schema_file = name; query_file = query; stats_file = stats_file_of work; rows_file = None; schema = schema }

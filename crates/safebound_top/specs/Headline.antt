@@ -56,20 +56,21 @@ FaultsRose sink = Rose sink.faults_before sink.faults_after
 abbrev pub GrewByLine : Growth → List ℕ → Type 0
 GrewByLine sink line = GrewOrWasCut sink.taken_before sink.taken_after sink.faults_before sink.faults_after line
 
--- 1. A call ends with Done only if the verdict is accepted. The notes grew by exactly the plan text of the verdict; for `stats` and `append` the notes
---    took nothing. For `run`, out grew by exactly the rows text; for `audit` and `demo`, by exactly the audit text; for `stats` and `append`, by exactly
---    the text of the statistics file. For `plan`, out took nothing.
+-- 1. A call ends with Done only if the verdict is accepted. The notes grew by exactly the plan text of the verdict; for `stats` and
+--    `append` the notes took nothing. For `run`, out grew by exactly the rows text; for `audit` and `demo`, by exactly the audit text; for
+--    `stats` and `append`, by exactly the text of the statistics file. For `plan`, out took nothing.
 abbrev pub DoneIsExact : Call → Type 0
 DoneIsExact call = call.status ≡ status.Done
     → OverFiles call (λ files v. IsOkAnd v (λ outcome. GrewWhole call.notes (notes_text outcome) × GrewWhole call.out (out_text outcome)))
 
 -- 2. If the verdict is accepted, the scan of each FROM entry and each level of the order have at most as many rows as the plan text of 1 says. That
 --    is so for `plan` too, which lists no rows. With `--bushy` the plan is a join tree, and its inner nodes take the place of levels. Without
---    `--reduce` and `--count`, scans, levels and nodes are those of the query over whole tables. With one of these flags, scans are the reduced scans,
---    the text prints exactly their numbers of rows, and levels and nodes are over the reduced scans. `--keys` makes bounds of levels and nodes lower;
---    their rows stay the same. The audit text of 1 prints the number of rows of each level or inner node beside its bound. With `--stats`, bounds hold
---    over all tables for which the statistics file stands, whoever wrote the file. The file that `stats` writes stands for the tables that were read.
---    If a file stands for some tables, `append` makes a file from it that stands for these tables with the new rows after the old ones.
+--    `--reduce` and `--count`, scans, levels and nodes are those of the query over whole tables. With one of these flags, scans are the
+--    reduced scans, the text prints exactly their numbers of rows, and levels and nodes are over the reduced scans. `--keys` makes bounds
+--    of levels and nodes lower; their rows stay the same. The audit text of 1 prints the number of rows of each level or inner node beside
+--    its bound. With `--stats`, bounds hold over all tables for which the statistics file stands, whoever wrote the file. The file that
+--    `stats` writes stands for the tables that were read. If a file stands for some tables, `append` makes a file from it that stands for
+--    these tables with the new rows after the old ones.
 abbrev pub EveryBoundHolds : Call → Type 0
 EveryBoundHolds call = OverFiles call (λ files v. IfOk v NoBoundIsTooLow)
 
@@ -77,7 +78,7 @@ EveryBoundHolds call = OverFiles call (λ files v. IfOk v NoBoundIsTooLow)
 abbrev pub TheRowsAreTheAnswer : Call → Type 0
 TheRowsAreTheAnswer call = OverFiles call (λ files v. IfOk v PrintsTheAnswer)
 
--- 4. If the call ended for want of memory, the notes grew by the line `error memory`, and out didn't grow.
+-- 4. If the call ended because memory ran out, the notes grew by the line `error memory`, and out didn't grow.
 abbrev pub WantOfMemoryLeavesItsLine : Call → Type 0
 WantOfMemoryLeavesItsLine call = call.status ≡ status.NoMemory → GrewByLine call.notes (codes "error memory\n") × DidNotGrow call.out
 
@@ -108,15 +109,15 @@ pub record ReadFaultsHaveTheirCause (call : Call) : Type 0 where
   pub told : (file : FileId) → call.status ≡ status.ReadFault file
       → Rose call.store.faults_before call.store.faults_after × DidNotGrow call.out
       × OverFiles call (λ files v. IsReached call.words files file × GrewByLine call.notes (fault_text call.status call.words files))
-  -- the call asks for no other name: if the verdict misses no file, the store's count of misses is as before
+  -- if the verdict misses no file, the store's count of misses is as before: the call asked for no absent file
   pub misses : OverFiles call (λ files v. MissesNothing v → call.store.misses_after ≡ call.store.misses_before)
 
 abbrev pub status_of : Result RunOutcome Refusal → Status
 status_of (Ok outcome) = status.Done
 status_of (Err r) = status.Refused r
 
--- 8. Nothing is refused without a cause. If the store's count of faults didn't rise, the status is the verdict's, or a write fault, or want of
---    memory. If the sinks' counts didn't rise either, the status is the verdict's, or want of memory.
+-- 8. Nothing is refused without a cause. If the store's count of faults didn't rise, the status is the verdict's, or a write fault, or
+--    NoMemory. If the sinks' counts didn't rise either, the status is the verdict's, or NoMemory.
 pub record NothingIsRefusedWithoutCause (call : Call) : Type 0 where
   pub by_the_store : (Rose call.store.faults_before call.store.faults_after → ⊥)
       → OverFiles call (λ files v. (call.status ≡ status_of v) ⊎ ((which : SinkId) × (call.status ≡ status.WriteFault which))
@@ -124,9 +125,9 @@ pub record NothingIsRefusedWithoutCause (call : Call) : Type 0 where
   pub by_the_sinks : (Rose call.store.faults_before call.store.faults_after → ⊥) → (FaultsRose call.out → ⊥) → (FaultsRose call.notes → ⊥)
       → OverFiles call (λ files v. (call.status ≡ status_of v) ⊎ (call.status ≡ status.NoMemory))
 
--- 9. If the verdict is accepted and `--memory N` is given, the plan text of 1 prints how many bytes the plan's buffers take, and this number is at most
---    N. A plan that takes more is refused as MemoryLimit, unless Budget or PastBits refuses it first. The clause `buffers` of `safebound`
---    (`KeepsItsBuffers` of prepared_runs) says that after Done the buffers hold exactly these bytes.
+-- 9. If the verdict is accepted and `--memory N` is given, the plan text of 1 prints how many bytes the plan's buffers take, and this
+--    number is at most N. A plan that takes more is refused as MemoryLimit, unless Budget or PastBits refuses it first. The clause
+--    `buffers` of `safebound` (`KeepsItsBuffers` of prepared_runs) says that after Done the buffers hold exactly these bytes.
 abbrev pub EveryLimitIsKept : Call → Type 0
 EveryLimitIsKept call = OverFiles call (λ files v. IfOk v KeepsItsLimit)
 

@@ -5,27 +5,29 @@
 -- query of it, and each FROM entry has the rows in its table's file. A plan was printed in which no bound is too low. The printed rows are those of
 -- the answer, in any order, each as often as in the answer.
 --
--- - Bounds count the rows that a join keeps, and not the rows that it tries. A choice has one scanned row of each entry of a level or node. The choice
---   counts if every conjunct that names only these entries holds. A conjunct that names no entry is tested at every level and node, but not in scans.
---   Under `WHERE 1 = 2` every level and node is empty, and the scans are the same as without this condition.
--- - With `--reduce` or `--count` the text has the same form. Its scan lines then speak of the reduced scans, and levels and nodes are over the reduced
---   scans.
--- - With `--bushy` there is a line for each inner node. A tree of one FROM entry has no inner node: then the line of the scan has the bound of the answer.
+-- - Bounds count the rows that a join keeps, and not the rows that it tries. A choice has one scanned row of each entry of a level or node.
+--   The choice counts if every conjunct that names only these entries holds. A conjunct that names no entry is tested at every level and
+--   node, but not in scans. Under `WHERE 1 = 2` every level and node is empty, and the scans are the same as without this condition.
+-- - With `--reduce` or `--count` the text has the same form. Its scan lines then speak of the reduced scans, and levels and nodes are over
+--   the reduced scans.
+-- - With `--bushy` there is a line for each inner node. A tree of one FROM entry has no inner node: then the line of the scan has the bound
+--   of the answer.
 -- - With `--keys` the promise is the same as without `--keys`: scans, levels and choices are those of the query as it is written.
 -- - Apart from the limit of `--memory`, nothing is said about how high a bound may be. Budget, accuracy, the limit of `--memory` and the flags decide
 --   whether a plan is printed, and which plan; the headline says how.
--- - The answer is that of SQL-92 as the profile has it. This answer differs from the standard or from usual engines mainly in these points. Reserved words
---   that sql_tokens doesn't list (`read_words`, `reserved_words`) are plain names. Texts are compared without padding (`value_cmp` of
---   csv_tables). All number types are one kind of 64 bits (`kind_of` of schema_types). No row is tested against a reference (`reference_of` of
---   schema_types).
+-- - The answer is that of SQL-92 as the profile has it. This answer differs from the standard or from usual engines mainly in these points.
+--   Reserved words that sql_tokens doesn't list (`read_words`, `reserved_words`) are plain names. Texts are compared without padding
+--   (`value_cmp` of csv_tables). All number types are one kind of 64 bits (`kind_of` of schema_types). No row is tested against a foreign
+--   key (`reference_of` of schema_types).
 -- - Nothing is promised over a store that doesn't tell its files. If a sink doesn't tell its bytes, `Grew` says only that the sink doesn't tell its
 --   bytes afterwards. The contract of stores says that a read gives the bytes of a told file (`read_at` of base_io, by `ReadsAt`). The program's own
 --   folder and streams tell nothing; docs/PROVED.md says what is trusted of this folder and these streams.
 -- - Plan and rows are promised separately. The clause `buffers` (`KeepsItsBuffers`, in Kept.antt) says that the rows were found along the printed
 --   plan.
--- - The promise is only about calls that end with Done, and only about words that ask for `run`. Words ask for nothing if they have a flag or an option
---   twice, or two flags or options that can't stand together, or a number out of its range. The headline says in which cases a call ends otherwise, and
---   what the other commands print. A clause of the top call says that each call keeps the promise (`promise` of `safebound`, in src/top_call.rt).
+-- - The promise is only about calls that end with Done, and only about words that ask for `run`. Words ask for nothing if they have a flag or
+--   an option twice, or two flags or options that exclude each other, or a number out of its range. The headline says in which cases a call
+--   ends otherwise, and what the other commands print. A clause of the top call says that each call keeps the promise (`promise` of
+--   `safebound`, in src/top_call.rt).
 use Rattle.std.specs.Prelude.{ℕ, ◌≡◌, ◌+◌, ◌<◌, ◌≤◌, ◌++◌, List, length, slice_get, slice_index, take, Option, None, Some, Ok, IsPermutation}
 use Rattle.base_io.specs.Devices.{Growth}
 use Rattle.base_io.specs.Files.{Files, file_of}
@@ -100,8 +102,8 @@ pub record AreInFile (files : Files) (schema : Schema) (query : Query) (entry : 
 -- ---- what the plan text says
 
 -- the rows that are joined. For each FROM entry these are the rows for which every conjunct that names only this entry holds. With `--reduce` or
--- `--count` the lists are the largest lists of these rows in which each row has a match for each equality of its entry. A match is a row with an equal
--- value in the other entry's list
+-- `--count` the lists are the largest lists of these rows in which each row has a match for each equality of its entry. A match is a row
+-- with an equal value in the other entry's list
 abbrev pub AreScans : ListSource → Query → Tables → List (List ℕ) → Type 0
 AreScans sources.Columns query tables scans = scans ≡ scans_of query tables
 AreScans sources.Keyed query tables scans = scans ≡ scans_of query tables
@@ -117,7 +119,7 @@ abbrev pub ScansFit : Query → List (List ℕ) → List ℕ → Type 0
 ScansFit query scans bounds = (entry : ℕ) → entry < length query.from → length (list_at scans entry) ≤ slice_index bounds entry
 
 -- an order of all entries. No scan has more rows than its bound. For each k from 0 on, the first k + 1 entries have at most as many choices as
--- `levels` says at place k. The text numbers levels from 1, so place k is in its line `level` k + 1
+-- `levels` says at index k. The text numbers levels from 1, so the number at index k is in the line `level` k + 1
 pub record HoldsAlong (query : Query) (tables : Tables) (scans : List (List ℕ)) (plan : Plan) : Type 0 where
   pub each_entry : IsPlan (length query.from) plan
   pub scans_fit : ScansFit query scans plan.scans
@@ -133,8 +135,8 @@ pub record HoldsOver (query : Query) (tables : Tables) (scans : List (List ℕ))
       → length (choices_over query tables scans (entries_at plan (length query.from + k))) ≤ join.bound
 
 -- a plan with its text: an order, or with `--bushy` a join tree. With `--memory` a last line has the number that `plan_bytes` or `tree_bytes` counts
--- from the plan. That number is at most the limit. The clause `buffers` (`KeepsItsBuffers`, in Kept.antt) says that the buffers of the joins hold so
--- many bytes. The number doesn't count memory for reading and planning
+-- from the plan. That number is at most the limit. The clause `buffers` (`KeepsItsBuffers`, in Kept.antt) says that the buffers of the joins
+-- hold exactly this number of bytes. The number doesn't count memory for reading and planning
 pub record PrintsOrder (limit : Option ℕ) (query : Query) (tables : Tables) (scans : List (List ℕ)) (text : List ℕ) : Type 0 where
   pub plan : Plan
   pub holds : HoldsAlong query tables scans plan

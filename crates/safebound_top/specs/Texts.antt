@@ -9,8 +9,8 @@ use Rattle.query_types.specs.declared.types.Source.{Source}
 use Rattle.safebound_words.specs.declared.command.OutText.{OutText}
 use Rattle.safebound_words.specs.declared.command.OutText.TheVariants as out_text
 
--- the text for notes: a line with the bound of each scan, and then a line with the bound of each level of the plan's order, or of each inner node of its
--- tree. With a limit of memory, the line with the plan's bytes comes last
+-- the text for notes: a line with the bound of each scan, and then a line with the bound of each level of the plan's order, or of each
+-- inner node of its tree. With a limit of memory, the line with the plan's bytes comes last
 abbrev pub plan_text_of : List Source → AnyPlan → Option ℕ → List ℕ
 plan_text_of sources plan limit = shape_lines sources plan ++ memory_text limit (shape_bytes plan)
 

@@ -1,12 +1,14 @@
 //! The top call: from the words of a command line to the bytes of two streams.
 //!
-//! The top call calls the stages in order, and does nothing else. `read_words` finds what is asked for. `load_schema` and `prepare_run` read every file, plan,
-//! take all memory of the run, and write nothing. `write_outcome` writes the plan text, and then the rows text or the audit text; or it writes the
-//! text of a statistics file. Writing takes no memory. If the status isn't `Done`, `write_fault` tells the status in one line.
+//! The top call calls the stages one after another, and does nothing else. `read_words` finds what is asked for. `load_schema` and
+//! `prepare_run` read every file, plan, take all memory of the run, and write nothing. `write_outcome` writes the plan text, and then the
+//! rows text or the audit text; or it writes the text of a statistics file. Writing allocates no memory. If the status isn't `Done`,
+//! `write_fault` writes one line that reports the status.
 //!
 //! `safebound` has four clauses:
 //!
-//! - `promise` says what `run` has printed when it ends with Done. The clause speaks of words, files and SQL alone (`Promise` in `specs/Promise.antt`).
+//! - `promise` says what `run` has printed when it ends with Done. The clause speaks of words, files and SQL alone (`Promise` in
+//!   `specs/Promise.antt`).
 //! - `headline` says what comes out of any call, and why (`Headline` in `specs/Headline.antt`).
 //! - `untouched` says that `demo` leaves the caller's store as it was.
 //! - `buffers` says that the joins wrote into the buffers of the plan, and that these have exactly the plan's bytes

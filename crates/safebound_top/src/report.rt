@@ -1,4 +1,4 @@
-//! The line that tells how a call ended.
+//! The line that reports how a call ended.
 ghost use Rattle.std.specs.Prelude.{◌≡◌, ◌≢◌, option_copied};
 ghost use Rattle.base_io.specs.Devices.{growth};
 ghost use Rattle.base_io.specs.Writes.{Wrote};
@@ -44,7 +44,7 @@ fn names_by<'a>(schema_file: &'a str, aim: &'a Aim<'a>, schema: Option<&'a Schem
     }
 }
 
-// The names that a line may use, if the words may be no command. Without a command no file is named.
+// The names that a line may use. There is no command if the words were refused, and then no file is named.
 fn names_of<'a>(command: Option<&'a Command<'a>>, schema: Option<&'a Schema>) -> Named<'a>
     ensures { named result ≡ names_told (option_copied command.entry) (option_copied schema.entry) }
 {

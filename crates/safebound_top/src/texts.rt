@@ -1,4 +1,4 @@
-//! The texts that a run leaves in its two streams. Nothing here takes memory.
+//! The texts that a run writes to its two streams. Nothing here allocates memory.
 ghost use Rattle.std.specs.Prelude.{◌≡◌, ◌++◌, ℕ, List, None, OnOk, Some, length};
 ghost use Rattle.base_io.specs.Devices.{Growth, growth};
 ghost use Rattle.base_io.specs.Writes.{Wrote};
@@ -61,7 +61,7 @@ fn write_sizes<O: Sink>(joined: &Joined, sources: &[Source], out: &mut O) -> Res
     }
 }
 
-// If joins are left to do, it does them, writes the rows text or the audit text, and hands out the buffers with the rows.
+// If joins are pending, does them, writes the rows text or the audit text, and hands out the buffers with the rows.
 fn write_rest<O: Sink>(
     rest: PendingOutput,
     query: &Query,
@@ -146,7 +146,7 @@ fn write_plan_text<N: Sink>(
     write_memory(memory, bytes, notes)
 }
 
-// Writes the plan text to `notes`. Then it joins, if that is left to do, writes the text for `out`, and hands out the buffers of the joins.
+// Writes the plan text to `notes`. If joins are pending, then does them, writes the text for `out`, and hands out the buffers of the joins.
 fn write_texts<O: Sink, N: Sink>(
     prepared: PreparedQuery,
     out: &mut O,

@@ -23,7 +23,7 @@ use safebound_words::{Command, read_words};
 use schema_types::Schema;
 use std::alloc::Global;
 
-// Writes the line that tells why a reading ended early, and answers the status.
+// Writes the line that says why a reading ended early, and returns the status.
 fn stopped<N: Sink>(
     ending: Ending,
     command: &Command,
@@ -39,7 +39,7 @@ fn stopped<N: Sink>(
     status
 }
 
-// Writes the texts of the run, and hands out the buffers of its joins. If a write fails, it tells which stream couldn't be written.
+// Writes the texts of the run, and hands out the buffers of its joins. If a write fails, a line says which stream couldn't be written.
 fn written<O: Sink, N: Sink>(
     ready: PreparedRun,
     command: &Command,

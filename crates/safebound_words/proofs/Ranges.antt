@@ -64,7 +64,7 @@ request_if : {A : Type 0} (test : Bool) (made r : A) → (if test then Some made
 request_if true made r is = (refl, cc)
 request_if false made r is = absurd (cc)
 
--- if `beside` is true, an option is given that can't stand there
+-- if `beside` is true, an option or flag is given that this command can't be combined with
 alone_asks : {A : Type 0} (beside : Bool) (asked : Option A) (r : A) → (if beside then None else asked) ≡ Some r → asked ≡ Some r
 alone_asks true asked r is = absurd (cc)
 alone_asks false asked r is = is

@@ -1,5 +1,5 @@
--- The walk over a command line takes one more word. What the collected words and the remaining words ask for stays as it was; or nothing can be asked for any
--- more.
+-- The walk over a command line takes one more word. Then the collected and the remaining words together ask for the same as before; or the
+-- line is refused, and it asks for nothing.
 use Rattle.std.proofs.Common.{◌≡◌, ℕ, ◌+◌, ◌<◌, ◌≤◌, ◌==◌, ◌&&◌, not, nat_le, Bool, true, false, if◌then◌else◌, option_map, List, [], ◌∷◌, ◌++◌, length, map, drop, Option, Some, None, Result, Ok, Err, Bor, sym, refl, ap, ◌∙◌, append_assoc, append-nil, length-append, suc, zero, arith}
 use Rattle.std.proofs.Math.Path.{fun_ext}
 use Rattle.std.proofs.lemmas.Bool.{false≢true, ne_eqb}
@@ -32,7 +32,7 @@ use Rattle.safebound_words.specs.declared.line.Next.TheVariants as next
 use Rattle.safebound_words.specs.declared.line.Places.TheVariants as places
 use Rattle.safebound_words.proofs.WordKinds.{told}
 
--- ---- what a command asks for depends on its place words, on what is given to each option and on how often each flag is there
+-- ---- what a command asks for depends on its positional words, on what is given to each option and on how often each flag is given
 
 same_asks : (name : CommandName) (places places' : List Word) (given given' : Given)
     → places ≡ places' → ((o : OptionName) → given.values o ≡ given'.values o) → ((f : FlagName) → given.times f ≡ given'.times f)
@@ -42,7 +42,7 @@ same_asks name places places' given given' same values times =
     ∙ ap (λ (v : OptionName → List Word). (command_row name).asks places' (record { values = v; times = given.times })) (fun_ext values)
     ∙ ap (λ (t : FlagName → ℕ). (command_row name).asks places' (record { values = given'.values; times = t })) (fun_ext times)
 
--- the two lines may have different place words
+-- the two lines have the same options and flags. They may have different positional words
 pub record IsSameBeside (new old : Line) : Type 0 where
   pub values : (o : OptionName) → given_to new o ≡ given_to old o
   pub times : (f : FlagName) → times_of new f ≡ times_of old f
@@ -246,7 +246,7 @@ module _ (out : OutText) (terms : PlanTerms) (given : Given) where
   tables_without_flag f is many =
       none_behind (value_of option.Accuracy (given.values option.Accuracy)) (λ accuracy. by_accuracy accuracy) (λ accuracy. many_sources accuracy f is many)
 
--- ---- a plan from a statistics file allows no flag for another source of bounds, so it is refused if such a flag stands twice
+-- ---- a plan from a statistics file allows no flag for another source of bounds, so it is refused if such a flag is given twice
 
 nowhere : (b : Bool) → (b && false) ≡ false
 nowhere true = refl

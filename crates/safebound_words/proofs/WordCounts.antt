@@ -1,5 +1,5 @@
--- A command line has at most 16 words: its place words, one word for each flag, two words for each option, the command's word and `--`. So the code refuses
--- longer lines.
+-- A command line has at most 16 words: its positional words, one word for each flag, two words for each option, the command's word and `--`.
+-- So the code refuses longer lines.
 use Rattle.std.proofs.Common.{◌≡◌, ◌+◌, ◌*◌, ◌≤◌, ◌<◌, ◌&&◌, ◌++◌, ℕ, Bool, true, false, suc, zero, inl, inr, List, [], ◌∷◌, length, Option, None, Some, ap, sym, refl, ◌∙◌, arith}
 use Rattle.std.specs.Prelude.{if◌then◌else◌, option_map, ◌==◌}
 use Rattle.std.specs.List.{AllByRecursion, flat_map, list_any, sum_by}
@@ -26,7 +26,7 @@ use Rattle.safebound_words.specs.declared.table.OptionName.{OptionName}
 use Rattle.safebound_words.specs.declared.table.OptionName.TheVariants as option
 use Rattle.safebound_words.proofs.Readings.{bind_so, computed_asked}
 
--- ---- an item's words are at most its place words, two words for each value that it gives, and one for each flag that it sets
+-- ---- an item's words are at most its positional words, two words for each value that it gives, and one for each flag that it sets
 
 option_given : (option : OptionName) (item : Item) (value : Word) (options : List OptionName)
     → ((other : OptionName) → given_by other item ≡ (if same_option other option then value ∷ [] else []))
@@ -90,7 +90,7 @@ times_split item items (first ∷ flags) =
       sum_by-cons (set_by first) item items,
     )
 
--- a command's place words, options and flags have at most so many words
+-- the most words for a command's positional words, options and flags: one for each positional word, two for each option's value, one for each flag
 abbrev weight : CommandName → List Word → Given → ℕ
 weight name places given =
     length places + (2 * sum_by (λ option. length (given.values option)) (command_row name).options + sum_by (λ flag. given.times flag) (command_row name).flags)
@@ -234,7 +234,7 @@ demo_few [] given r is = absurd (cc)
 demo_few (number ∷ []) given r is = refl
 demo_few (number ∷ more ∷ places) given r is = absurd (cc)
 
--- two place words, three options of two words each and four flags have 12 words; `plan` may have one more option of two words
+-- two positional words, three options of two words each and four flags have 12 words; `plan` may have one more option of two words
 whole_few : (places : List Word) (given : Given) → AreFew places given → weight command.Run places given ≤ 12
 whole_few places given few =
     let terms = few.terms in

@@ -54,7 +54,7 @@ given_with line items = record {
   times = λ flag. times_of line flag + sum_by (set_by flag) items;
 }
 
--- how the words from here on are read, by what has to come next
+-- how the words from here on are read. `next` says what the first of them has to be
 abbrev pub parts_next : CommandName → Next → List Word → Option Parts
 parts_next name next.Item words = parts_from name None words
 parts_next name (next.Value option) words = parts_from name (Some option) words

@@ -1,4 +1,4 @@
--- Command lines: a command's word, items that its row of the table allows, and maybe `--` with further place words after it.
+-- Command lines: a command's word, items that its row of the table allows, and maybe `--` with further positional words after it.
 use Rattle.std.specs.Prelude.{ℕ, ◌≡◌, ◌⊎◌, Bool, false, if◌then◌else◌, List, [], ◌∷◌, ◌++◌, Option, Some, codes}
 use Rattle.std.specs.List.{AllByRecursion, flat_map, list_any, sum_by}
 use Rattle.std.specs.Str.{bytes_eq}
@@ -10,7 +10,7 @@ use Rattle.safebound_words.specs.declared.table.CommandName.{CommandName}
 use Rattle.safebound_words.specs.declared.table.FlagName.{FlagName}
 use Rattle.safebound_words.specs.declared.table.OptionName.{OptionName}
 
--- an item, which stands before `--`, is a place word, a flag, an option and its value in two words, or an option and its value in one word
+-- an item comes before `--`. It is a positional word, a flag, an option and its value in two words, or an option and its value in one word
 pub data Item : Type 0 where
   Place : Word → Item
   Alone : FlagName → Item
@@ -40,7 +40,7 @@ same_flag one other = bytes_eq (flag_word one) (flag_word other)
 abbrev pub has_flag : CommandName → FlagName → Bool
 has_flag command flag = list_any (same_flag flag) (command_row command).flags
 
--- the item may stand in a line of the command; a place word isn't dashed
+-- the command's line may have this item; a positional word isn't dashed
 abbrev pub IsItemOf : CommandName → Item → Type 0
 IsItemOf command (Place word) = is_dashed word ≡ false
 IsItemOf command (Alone flag) = IsTrue (has_flag command flag)
@@ -64,7 +64,7 @@ pub record AreReadAs (words : List Word) (reading : CommandReading) : Type 0 whe
   pub end : IsEnd rest reading.behind
   pub items : AllByRecursion (IsItemOf reading.command) reading.items
 
--- the place words of an item, the words that it gives to an option, and how often it has a flag
+-- the positional words of an item, the words that it gives to an option, and how often it has a flag
 abbrev pub place_words : Item → List Word
 place_words (Place word) = word ∷ []
 place_words (Alone flag) = []

@@ -1,4 +1,5 @@
--- The table of commands, options and flags, one line for each. A place word is an argument that isn't an option, an option's value, or a flag.
+-- The table of commands, options and flags, one line for each. A positional word (in names: `place`) is an argument that isn't an option, an
+-- option's value, or a flag.
 use Rattle.std.specs.Prelude.{ℕ, ◌^◌, ◌-◌, ◌==◌, ◌&&◌, ◌||◌, not, nat_le, if◌then◌else◌, suc, zero, Bool, true, false, List, [], ◌∷◌, length, Option, Some, None, codes}
 use Rattle.std.specs.Option.{option_map}
 use Rattle.limits.specs.Profile.{least_accuracy, least_budget, most_accuracy, most_budget, usual_accuracy, usual_budget}
@@ -53,13 +54,13 @@ flag_word flag.Bushy = codes "--bushy"
 flag_word flag.Keys = codes "--keys"
 flag_word flag.Count = codes "--count"
 
--- what a command line gives: for each option the words of its values, in order, and for each flag how often it stands
+-- what a command line gives: for each option its values, in the order of the line, and for each flag how often it is given
 pub record Given : Type 0 where
   pub values : OptionName → List Word
   pub times : FlagName → ℕ
 
--- the value of an option. Without a word it is the default. With one word it is the number in this word, which has to be in the option's range. With more
--- words there is no value
+-- the value of an option. Without a word it is the default. With one word it is the number in this word, which has to be in the option's
+-- range. With more words there is no value
 abbrev pub value_of : OptionName → List Word → Option ℕ
 value_of option [] = Some (option_row option).otherwise
 value_of option (word ∷ []) = number_within (option_row option).least (option_row option).most word
@@ -86,7 +87,7 @@ is_set zero = Some false
 is_set (suc zero) = Some true
 is_set (suc (suc more)) = None
 
--- a command: its word, its options, its flags, and what it asks for, if anything, with these place words and what is given
+-- a command: its word, its options, its flags, and what it asks for, if anything, with these positional words and what is given
 pub record CommandRow : Type 0 where
   pub word : Word
   pub options : List OptionName
@@ -142,7 +143,7 @@ from_file_or_tables out (Some file) terms given = from_file file terms given
 abbrev pub work_given : OutText → PlanTerms → Given → Option Work
 work_given out terms given = option_file (given.values option.Stats) >>= λ file. from_file_or_tables out file terms given
 
--- a plan takes exactly two place words, SCHEMA and QUERY
+-- a plan takes exactly two positional words, SCHEMA and QUERY
 unfoldable pub over_files : OutText → List Word → Given → Option Command
 over_files out (schema ∷ query ∷ []) given = do
   terms ← terms_given given
@@ -150,17 +151,17 @@ over_files out (schema ∷ query ∷ []) given = do
   Some (over_query None schema query work)
 over_files out places given = None
 
--- `stats` takes exactly two place words, SCHEMA and QUERY, and the accuracy
+-- `stats` takes exactly two positional words, SCHEMA and QUERY, and the accuracy
 abbrev pub of_stats : List Word → Given → Option Command
 of_stats (schema ∷ query ∷ []) given = option_map (λ accuracy. over_query None schema query (works.WriteStats accuracy)) (value_of option.Accuracy (given.values option.Accuracy))
 of_stats places given = None
 
--- `append` takes exactly four place words: SCHEMA, STATS, TABLE and ROWS
+-- `append` takes exactly four positional words: SCHEMA, STATS, TABLE and ROWS
 abbrev pub of_append : List Word → Given → Option Command
 of_append (schema ∷ file ∷ table ∷ rows ∷ []) given = Some (with_rows schema (record { stats_file = file; table = table; rows_file = rows }))
 of_append places given = None
 
--- `demo` takes exactly one place word, NUMBER
+-- `demo` takes exactly one positional word, NUMBER
 abbrev pub of_number : List Word → Given → Option Command
 of_number (number ∷ []) given = option_map demo_of (number_within 0 (2 ^ 32 - 1) number)
 of_number places given = None

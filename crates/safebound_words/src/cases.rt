@@ -6,7 +6,7 @@ ghost use Rattle.safebound_words.specs.declared.command.ListSource.TheVariants a
 ghost use Rattle.safebound_words.specs.declared.command.OutText.TheVariants as out_text;
 ghost use Rattle.safebound_words.specs.declared.command.Work.TheVariants as works;
 
-/// Commands and their place words: arguments that are no options, no values of options and no flags. This function does nothing.
+/// Commands and their positional words: arguments that are no options, no values of options and no flags. This function does nothing.
 pub fn small_commands()
     ensures run { command_of (codes "run" ∷ codes "s" ∷ codes "q" ∷ []) ≡ Some (over_query None (codes "s") (codes "q") (plan_by out_text.Rows 1000000 1 false false false None)) }
     ensures audit { command_of (codes "audit" ∷ codes "s" ∷ codes "q" ∷ []) ≡ Some (over_query None (codes "s") (codes "q") (plan_by out_text.Audit 1000000 1 false false false None)) }
@@ -16,7 +16,7 @@ pub fn small_commands()
     ensures zeros { command_of (codes "demo" ∷ codes "007" ∷ []) ≡ Some (demo_of 7) }
     ensures last_number { command_of (codes "demo" ∷ codes "4294967295" ∷ []) ≡ Some (demo_of 4294967295) }
 
-    // After `--` every word is a place word, also a second `--`.
+    // After `--` every word is a positional word, also a second `--`.
     ensures behind { command_of (codes "run" ∷ codes "--" ∷ codes "--budget" ∷ codes "--" ∷ [])
         ≡ Some (over_query None (codes "--budget") (codes "--") (plan_by out_text.Rows 1000000 1 false false false None)) }
     ensures value_behind { command_of (codes "run" ∷ codes "--budget" ∷ codes "5" ∷ codes "--" ∷ codes "--budget" ∷ codes "6" ∷ [])
@@ -114,7 +114,7 @@ pub fn small_keys()
     ensures of_demo { command_of (codes "demo" ∷ codes "7" ∷ codes "--keys" ∷ []) ≡ None }
     ensures of_stats { command_of (codes "stats" ∷ codes "s" ∷ codes "q" ∷ codes "--keys" ∷ []) ≡ None }
 
-    // `--keys` can't stand beside `--reduce` or `--stats`.
+    // `--keys` can't be combined with `--reduce` or `--stats`.
     ensures reduced { command_of (codes "run" ∷ codes "--keys" ∷ codes "s" ∷ codes "q" ∷ codes "--reduce" ∷ []) ≡ None }
     ensures of_a_file { command_of (codes "plan" ∷ codes "s" ∷ codes "q" ∷ codes "--stats=f" ∷ codes "--keys" ∷ []) ≡ None }
 {}
@@ -133,7 +133,7 @@ pub fn small_counts()
     ensures of_demo { command_of (codes "demo" ∷ codes "7" ∷ codes "--count" ∷ []) ≡ None }
     ensures of_stats { command_of (codes "stats" ∷ codes "s" ∷ codes "q" ∷ codes "--count" ∷ []) ≡ None }
 
-    // `--count` can't stand beside `--reduce`, `--keys` or `--stats`. Nor can `--count` stand beside `--accuracy`, since `--count` compresses nothing.
+    // `--count` can't be combined with `--reduce`, `--keys` or `--stats`, and not with `--accuracy`, since `--count` compresses nothing.
     ensures reduced { command_of (codes "run" ∷ codes "--count" ∷ codes "s" ∷ codes "q" ∷ codes "--reduce" ∷ []) ≡ None }
     ensures keyed { command_of (codes "plan" ∷ codes "--keys" ∷ codes "s" ∷ codes "q" ∷ codes "--count" ∷ []) ≡ None }
     ensures of_a_file { command_of (codes "plan" ∷ codes "s" ∷ codes "q" ∷ codes "--stats=f" ∷ codes "--count" ∷ []) ≡ None }
@@ -155,7 +155,7 @@ pub fn small_statistics()
     ensures next_word { command_of (codes "plan" ∷ codes "s" ∷ codes "q" ∷ codes "--stats" ∷ codes "--budget=5" ∷ []) ≡ None }
     ensures two_files { command_of (codes "plan" ∷ codes "s" ∷ codes "q" ∷ codes "--stats=f" ∷ codes "--stats=f" ∷ []) ≡ None }
 
-    // `--stats` can stand beside `--bushy`.
+    // `--stats` can be combined with `--bushy`.
     ensures tree { command_of (codes "plan" ∷ codes "s" ∷ codes "q" ∷ codes "--stats=f" ∷ codes "--bushy" ∷ codes "--budget=5" ∷ [])
         ≡ Some (over_query None (codes "s") (codes "q") (works.PlanFromStats (codes "f") (terms_by 5 true None))) }
     ensures limited { command_of (codes "plan" ∷ codes "--bushy" ∷ codes "s" ∷ codes "q" ∷ codes "--memory=9" ∷ codes "--stats" ∷ codes "f" ∷ [])
@@ -164,7 +164,7 @@ pub fn small_statistics()
     ensures of_orders { command_of (codes "plan" ∷ codes "s" ∷ codes "q" ∷ codes "--stats=f" ∷ codes "--budget=4000001" ∷ [])
         ≡ Some (over_query None (codes "s") (codes "q") (works.PlanFromStats (codes "f") (terms_by 4000001 false None))) }
 
-    // `--stats` can't stand beside another source of bounds or an accuracy. The command `stats` has only the option `--accuracy`.
+    // `--stats` can't be combined with another source of bounds or an accuracy. The command `stats` has only the option `--accuracy`.
     ensures accuracy { command_of (codes "plan" ∷ codes "s" ∷ codes "q" ∷ codes "--stats=f" ∷ codes "--accuracy=1" ∷ []) ≡ None }
     ensures reduced { command_of (codes "plan" ∷ codes "s" ∷ codes "q" ∷ codes "--stats=f" ∷ codes "--reduce" ∷ []) ≡ None }
     ensures of_run { command_of (codes "run" ∷ codes "s" ∷ codes "q" ∷ codes "--stats=f" ∷ []) ≡ None }
@@ -201,7 +201,7 @@ pub fn small_appends()
     ensures behind { command_of (codes "append" ∷ codes "s" ∷ codes "--" ∷ codes "-f" ∷ codes "--" ∷ codes "n" ∷ [])
         ≡ Some (with_rows (codes "s") (record { stats_file = (codes "-f"); table = (codes "--"); rows_file = (codes "n") })) }
 
-    // `append` takes four place words, and nothing else.
+    // `append` takes four positional words, and nothing else.
     ensures of_three { command_of (codes "append" ∷ codes "s" ∷ codes "f" ∷ codes "T" ∷ []) ≡ None }
     ensures a_fifth { command_of (codes "append" ∷ codes "s" ∷ codes "f" ∷ codes "T" ∷ codes "n" ∷ codes "m" ∷ []) ≡ None }
     ensures accuracy { command_of (codes "append" ∷ codes "s" ∷ codes "f" ∷ codes "T" ∷ codes "n" ∷ codes "--accuracy=1" ∷ []) ≡ None }

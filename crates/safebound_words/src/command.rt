@@ -35,8 +35,8 @@ pub enum Shape {
     Tree,
 }
 
-/// What is asked of a plan, whatever its bounds are made from. `budget` is the most rows that it may cost, and `shape` says how entries are joined.
-/// `memory` is the most bytes that the plan's buffers may take, if there is a limit.
+/// What is asked of a plan, whatever its bounds are made from. `budget` is the greatest cost that the plan may have, in rows, and `shape` says
+/// how entries are joined. `memory` is the most bytes that the plan's buffers may take, if there is a limit.
 #[derive(Clone, Copy, Debug)]
 pub struct PlanTerms {
     pub budget: u64,

@@ -8,7 +8,7 @@ use crate::command::WordsError;
 use crate::kind::{Kind, kind_of};
 use crate::table::{CommandName, FlagName, OptionName};
 
-/// The place words so far: arguments that are no options, no values of options and no flags. No command has more than four place words.
+/// The positional words so far: arguments that are no options, no values of options and no flags. No command has more than four positional words.
 #[derive(Clone, Copy)]
 pub(crate) enum Places<'a> {
     Nothing,
@@ -18,7 +18,7 @@ pub(crate) enum Places<'a> {
     Four(&'a str, &'a str, &'a str, &'a str),
 }
 
-/// What the next word is: an item (a place word, a flag or an option), an option's value, or, after `--`, a place word.
+/// What the next word is: an item (a positional word, a flag or an option), an option's value, or, after `--`, a positional word.
 #[derive(Clone, Copy)]
 pub(crate) enum Next {
     Item,
@@ -26,7 +26,7 @@ pub(crate) enum Next {
     Place,
 }
 
-/// The place words so far, the word that was given to each option, and whether each flag was given.
+/// The positional words so far, the word that was given to each option, and whether each flag was given.
 #[derive(Clone, Copy)]
 pub(crate) struct Line<'a> {
     pub places: Places<'a>,
@@ -40,7 +40,7 @@ pub(crate) struct Line<'a> {
     pub count: bool,
 }
 
-// Sets a word that isn't set yet. Otherwise the answer is `Usage`.
+// Sets `given` to the word. If `given` is set already, the answer is `Usage`.
 fn put<'a>(given: &mut Option<&'a str>, word: &'a str) -> Result<(), WordsError>
     ensures ok { OnOk result (option_words given.new ≡ option_words given.old ++ word.now ∷ []) }
     ensures again { OnErr result (length (option_words given.old) ≡ 1) }
@@ -52,7 +52,7 @@ fn put<'a>(given: &mut Option<&'a str>, word: &'a str) -> Result<(), WordsError>
     Ok(())
 }
 
-// Sets a mark that isn't set yet. Otherwise the answer is `Usage`.
+// Sets `marked`. If it is set already, the answer is `Usage`.
 fn mark(marked: &mut bool) -> Result<(), WordsError>
     ensures ok { OnOk result ((marked.old ≡ false) × (marked.new ≡ true)) }
     ensures again { OnErr result (marked.old ≡ true) }
@@ -65,7 +65,7 @@ fn mark(marked: &mut bool) -> Result<(), WordsError>
 }
 
 impl<'a> Line<'a> {
-    // Adds a place word, if there are fewer than four.
+    // Adds a positional word, if there are fewer than four.
     fn add_place(&mut self, word: &'a str) -> Result<(), WordsError>
         ensures ok { OnOk result (words_of self.new.places ≡ words_of self.old.places ++ word.now ∷ []) }
         ensures given { (option : OptionName) → given_to self.new option ≡ given_to self.old option }
@@ -135,7 +135,7 @@ impl<'a> Line<'a> {
         }
     }
 
-    // Takes the next word, if it stands before `--` and no option waits for its value.
+    // Takes the next word, if it comes before `--` and no option waits for its value.
     fn take_item(&mut self, name: CommandName, word: &'a str) -> Result<Next, WordsError>
         ensures ok { IfOk result (λ after. (words : List Word) →
             asked_from name self.new after words ≡ asked_from name self.old Next.Item (word.now ∷ words)) }

@@ -154,7 +154,7 @@ fn work_in<'a>(out: OutText, terms: PlanTerms, line: &Line<'a>) -> Option<Work<'
     None
 }
 
-// A plan over SCHEMA and QUERY, if these are the place words, each option has a right value, and the options and flags may stand together.
+// A plan over SCHEMA and QUERY, if these are the positional words, each option has a right value, and the options and flags may be combined.
 #[tactic(auto, unfolding(crate::specs::Table::over_files))]
 fn over_files<'a>(out: OutText, line: &Line<'a>) -> Option<Command<'a>>
     ensures { result ≡ asked_over_files out (words_of line.now.places) (given_of line.now) }
@@ -167,7 +167,7 @@ fn over_files<'a>(out: OutText, line: &Line<'a>) -> Option<Command<'a>>
     Some(over(schema, query, work))
 }
 
-// The statistics of a query, if the place words are SCHEMA and QUERY, at the accuracy of the line.
+// The statistics of a query, if the positional words are SCHEMA and QUERY, at the accuracy of the line.
 fn stats_of<'a>(line: &Line<'a>) -> Option<Command<'a>>
     ensures { result ≡ of_stats (words_of line.now.places) (given_of line.now) }
 {
@@ -184,7 +184,7 @@ fn stats_of<'a>(line: &Line<'a>) -> Option<Command<'a>>
     ))
 }
 
-// The append of new rows to a table, if the place words are SCHEMA, STATS, TABLE and ROWS.
+// The append of new rows to a table, if the positional words are SCHEMA, STATS, TABLE and ROWS.
 fn append_of<'a>(line: &Line<'a>) -> Option<Command<'a>>
     ensures { result ≡ asked_of_append (words_of line.now.places) (given_of line.now) }
 {
@@ -222,7 +222,7 @@ fn demo<'a>(number: u32) -> Command<'a>
     }
 }
 
-// The audit of the shop NUMBER, if this is the only place word.
+// The audit of the shop NUMBER, if this is the only positional word.
 fn shop_of<'a>(line: &Line<'a>) -> Option<Command<'a>>
     ensures { result ≡ asked_of_number (words_of line.now.places) (given_of line.now) }
 {

@@ -26,10 +26,10 @@ fn command_in<'a>(words: &[&'a str]) -> Option<Command<'a>>
     }
 }
 
-/// Reads the words of a command line, without the program's own name, in one walk from left to right. The call takes no memory.
+/// Reads the words of a command line, without the program's own name, in one walk from left to right. The call allocates no memory.
 ///
-/// The answer is `Usage` exactly if the words ask for nothing. For example they name no command, an option is given twice, two flags can't stand
-/// together, or a value is outside its range.
+/// The answer is `Usage` exactly if the words ask for nothing. For example they name no command, an option is given twice, two flags exclude
+/// each other, or a value is outside its range.
 pub fn read_words<'a>(words: &[&'a str]) -> Result<Command<'a>, WordsError>
     ensures command { IfOk result (AskFor (map (λ w. w.now) words.now)) }
     ensures usage { OnErr result ((command : Command) → AskFor (map (λ w. w.now) words.now) command → ⊥) }

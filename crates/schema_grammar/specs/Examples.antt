@@ -1,4 +1,4 @@
--- The tokens of small texts. The comment above a list has its text.
+-- The tokens of small texts. The comment above each list is the text that has these tokens.
 use Rattle.std.specs.Prelude.{ℕ, List, [], ◌∷◌}
 use Rattle.ll_grammars.specs.declared.lexeme.Lexeme.{Lexeme}
 use Rattle.ll_grammars.specs.declared.terminal.Terminal.{Terminal}

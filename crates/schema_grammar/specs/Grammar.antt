@@ -74,7 +74,7 @@ tables parts = parts.0 ∷ parts.1.0
 
 -- ---- names
 
--- KEY, NO, ACTION and CASCADE are keywords only in their places, and names elsewhere
+-- KEY, NO, ACTION and CASCADE are keywords only where a rule has them as words, and names elsewhere
 abbrev pub name_terminals : List Terminal
 name_terminals = terminal.Name ∷ terminal.Key ∷ terminal.No ∷ terminal.Action ∷ terminal.Cascade ∷ []
 

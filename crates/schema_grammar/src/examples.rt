@@ -4,8 +4,8 @@ ghost use Rattle.ll_grammars.specs.Places.{IsSyntaxPlace};
 ghost use Rattle.schema_grammar.specs.Examples.{head, no_length, table_of_whole, whole};
 ghost use Rattle.schema_grammar.specs.Grammar.{SchemaText};
 
-/// `CREATE TABLE R (X INT UNIQUE);` spells one table. `CREATE TABLE R (` needs more tokens, so the text goes wrong at its length, 16.
-/// `CREATE TABLE R (X VARCHAR(0))` goes wrong at the zero, byte 26. The empty text goes wrong at 0.
+/// `CREATE TABLE R (X INT UNIQUE);` spells one table. `CREATE TABLE R (` needs more tokens, so the text goes wrong at its end, byte 16.
+/// `CREATE TABLE R (X VARCHAR(0))` goes wrong at the zero, byte 26. The empty text goes wrong at byte 0.
 pub fn small_texts()
     ensures spells { SchemaText whole (table_of_whole ∷ []) }
     ensures needs_more { IsSyntaxPlace SchemaText head 16 16 }

@@ -1,5 +1,5 @@
-//! The grammar of schema texts. Tokens (`Lexeme`) come in. The syntax trees of tables go out, or the place where the tokens go wrong. This crate
-//! doesn't look at what the names in the trees mean: its caller does.
+//! The grammar of schema texts. Tokens (`Lexeme`) come in. The syntax trees of tables go out, or the byte offset at which the tokens go wrong.
+//! This crate doesn't look at what the names in the trees mean: its caller does.
 //!
 //! Callers cite `SchemaText` (which lists of tokens spell which tables), `IsSyntaxError` of `ll_grammars`
 //! and `AreOf` (the trees' tokens are those of the list).
@@ -29,10 +29,10 @@ use ll_grammars::{Lexeme, Reader, Stop, SyntaxError};
 use std::alloc::Global;
 pub use tree::{ColumnNode, ColumnRule, Element, TableNode, TableRule, TargetNode, TypeNode};
 
-/// The tables that the tokens spell, in order. `text_len` is the length of their text in bytes.
+/// The tables that the tokens spell, in the order of the text. `text_len` is the length of the text in bytes.
 ///
-/// `SyntaxError::At` comes exactly if the tokens spell no schema. Its place is where the first token begins that can't follow the tokens before it in
-/// any schema, or `text_len` if more tokens are needed. The tokens are read in one pass, with one token of lookahead.
+/// `SyntaxError::At` comes exactly if the tokens spell no schema. It has the byte offset of the first token that can't follow the tokens
+/// before it in any schema, or `text_len` if more tokens are needed. The tokens are read in one pass, with one token of lookahead.
 #[tactic(auto, using(crate::proofs::Ends::spelled, crate::proofs::Ends::wrong_at, crate::proofs::Ends::all_found))]
 pub fn read_tables(
     alloc: Global,

@@ -1,4 +1,4 @@
-//! Reads the table and the columns to which a reference leads (SQL-92 11.8).
+//! Reads the target of a reference: a table, and its columns if they are written (SQL-92 11.8).
 ghost use Rattle.ll_grammars.specs.Rules.{IsReadAs};
 ghost use Rattle.schema_grammar.specs.Readers.{read_action, read_target, read_triggered_action, read_triggered_actions};
 

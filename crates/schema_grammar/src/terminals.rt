@@ -1,4 +1,4 @@
-//! The sets of terminals at which the reader decides.
+//! The sets of terminals that the reader looks for.
 pub use ll_grammars::NAME;
 use ll_grammars::Terminal;
 

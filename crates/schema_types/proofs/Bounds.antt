@@ -1,4 +1,4 @@
--- In the schema of a text, each number of a column is below the number of columns of its table.
+-- In the schema of a text, keys and references give columns by their numbers. Each of these is below the number of columns of its table.
 use Rattle.std.proofs.Common.{◌≡◌, ℕ, zero, suc, ◌+◌, ◌<◌, ◌≤◌, List, [], ◌∷◌, ◌++◌, length, map, Option, Some, None, All, refl, sym, ◌∙◌, ap, subst, arith}
 use Rattle.std.specs.List.{flat_map, slice_get}
 use Rattle.std.specs.Option.{unwrap_or, option_map, option_and_then}
@@ -32,7 +32,7 @@ names_of_columns text (element.Rule rule ∷ elements) = names_of_columns text e
 pub count_of_columns : (text : List ℕ) (elements : List Element) → length (flat_map (element_column text) elements) ≡ length (column_names text elements)
 count_of_columns text elements = sym (length-map (flat_map (element_column text) elements) (λ column. column.name)) ∙ ap length (names_of_columns text elements)
 
--- ---- numbers of columns and of tables
+-- ---- the numbers that names of columns have
 
 number_within : (declared : List (List ℕ)) (name : List ℕ) → 0 < length declared → number_of_name declared name < length declared
 number_within declared name some = at (place_of declared name) (place_of_within declared name)

@@ -1,4 +1,4 @@
--- Checks walk a list. f gives the places or numbers that offend in each element, and the check's answer is the first of them.
+-- A check walks a list. For each element, f lists the byte offsets or the numbers that break a rule. The check's answer is the first of all.
 use Rattle.std.proofs.Common.{◌≡◌, ℕ, suc, ◌+◌, ◌<◌, List, [], ◌∷◌, ◌++◌, length, get_or, take, drop, Option, Some, None, Err, refl, sym, ◌∙◌, ap}
 use Rattle.std.specs.List.{flat_map}
 use Rattle.std.specs.Option.{option_map, unwrap_or}

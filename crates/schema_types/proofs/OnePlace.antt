@@ -1,4 +1,4 @@
--- A list of tokens goes wrong at one place at most. If it spells a value, it goes wrong at no place.
+-- A list of tokens goes wrong at one byte offset at most. If it spells a value, it doesn't go wrong.
 use Rattle.std.proofs.Common.{◌≡◌, ℕ, List, [], ◌∷◌, ◌++◌, sym, ◌∙◌, ap, subst, append_assoc}
 use Rattle.std.proofs.lemmas.List.{append-nil}
 use Rattle.ll_grammars.specs.declared.lexeme.Lexeme.{Lexeme}

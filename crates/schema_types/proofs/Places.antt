@@ -1,4 +1,4 @@
--- A name has a place in a list of names. The lemmas say which place it has, also after a name was added at the list's end.
+-- The index of a name in a list of names (`place_of`): what it is after a name was added at the list's end, and that it is below the length.
 use Rattle.std.proofs.Common.{◌≡◌, ℕ, ◌+◌, ◌<◌, Bool, true, false, cond, ◌||◌, List, [], ◌∷◌, ◌++◌, length, Option, Some, None, is_some, is_none, refl, sym, ◌∙◌, ap, subst, inl, inr, arith}
 use Rattle.std.proofs.lemmas.Bool.{cases_Bool}
 use Rattle.std.specs.Option.{option_map}

@@ -1,4 +1,4 @@
--- Checks walk a list. f gives the offences of an element and may look at the elements before it. The check's answer is the first offence.
+-- A check walks a list. f gives the offences of an element and may look at the elements before it. The check's answer is the first offence.
 use Rattle.std.proofs.Common.{◌≡◌, ℕ, suc, ◌+◌, ◌<◌, List, [], ◌∷◌, ◌++◌, length, get_or, take, drop, Err, refl, sym, ◌∙◌, ap, append_assoc}
 use Rattle.std.proofs.Math.Seq.{drop-cons}
 use Rattle.std.proofs.lemmas.List.{take-append-drop, append-nil, take_more}

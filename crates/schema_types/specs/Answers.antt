@@ -8,7 +8,7 @@ use Rattle.schema_types.specs.declared.errors.SchemaError.{SchemaError}
 use Rattle.schema_types.specs.declared.errors.SchemaError.TheVariants as error
 use Rattle.schema_types.specs.declared.types.Schema.{Schema}
 
--- the answer is the one that is due, or that memory ran out
+-- the answer is `due`, or that memory ran out
 abbrev pub Answers : Result Schema SchemaError → Result Schema SchemaError → Type 0
 Answers (Ok schema) due = due ≡ Ok schema
 Answers (Err (error.Name at)) due = due ≡ Err (error.Name at)
@@ -23,7 +23,7 @@ pub record AreLexemes (text : List ℕ) (lexemes : List Lexeme) : Type 0 where
   pub lexed : IsLexed text tokens
   pub are : lexemes ≡ map (lexeme_of text) tokens
 
--- why a text wasn't split into tokens: it is bad at a place, or memory ran out
+-- why a text wasn't split into tokens: it is bad at a byte offset, or memory ran out
 abbrev pub IsLexRefusal : List ℕ → SchemaError → Type 0
 IsLexRefusal text (error.Syntax at) = IsBad text at
 IsLexRefusal text error.NoMemory = ⊤

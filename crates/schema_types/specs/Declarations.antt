@@ -69,7 +69,7 @@ target_place text tables target = place_of (table_names text tables) (name_of te
 abbrev pub target_table : List ℕ → List TableNode → TargetNode → Option TableNode
 target_table text tables target = option_and_then (slice_get tables) (target_place text tables target)
 
--- the columns to which a reference leads: the columns that are written, or the target's primary key if no columns are written
+-- the columns that a reference refers to: the columns that are written, or the target's primary key if no columns are written
 abbrev pub referenced_columns : Option (List Lexeme) → List Element → Option (List Lexeme)
 referenced_columns (Some columns) elements = Some columns
 referenced_columns None elements = primary_key elements

@@ -1,4 +1,4 @@
--- What a check answers: `Ok` if it finds nothing, otherwise the first place or number that it finds, or that memory ran out.
+-- What a check answers: `Ok` if it finds nothing, otherwise the first byte offset or number that it finds, or that memory ran out.
 use Rattle.std.specs.Prelude.{◌≡◌, ℕ, List, [], Some, Result, Ok, Err, ⊤, option_map}
 use Rattle.schema_types.specs.declared.errors.LimitKind.{LimitKind}
 use Rattle.schema_types.specs.declared.errors.SchemaError.{SchemaError}
@@ -6,7 +6,7 @@ use Rattle.schema_types.specs.declared.errors.SchemaError.TheVariants as error
 use Rattle.schema_types.specs.Names.{first}
 use Rattle.schema_types.specs.Refusals.{in_64_bits}
 
--- places at which a rule on names is broken
+-- byte offsets at which a rule on names is broken
 abbrev pub Finds : {A : Type 0} → Result A SchemaError → List ℕ → Type 0
 Finds (Ok _) places = places ≡ []
 Finds (Err (error.Name at)) places = first places ≡ Some at
@@ -15,7 +15,7 @@ Finds (Err (error.Syntax _)) places = ⊥
 Finds (Err (error.Nullable _)) places = ⊥
 Finds (Err (error.Limit _ _)) places = ⊥
 
--- columns that may be null
+-- byte offsets of the names of columns that may be null
 abbrev pub FindsNullable : {A : Type 0} → Result A SchemaError → List ℕ → Type 0
 FindsNullable (Ok _) places = places ≡ []
 FindsNullable (Err (error.Nullable at)) places = first places ≡ Some at

@@ -54,7 +54,7 @@ element_keys text declared (element.Rule rule) = table_rule_keys text declared r
 
 -- ---- references
 
--- the numbers of the columns of a table to which a reference leads. If the reference lists no columns, they are the table's primary key
+-- the numbers of the columns that a reference refers to. If the reference lists no columns, they are the primary key of its target
 abbrev pub led_numbers : List ℕ → Option (List Lexeme) → Option TableNode → List ℕ
 led_numbers text written None = []
 led_numbers text written (Some table) =
@@ -120,7 +120,7 @@ abbrev pub unless_found : Option ℕ → (ℕ → SchemaError) → Result Schema
 unless_found None cause rest = rest
 unless_found (Some found) cause rest = Err (cause found)
 
--- at most 64 tables, 64 columns in each table, and 1,000,000 characters in a text, in this order
+-- at most 64 tables, 64 columns in each table, and 1,000,000 characters in a text, tested in this order
 unfoldable pub within_limits : List ℕ → List TableNode → Result Schema SchemaError → Result Schema SchemaError
 within_limits text tables rest =
     unless_found (first (above most_tables (length tables ∷ []))) (λ found. error.Limit limit.Tables (in_64_bits found))

@@ -1,4 +1,4 @@
--- The offences against the rules on names, as places in text order (SQL-92 11.3, 11.4, 11.7 and 11.8, as
+-- The offences against the rules on names, as byte offsets in text order (SQL-92 11.3, 11.4, 11.7 and 11.8, as
 -- this profile has them).
 use Rattle.std.specs.Prelude.{ℕ, Bool, true, false, not, ◌||◌, ◌==◌, List, [], ◌∷◌, ◌++◌, map, length, Option, Some, None, is_none}
 use Rattle.std.specs.List.{list_any}
@@ -28,7 +28,7 @@ is_taken name names = stands_in (upper_case name) (map upper_case names)
 
 -- ---- lists of columns
 
--- a column that isn't in its table, or that stands earlier in the list
+-- a column that isn't in its table, or that is in the list already
 unfoldable pub listed_offences : List ℕ → List (List ℕ) → List Lexeme → Lexeme → List ℕ
 listed_offences text declared earlier column =
     when (is_none (place_of declared (name_of text column)) || stands_in (name_of text column) (names_of text earlier)) column.start
@@ -38,8 +38,8 @@ list_offences text declared columns = each_told (listed_offences text declared) 
 
 -- ---- references
 
--- the offences of the columns to which a reference of `count` columns leads, in the table of these elements. If there aren't `count` of them, the
--- target's name offends
+-- the offences of the columns that a reference from `count` columns refers to. The target is the table of these elements. If its columns
+-- aren't `count` many, the target's name offends
 abbrev pub led_offences : List ℕ → ℕ → Lexeme → Option (List Lexeme) → List Element → List ℕ
 led_offences text count name (Some columns) elements =
     when (not (length columns == count)) name.start ++ list_offences text (column_names text elements) columns
@@ -67,7 +67,7 @@ is_primary (element.Rule (table_rule.PrimaryKey _ _)) = true
 is_primary (element.Rule (table_rule.Unique _)) = false
 is_primary (element.Rule (table_rule.ForeignKey _ _)) = false
 
--- the offences of a column's rule, given the column's rules before it. `keyed` says whether a primary key stands before the column
+-- the offences of a column's rule, given the column's rules before it. `keyed` says whether the table has a primary key before the column
 unfoldable pub rule_offences : List ℕ → List TableNode → Bool → List ColumnRule → ColumnRule → List ℕ
 rule_offences text tables keyed earlier column_rule.NotNull = []
 rule_offences text tables keyed earlier (column_rule.PrimaryKey word) = when (keyed || list_any is_primary_rule earlier) word.start
@@ -101,6 +101,6 @@ table_offences text tables earlier table =
     when (not (is_plain (name_of text table.name)) || is_taken (name_of text table.name) (table_names text earlier)) table.name.start
     ++ each_told (element_offences text tables (column_names text table.elements)) table.elements
 
--- all places at which a rule on names is broken, in text order
+-- all byte offsets at which a rule on names is broken, in text order
 unfoldable pub offences : List ℕ → List TableNode → List ℕ
 offences text tables = each_told (table_offences text tables) tables

@@ -28,7 +28,7 @@ abbrev pub key_names : List ℕ → Option (List Lexeme) → List (List ℕ)
 key_names text None = []
 key_names text (Some key) = names_of text key
 
--- a column that has neither NOT NULL nor a place in the primary key of these names
+-- whether a column neither has NOT NULL nor is in the primary key of these names
 abbrev pub is_nullable : List ℕ → List (List ℕ) → ColumnNode → Bool
 is_nullable text key column = not (list_any is_not_null column.rules || stands_in (name_of text column.name) key)
 
@@ -36,11 +36,11 @@ abbrev pub nullable_element : List ℕ → List (List ℕ) → Element → List 
 nullable_element text key (element.Column column) = when (is_nullable text key column) column.name.start
 nullable_element text key (element.Rule _) = []
 
--- the columns of a table that may be null
+-- the columns of a table that may be null, as the byte offsets of their names
 unfoldable pub nullable_in : List ℕ → TableNode → List ℕ
 nullable_in text table = flat_map (nullable_element text (key_names text (primary_key table.elements))) table.elements
 
--- the columns that may be null, as the places of their names in text order (SQL-92 11.4)
+-- the columns that may be null, as the byte offsets of their names in text order (SQL-92 11.4)
 unfoldable pub nullable_places : List ℕ → List TableNode → List ℕ
 nullable_places text tables = flat_map (nullable_in text) tables
 
@@ -54,7 +54,7 @@ above most numbers = filter (nat_lt most) numbers
 abbrev pub in_64_bits : ℕ → ℕ
 in_64_bits n = min n (2 ^ 64 - 1)
 
--- how many columns the tables have
+-- how many columns each table has
 abbrev pub column_counts : List TableNode → List ℕ
 column_counts tables = map (λ table. length (columns table.elements)) tables
 

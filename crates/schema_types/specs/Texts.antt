@@ -17,7 +17,7 @@ pub record Spells (text : List ℕ) (tables : List TableNode) : Type 0 where
   pub lexed : IsLexed text tokens
   pub spelled : SchemaText (map (lexeme_of text) tokens) tables
 
--- the text has tokens, and these go wrong at this place
+-- the text has tokens, and these go wrong at this byte offset
 pub record IsUngrammatical (text : List ℕ) (at : ℕ) : Type 0 where
   pub tokens : List Token
   pub lexed : IsLexed text tokens

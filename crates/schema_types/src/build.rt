@@ -48,7 +48,7 @@ impl Scope<'_> {
         Ok(found)
     }
 
-    // The numbers of the columns to which a reference leads. `table` is the reference's target.
+    // The numbers of the columns that a reference refers to. `table` is the reference's target.
     #[tactic(auto, unfolding(crate::specs::Index::table_index))]
     fn led(&self, target: &TargetNode, table: &TableIndex) -> Result<Seq<u32>, NoMemory>
         requires { IsTargetOf (IsLexemeOf self.now.text.now) target.now }

@@ -49,7 +49,7 @@ fn is_keyed_after(keyed: bool, element: &Element) -> bool
 }
 
 impl Scope<'_> {
-    // Checks a column's rule. `keyed` says whether a primary key stands before this rule.
+    // Checks a column's rule. `keyed` says whether the table has a primary key before this rule.
     #[tactic(auto, unfolding(crate::specs::Offences::rule_offences))]
     fn check_rule(&self, keyed: bool, rule: &ColumnRule) -> Result<(), SchemaError>
         requires { IsColumnRuleOf (IsLexemeOf self.now.text.now) rule.now }
@@ -69,7 +69,7 @@ impl Scope<'_> {
         }
     }
 
-    // Checks a column's rules. `keyed` says whether a primary key stands before the column.
+    // Checks a column's rules. `keyed` says whether the table has a primary key before the column.
     #[tactic(auto, using(crate::proofs::Told::told_none))]
     fn check_rules(&self, keyed: bool, rules: &[ColumnRule]) -> Result<(), SchemaError>
         requires { All (IsColumnRuleOf (IsLexemeOf self.now.text.now)) rules.now }
@@ -100,7 +100,7 @@ impl Scope<'_> {
         Ok(())
     }
 
-    // Checks a column. `keyed` says whether a primary key stands before this column.
+    // Checks a column. `keyed` says whether the table has a primary key before this column.
     #[tactic(auto, unfolding(crate::specs::Offences::column_offences))]
     fn check_column(
         &self,
@@ -118,7 +118,7 @@ impl Scope<'_> {
         self.check_rules(keyed, column.rules.as_slice())
     }
 
-    // Checks a rule of a table with these columns. `keyed` says whether a primary key stands before this rule.
+    // Checks a rule of a table with these columns. `keyed` says whether the table has a primary key before this rule.
     #[tactic(auto, unfolding(crate::specs::Offences::table_rule_offences))]
     fn check_table_rule(
         &self,

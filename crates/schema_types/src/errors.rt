@@ -20,14 +20,14 @@ pub enum LimitKind {
     Rows,
 }
 
-/// Why no schema was read. Places are offsets in the text, in bytes from 0.
+/// Why no schema was read. `at` is an offset in the text, in bytes from 0.
 #[derive(Clone, Copy, Debug, PartialEq, Eq)]
 pub enum SchemaError {
-    /// The text doesn't follow the grammar: it goes wrong at this place.
+    /// The text doesn't follow the grammar: it goes wrong at this offset.
     Syntax { at: u32 },
-    /// A rule on names is broken at this place.
+    /// A rule on names is broken at this offset.
     Name { at: u32 },
-    /// The column whose name stands at this place may be null.
+    /// The column whose name begins at this offset may be null.
     Nullable { at: u32 },
     /// The limit `which` is passed. `found` is the number that passes it, or 2^64 - 1 if this number is larger.
     Limit { which: LimitKind, found: u64 },

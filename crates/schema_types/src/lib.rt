@@ -2,8 +2,8 @@
 //!
 //! This is the first stage after the files are read. It finds the tokens of a text (`sql_tokens`) and the tables that they spell (`schema_grammar`),
 //! and then checks names, nullability and limits. Callers cite `IsSchemaOf` (in `specs/Texts.antt`), which says which answers each text has, and
-//! `IsValid` (in `specs/Validity.antt`), which says what is true of every schema that was read. `NameList` is a list of names that finds the place of a
-//! name. Later stages use `NameList` too.
+//! `IsValid` (in `specs/Validity.antt`), which says what is true of every schema that was read. `NameList` is a list of names with a look-up:
+//! from a name to its index. Later stages use `NameList` too.
 #![tactic(auto)]
 
 mod answer;

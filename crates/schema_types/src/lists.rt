@@ -37,7 +37,7 @@ fn check_listed(
     Ok(())
 }
 
-/// Checks a list of columns of a table: each is declared there, and no column stands twice.
+/// Checks a list of columns of a table: the table declares each of them, and the list has no column twice.
 #[tactic(auto, using(crate::proofs::Told::told_none), unfolding(crate::specs::Offences::list_offences))]
 pub fn check_list(
     alloc: Global,

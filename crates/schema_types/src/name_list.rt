@@ -1,4 +1,4 @@
-//! A list of names that finds the place of a name.
+//! A list of names that finds the index of a name.
 ghost use Rattle.std.specs.Prelude.{◌≡◌, ℕ, List, [], ◌∷◌, ◌++◌, IfOk, OnOk, OnErr, length, map};
 ghost use Rattle.std.specs.HashMap.{get_by_text, IsUnchanged};
 ghost use Rattle.std.specs.Str.{bytes_eq};
@@ -10,7 +10,7 @@ use std::alloc::Global;
 use std::collections::HashMap;
 use std::marker::Model;
 
-/// A list of names. In contracts it is a list of the bytes of each name. The list finds a name's first place with one look-up.
+/// A list of names. In contracts it is a list of the bytes of each name. The list finds the first index of a name with one look-up.
 #[derive(Drop)]
 pub struct NameList {
     names: Vec<String>,
@@ -29,7 +29,7 @@ impl Model for NameList {
     ghost invariant = { λ s. (name : List ℕ) → get_by_text s.places name ≡ place_of (map string_bytes s.names.items) name };
 }
 
-// Notes the place of a name that has no place yet.
+// Notes the index of a name, if the name has no index yet.
 fn note_place(
     places: &mut HashMap<String, u32>,
     alloc: Global,
@@ -58,14 +58,14 @@ impl NameList {
         }
     }
 
-    /// The first place of a name, counted from 0.
+    /// The first index of a name, counted from 0.
     pub fn get(&self, name: &str) -> Option<u32>
         ensures { result ≡ place_of self.now name.now }
     {
         self.places.get(name).copied()
     }
 
-    /// The places of these names in another list, and 0 for a name that isn't there.
+    /// The indexes of these names in another list, and 0 for a name that isn't in that list.
     pub fn numbers_in(&self, alloc: Global, declared: &NameList) -> Result<Seq<u32>, NoMemory>
         ensures { IfOk result (λ found. found ≡ map (number_of_name declared.now) self.now) }
     {

@@ -25,7 +25,7 @@ fn is_not_null(rules: &[ColumnRule]) -> bool
 }
 
 impl Scope<'_> {
-    // Whether a name stands in a primary key, if there is one.
+    // Whether a name is in a primary key, if there is one.
     #[tactic(auto, using(crate::proofs::Places::stands_in_is))]
     fn is_in_key(&self, key: &Option<NameList>, token: &Lexeme) -> Result<bool, NoMemory>
         requires { IsNameOf (IsLexemeOf self.now.text.now) token.now }

@@ -46,9 +46,9 @@ fn answer(alloc: Global, text: &[u8]) -> Result<Schema, SchemaError>
     }
 }
 
-/// Reads a schema text (SQL-92 11.3, 11.4, 11.7 and 11.8 in this profile): its schema, or the first
-/// refusal in the order Syntax, Name, Nullable, Limit, each at the first place that offends. Places are
-/// bytes of the text, a byte order mark included. The text has at most 1,048,576 bytes.
+/// Reads a schema text (SQL-92 11.3, 11.4, 11.7 and 11.8 in this profile). The answer is its schema, or the first refusal in the order Syntax,
+/// Name, Nullable, Limit. Each of these is the first of its kind in the text. Offsets count the bytes of the text from 0, a byte order mark
+/// included. The text has at most 1,048,576 bytes.
 #[tactic(auto, using(crate::proofs::Valid::answers_valid))]
 pub fn read_schema(alloc: Global, text: &[u8]) -> Result<Schema, SchemaError>
     requires { length text.now ≤ most_text }

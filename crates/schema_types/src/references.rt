@@ -17,7 +17,7 @@ use base_io::NoMemory;
 use schema_grammar::TargetNode;
 
 impl Scope<'_> {
-    /// The table to which a reference leads: the first table that has the name in the reference.
+    /// The table that a reference refers to: the first table that has the name in the reference.
     #[tactic(auto, using(crate::proofs::Targets::no_target, crate::proofs::Targets::target_found, crate::proofs::Places::place_of_within))]
     pub fn target(&self, target: &TargetNode) -> Result<Option<&TableIndex>, NoMemory>
         requires { IsTargetOf (IsLexemeOf self.now.text.now) target.now }
@@ -31,8 +31,8 @@ impl Scope<'_> {
         }
     }
 
-    // Checks the columns to which a reference leads. `table` is the reference's target, and these columns must be as many as the reference has on its own
-    // side, `count`.
+    // Checks the columns that a reference refers to. `table` is the reference's target. The reference has `count` columns of its own, and must
+    // refer to as many.
     #[tactic(auto, unfolding(crate::specs::Index::table_index))]
     fn check_led(
         &self,

@@ -1,7 +1,7 @@
 //! What a schema declares.
 use base_io::{Name, Seq};
 
-/// The kind of a column's values: signed 64-bit numbers, or texts of at most so many characters.
+/// The kind of a column's values: signed 64-bit numbers, or texts of at most this number of characters.
 #[derive(Clone, Copy, Debug, PartialEq, Eq)]
 pub enum Kind {
     Int,
@@ -15,7 +15,7 @@ pub struct Column {
     pub kind: Kind,
 }
 
-/// A declared reference from columns of its table to target columns of a table. Columns and the table are given by their places.
+/// A declared reference from columns of its table to target columns of a table. Columns and the table are given by their numbers, from 0.
 #[derive(Debug, Drop)]
 pub struct Reference {
     pub columns: Seq<u32>,
@@ -23,7 +23,7 @@ pub struct Reference {
     pub targets: Seq<u32>,
 }
 
-/// A declared table. A key is a list of the places of its columns.
+/// A declared table. A key is a list of the numbers of its columns.
 #[derive(Debug, Drop)]
 pub struct Table {
     pub name: Name,

@@ -43,7 +43,7 @@ other_order xs ys e k = elim (Contains-append_cases xs ys e k) [
   | inr behind ↦ Contains-append_left ys xs e behind
 ]
 
--- ---- if equalities leave two entries apart (don't connect them), fewer equalities leave them apart too
+-- ---- if equalities don't connect two entries (`AreApart`), fewer equalities don't connect them either
 
 abbrev Together : (ℕ → Bool) → Edge → Type 0
 Together side e = side e.left.entry ≡ side e.right.entry

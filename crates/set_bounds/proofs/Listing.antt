@@ -1,4 +1,4 @@
--- If a set is listed, each set within it is listed.
+-- If a set has its row bounds and lists (`SetIsListed`), each set within it has them too.
 use Rattle.std.proofs.Common.{◌≡◌, ℕ, ◌-◌, ◌^◌, ◌<◌, true, List, get_or, inl, inr, arith}
 use Rattle.std.specs.Prelude.{IsSome}
 use Rattle.std.specs.Int.{bit_at}

@@ -1,5 +1,5 @@
--- Let two lists of equalities name the same columns of some entries, and make the same classes of these columns. Then both have the same trees of these
--- entries.
+-- Let two lists of equalities name the same columns of some entries, and make the same classes of these columns. Then both have the same
+-- trees of these entries.
 use Rattle.std.proofs.Common.{◌≡◌, ◌⊎◌, ℕ, zero, suc, ◌-◌, List, [], ◌∷◌, refl, ap, sym, subst, inl, inr, arith}
 use Rattle.std.specs.Prelude.{⊤, Option, Some, None}
 use Rattle.std.specs.List.{AllByRecursion, Contains}
@@ -21,7 +21,8 @@ use Rattle.set_bounds.proofs.Forests.{AreAmong, all_among, all_in, among_round, 
 
 -- ---- when a tree of one list of equalities is a tree of another list
 
--- for the entries that have Q, es and fs name the same columns and make the same classes. For other entries, each column that fs names is also named by es
+-- for the entries that have Q, es and fs name the same columns and make the same classes. For other entries, each column that fs names is
+-- also named by es
 pub record Carries (Q : ℕ → Type 0) (es fs : List Edge) : Type 0 where
   pub places_to : (q : Place) → Contains (places_of fs) q → Contains (places_of es) q
   pub places_from : (q : Place) → Q q.entry → Contains (places_of es) q → Contains (places_of fs) q

@@ -1,5 +1,5 @@
--- The code tests whether a turn keeps all equalities of a set, and whether an equality crosses from a part of the set to the rest. The lemmas say what these
--- tests mean.
+-- The code tests whether a turn keeps all equalities of a set, and whether an equality crosses from a part of the set to the rest. The
+-- lemmas say what these tests mean.
 use Rattle.std.proofs.Common.{◌≡◌, ℕ, zero, suc, ◌-◌, ◌*◌, ◌^◌, ◌<◌, ◌≤◌, min, Bool, true, false, cond, not, ◌&&◌, eqb, ltb, bit_and, w16, List, [], ◌∷◌, get_or, length, refl, ap, sym, ◌∙◌, subst, inl, inr, arith}
 use Rattle.std.specs.Int.{bit_at, bit_not}
 use Rattle.std.proofs.lemmas.Bool.{cases_Bool, ltb-true, or_parts}

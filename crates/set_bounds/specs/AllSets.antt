@@ -18,7 +18,7 @@ bound_told b es subset = saturated (bound_of_set b es subset)
 abbrev pub bounds_below : (ℕ → EntryBounds) → List Edge → ℕ → List ℕ
 bounds_below b es k = map (λ subset. bound_told (b subset) es subset) (range_with_len 0 k)
 
--- the bounds of all sets of the first n entries, each at the number whose bits are the set
+-- the bounds of all sets of the first n entries, each at the index whose bits are the set's entries
 abbrev pub bounds_in_sets : (ℕ → EntryBounds) → List Edge → ℕ → List ℕ
 bounds_in_sets b es n = bounds_below b es (2 ^ n)
 

@@ -17,8 +17,8 @@ pub record FallsInto (es : List Edge) (subset part rest : ℕ) : Type 0 where
   pub others : (entry : ℕ) → has_entry rest entry ≡ (has_entry subset entry && not (has_entry part entry))
   pub unjoined : AreUnjoined es subset part
 
--- what is known of the entries of a part doesn't depend on the rest of the set. So a part has the same bound, whether this is computed from what is known
--- in the set or from what is known in the part alone. The same is true of the rest
+-- what is known of the entries of a part doesn't depend on the rest of the set. So the bound of a part is the same, whether it is computed
+-- from what is known in the set or from what is known in the part alone. The same is true of the bound of the rest
 abbrev pub LooksAtParts : (ℕ → EntryBounds) → List Edge → Type 0
 LooksAtParts b es = (subset part rest : ℕ) → FallsInto es subset part rest
     → (bound_told (b part) es part ≡ bound_told (b subset) es part) × (bound_told (b rest) es rest ≡ bound_told (b subset) es rest)

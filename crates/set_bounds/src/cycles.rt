@@ -95,7 +95,8 @@ fn only_within(alloc: Global, parts: &Parts, subset: EntrySet) -> Result<Parts, 
     })
 }
 
-/// The bound of a set: the least bound over its turns. A turn goes through all equalities that it is given, so it gets only the equalities of the set.
+/// The bound of a set: the least bound over its turns. A turn goes through all equalities that it is given, so it gets only the equalities
+/// of the set.
 pub(crate) fn cyclic_bound(
     alloc: Global,
     parts: &Parts,

@@ -21,9 +21,9 @@ use entry_sets::EntrySet;
 use join_graph::Parts;
 use std::alloc::Global;
 
-/// The bounds, in rows, of all sets of the first `count` entries, each at the number whose bits are the set. The list has `u128::MAX` in place of a
-/// larger bound, and 1 for the empty set. What is known of an entry may depend on the set in which the entry is joined, but not on those entries of
-/// the set that no equalities connect with the entry. So, if no cycle is closed, only connected sets are folded.
+/// The bounds, in rows, of all sets of the first `count` entries, each at the index whose bits are the set's entries. The list has `u128::MAX`
+/// instead of a larger bound, and 1 for the empty set. What is known of an entry may depend on the set in which the entry is joined, but not
+/// on those entries of the set that no equalities connect with the entry. So, if no cycle is closed, only connected sets are folded.
 ///
 /// A set's bound is the least over its turns. In a turn it is the product of the bounds of its trees (SafeBound, SIGMOD 2023; Degree Sequence Bound,
 /// ICDT 2023).

@@ -1,4 +1,4 @@
-//! A room of the caller's, which is filled from its front.
+//! A sink that fills a buffer of the caller (its room) from the front.
 ghost use Rattle.std.specs.Prelude.{◌≡◌, ◌<◌, ◌≤◌, IfOk, OnErr, drop, length, take};
 ghost use Rattle.base_io.specs.Causes.{Rose};
 ghost use Rattle.base_io.specs.Sinks.{appended};

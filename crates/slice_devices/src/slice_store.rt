@@ -1,4 +1,4 @@
-//! Files in a list of the caller's.
+//! A store of the files in a list that the caller lends.
 ghost use Rattle.std.specs.Prelude.{◌≡◌, ◌-◌, ◌<◌, length, min, option_map, Some};
 ghost use Rattle.base_io.specs.Files.{Fills, file_of};
 ghost use Rattle.slice_devices.specs.Slices.{files_of};
@@ -42,7 +42,7 @@ fn find_file<'b>(files: &[SliceFile<'b>], name: &str) -> Option<&'b [u8]>
     None
 }
 
-// Copies the bytes from `place` on to the front of a buffer, and says how many bytes: all that there are, or as many as fit.
+// Copies the bytes from offset `place` on to the front of a buffer: all that there are, or as many as fit. Answers how many it copied.
 fn copy_front(bytes: &[u8], place: u64, into: &mut [u8]) -> usize
     requires { 0 < length into.old }
     ensures count { result ≡ min (length bytes.now - place) (length into.new) }

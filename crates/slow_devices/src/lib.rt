@@ -1,9 +1,9 @@
 //! Devices that read and write at most a given number of bytes in each call, for tests of code that reads stores and writes sinks. Nothing
-//! here takes memory.
+//! here allocates memory.
 //!
-//! `SlowStore` and `SlowSink` stand before a store and a sink in memory, the inner devices. Files, counts and failures are those of the inner
-//! device. So callers cite the definitions that they cite for `MemStore` and `MemSink`. They also cite `most_bytes` (in `specs/Cuts.antt`), which
-//! says how many bytes a call hands on.
+//! `SlowStore` wraps a store in memory and `SlowSink` a sink in memory: these are the inner devices. Files, counts and failures are those of
+//! the inner device. So callers cite the definitions that they cite for `MemStore` and `MemSink`. They also cite `most_bytes` (in
+//! `specs/Cuts.antt`), which says how many bytes a call hands on.
 #![tactic(auto)]
 
 mod slow_sink;

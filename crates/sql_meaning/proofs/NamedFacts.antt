@@ -1,4 +1,5 @@
--- A condition that can be asked of a database (`IsAskable`) names only entries of the database, and a comparison of operands of one kind can be asked.
+-- A condition that can be asked of a database (`IsAskable`) names only entries of the database, and a comparison of operands of one kind
+-- can be asked.
 use Rattle.std.proofs.Common.{◌<◌, length, refl, subst}
 use Rattle.std.specs.List.{All}
 use Rattle.csv_tables.specs.declared.types.Database.{Database}

@@ -13,7 +13,7 @@ use Rattle.query_types.specs.declared.types.Cond.{Cond}
 use Rattle.query_types.specs.declared.types.Query.{Query}
 use Rattle.sql_meaning.specs.Tables.{cells_of, row_counts, tables_of}
 
--- each column has one cell for each row, and each cell of a text is the number of a text in the pool
+-- each column has one cell for each row, and in a column of texts each cell is the number of a text in the pool
 abbrev pub AreCells : List (List ℕ) → Cells → Type 0
 AreCells texts cells = AreColumns texts cells.rows cells.kinds cells.columns
 
@@ -37,7 +37,7 @@ pub record IsColumnOfKind (db : Database) (column : ColumnRef) (text : Bool) : T
 abbrev pub IsAskable : Database → Cond → Type 0
 IsAskable db cond = IsTyped (IsColumnOfKind db) cond
 
--- the cells of all tables are in order, and each entry's slot is the number of a table
+-- the cells of each table are right (`AreCells`), and each entry's slot is the number of a table
 pub record AreTables (db : Database) : Type 0 where
   pub cells : All (AreCells db.pool) db.cells
   pub slots : All (λ slot. slot < length db.cells) db.slots

@@ -25,7 +25,7 @@ fn comparison_holds(op: Op, left: &Operand, right: &Operand, db: &Database, rows
     compares_as(op, compare_values(left, right))
 }
 
-/// Whether a condition holds, if each FROM entry has the row whose number stands at the entry's place in `rows`. The test takes no memory; the
+/// Whether a condition holds. `rows` has the number of a row for each FROM entry, at the entry's number. The test allocates no memory; the
 /// recursion is as deep as the condition.
 pub fn holds(cond: &Cond, db: &Database, rows: &[u32]) -> bool
     requires tables { AreTables db.now }

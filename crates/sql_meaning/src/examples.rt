@@ -25,9 +25,9 @@ pub fn filters()
 pub fn texts()
     ensures letters { value_cmp (Text (codes "Z")) (Text (codes "a")) ≡ Less }
     ensures longer { value_cmp (Text (codes "a")) (Text (codes "a ")) ≡ Less }
-    // U+FFFF stands before U+10000
+    // U+FFFF comes before U+10000
     ensures planes { value_cmp (Text (239 ∷ 191 ∷ 191 ∷ [])) (Text (240 ∷ 144 ∷ 128 ∷ 128 ∷ [])) ≡ Less }
-    // U+00E9 stands after the letter z
+    // U+00E9 comes after the letter z
     ensures accent { value_cmp (Text (195 ∷ 169 ∷ [])) (Text (codes "z")) ≡ Greater }
 {}
 

@@ -1,4 +1,4 @@
-//! Values that aren't copied, and their order.
+//! Values that borrow their texts, and their order.
 ghost use Rattle.std.specs.Prelude.{◌≡◌};
 ghost use Rattle.csv_tables.specs.Values.{value_cmp};
 ghost use Rattle.sql_meaning.specs.Conditions.{compares};
@@ -8,7 +8,7 @@ use csv_tables::compare_texts;
 use query_types::Op;
 use std::cmp::Ordering;
 
-/// A number, or a text that is borrowed from the place where it lies.
+/// A number, or a borrowed text.
 #[derive(Clone, Copy)]
 pub enum ValueRef<'a> {
     Int(i64),

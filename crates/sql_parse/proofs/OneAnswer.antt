@@ -21,7 +21,7 @@ use Rattle.query_names.specs.Numbers.{number_offences}
 use Rattle.sql_parse.specs.QueryOrRefusal.{query_or_refusal, refusal}
 use Rattle.sql_parse.specs.Reading.{lexemes_of, least, unless_number, IsUnlexed, IsTooDeep, IsUnspelled, IsSpelled, IsAnswer}
 
--- ---- a list goes wrong at one place
+-- ---- a list goes wrong at one position at most
 
 record Longer (front rest front' rest' : List Lexeme) : Type 0 where
   next : Lexeme

@@ -1,4 +1,4 @@
--- The outputs of entries are built column by column and entry by entry. The lemmas say what `Selected` has of a list of outputs.
+-- The outputs of entries are built column by column and entry by entry. The lemmas relate `Selected` to the list of all outputs.
 use Rattle.std.proofs.Common.{◌≡◌, ℕ, suc, ◌+◌, ◌<◌, ◌≤◌, List, [], ◌∷◌, ◌++◌, length, drop, get_or, Option, Some, None, ap, subst, sym, ◌∙◌, refl, append_assoc, arith, length-append}
 use Rattle.std.specs.Prelude.{slice_get}
 use Rattle.std.specs.List.{flat_map}
@@ -64,9 +64,9 @@ few_columns schema i table valid found =
     let one : IsValidTable table = subst IsValidTable (get_or_from_slice_get schema.tables i table table is) (valid.tables i table (slice_get_within schema.tables i table is)) in
     one.few
 
--- ---- what is gathered
+-- ---- what is counted and built
 
--- the outputs are always counted; they were built if neither the limit on outputs nor the limit on FROM entries is passed
+-- the outputs are always counted, and built unless the limit on outputs or the limit on FROM entries is passed
 pub record IsGathered (binder : Binder) (found : Selected) (list : List Out) : Type 0 where
   pub count : found.count ≡ capped (length list)
   pub outs : length (from_of binder) ≤ 12 → found.count ≤ most_outputs → found.outs ≡ list

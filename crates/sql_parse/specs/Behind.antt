@@ -1,4 +1,4 @@
--- Names, kinds and lists in the clauses of a query whose FROM entries are known, and its conjuncts. The binder has the schema, the text and the entries.
+-- For a query with known FROM entries: the offending names, kinds and lists, and the conjuncts. The binder has the schema, the text and the entries.
 use Rattle.std.specs.Prelude.{ℕ, List, ◌++◌}
 use Rattle.std.specs.List.{flat_map}
 use Rattle.query_grammar.specs.declared.tree.QueryNode.{QueryNode}
@@ -7,7 +7,7 @@ use Rattle.query_types.specs.declared.types.Cond.{Cond}
 use Rattle.query_names.specs.Scopes.{whole_scope, conditions}
 use Rattle.query_names.specs.Binding.{from_of, outs_offences_of, names_in, kinds_in, lists_in, members_in}
 
--- the places of names that offend: in the SELECT list, then in the conditions
+-- the byte offsets of names that offend: in the SELECT list, then in the conditions
 unfoldable pub names_behind : Binder → QueryNode → List ℕ
 names_behind binder query =
     outs_offences_of binder (whole_scope (from_of binder)) query.outs ++ flat_map (names_in binder) (conditions (from_of binder) query)

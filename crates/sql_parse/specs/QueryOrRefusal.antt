@@ -1,4 +1,4 @@
--- What a syntax tree gives: a query, or the first refusal, for a name, a kind or a limit.
+-- What a syntax tree gives: a query, or the first refusal: for a name, for a kind (a number compared with a text) or for a limit.
 use Rattle.std.specs.Prelude.{ℕ, ◌-◌, ◌^◌, nat_lt, min, if◌then◌else◌, List, [], ◌∷◌, ◌++◌, length, Result, Ok, Err}
 use Rattle.std.specs.List.{flat_map}
 use Rattle.limits.specs.Profile.{most_conjuncts, most_entries, most_outputs}
@@ -27,7 +27,7 @@ too_long_in c = flat_map too_long (tests c.condition)
 unfoldable pub long_lists : List Source → QueryNode → List ℕ
 long_lists from query = flat_map too_long_in (conditions from query)
 
--- ---- the refusals for limits that are passed, in the order in which they are told
+-- ---- the refusals for limits that are passed, the one that is reported first at the front
 abbrev pub over : LimitKind → ℕ → ℕ → List QueryError
 over which most n = if nat_lt most n then refusal which n ∷ [] else []
 

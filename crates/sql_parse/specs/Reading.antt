@@ -20,35 +20,35 @@ use Rattle.sql_parse.specs.QueryOrRefusal.{query_or_refusal, refusal}
 abbrev pub lexemes_of : List ℕ → List Token → List Lexeme
 lexemes_of text tokens = map (lexeme_of text) tokens
 
--- the most parentheses that may be open at one place
+-- the most parentheses that may be open at once
 abbrev pub most_nesting : ℕ
 most_nesting = 64
 
--- a place, or the first of the other places if that is less
+-- the lesser of `place` and the first of the other byte offsets, if there is one
 abbrev pub least : ℕ → List ℕ → ℕ
 least place [] = place
 least place (other ∷ rest) = min place other
 
--- if there are places of wrong numbers, the answer is a refusal at the first of these places; otherwise the answer stays
+-- the list has the byte offsets of numbers outside the range. If there are any, the first of them is refused; otherwise the answer stays
 abbrev pub unless_number : List ℕ → Result Query QueryError → Result Query QueryError
 unless_number [] answer = answer
 unless_number (place ∷ rest) answer = Err (error.Syntax place)
 
 module _ (schema : Schema) (text : List ℕ) (answer : Result Query QueryError) where
-  -- the text can't be cut into tokens, and goes wrong at `place`
+  -- the text can't be cut into tokens, and goes wrong at byte `place`
   pub record IsUnlexed : Type 0 where
     pub place : ℕ
     pub bad : IsBad text place
     pub refused : answer ≡ Err (error.Syntax place)
 
-  -- more parentheses are open at one place than may be
+  -- more parentheses are open at once than may be
   pub record IsTooDeep : Type 0 where
     pub tokens : List Token
     pub lexed : IsLexed text tokens
     pub deep : most_nesting < nesting (lexemes_of text tokens)
     pub refused : answer ≡ Err (refusal limit.Nesting (nesting (lexemes_of text tokens)))
 
-  -- the tokens spell no query. The refusal has the place where they go wrong, or the place of a number outside the range if that comes before
+  -- the tokens aren't a query of the grammar. The refusal is at the byte where they go wrong, or at an earlier number outside the range
   pub record IsUnspelled : Type 0 where
     pub tokens : List Token
     pub lexed : IsLexed text tokens
@@ -57,7 +57,7 @@ module _ (schema : Schema) (text : List ℕ) (answer : Result Query QueryError) 
     pub wrong : IsSyntaxPlace QuerySpecification (lexemes_of text tokens) (length text) place
     pub refused : answer ≡ Err (error.Syntax (least place (number_offences text (lexemes_of text tokens))))
 
-  -- the tokens spell a query. A number outside the range is refused first; otherwise names, kinds and limits decide the answer
+  -- the tokens are a query of the grammar. A number outside the range is refused first; otherwise names, kinds and limits decide the answer
   pub record IsSpelled : Type 0 where
     pub tokens : List Token
     pub lexed : IsLexed text tokens

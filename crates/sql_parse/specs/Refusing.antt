@@ -44,6 +44,6 @@ refusals_behind binder query = first_place name_error (names_behind binder query
 abbrev pub IsFirstOf : List QueryError → QueryError → Type 0
 IsFirstOf refusals e = (e ≡ error.NoMemory) ⊎ (first refusals ≡ Some e)
 
--- the answer is the one that is due. The answer that memory ran out may come at any time
+-- the answer is `due`. The answer that memory ran out may come at any time
 abbrev pub Answers : Result Query QueryError → Result Query QueryError → Type 0
 Answers due answer = (answer ≡ Err error.NoMemory) ⊎ (answer ≡ due)

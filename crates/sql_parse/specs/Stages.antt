@@ -21,7 +21,7 @@ IsLexRefusal text (error.Name at) = ⊥
 IsLexRefusal text (error.Kind at) = ⊥
 IsLexRefusal text (error.Limit which found) = ⊥
 
--- a place, or the other place if there is one and it is less
+-- the lesser of two byte offsets; the second may be missing
 abbrev pub least_of : ℕ → Option ℕ → ℕ
 least_of place None = place
 least_of place (Some other) = min place other

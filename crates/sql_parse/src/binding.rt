@@ -1,4 +1,4 @@
-//! What a syntax tree gives: a query, or the first refusal, for a name, a kind or a limit.
+//! What a syntax tree gives: a query, or the first refusal: for a name, for a kind (a number compared with a text) or for a limit.
 ghost use Rattle.std.specs.Prelude.{◌≡◌, [], Ok, Err, IfOk, IfErr};
 ghost use Rattle.schema_types.specs.Validity.{IsValid};
 ghost use Rattle.sql_tokens.specs.Words.{IsLexemeOf};

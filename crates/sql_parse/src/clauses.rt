@@ -20,8 +20,8 @@ use query_grammar::QueryNode;
 use query_names::{Binder, HeldOffences, QueryError, Visible};
 use query_types::Cond;
 
-/// Looks at the SELECT list and gathers its outputs. Then looks at all conditions. It adds the conjuncts if the query doesn't have too many entries
-/// and no list of IN is too long.
+/// Resolves the names of the SELECT list and gathers its outputs. Then checks all conditions. The conjuncts are added if the query doesn't have too
+/// many entries and no list of IN is too long.
 #[tactic(auto, using(crate::proofs::BehindFacts::no_name, crate::proofs::BehindFacts::name_in_outs, crate::proofs::BehindFacts::name_in_parts, crate::proofs::BehindFacts::name_in_filter, crate::proofs::BehindFacts::kinds_behind_are, crate::proofs::BehindFacts::lists_behind_are, crate::proofs::BehindFacts::conjuncts_are_both), unfolding(query_grammar::specs::Lexemes::IsQueryOf))]
 pub fn check_clauses(
     binder: &Binder<'_>,

@@ -1,4 +1,4 @@
-//! The conditions of a query text, each with the entries that are in scope at its place.
+//! The conditions of a query text, each with the entries that are in scope where it is written.
 ghost use Rattle.std.specs.Prelude.{◌≡◌, ◌≤◌, ◌+◌, ◌++◌, [], All, None, IfOk, IfErr, length};
 ghost use Rattle.std.specs.List.{flat_map};
 ghost use Rattle.sql_tokens.specs.Words.{IsLexemeOf};
@@ -12,7 +12,8 @@ use query_grammar::{CondNode, JoinedNode};
 use query_names::{Binder, HeldOffences, QueryError, Visible};
 use query_types::Cond;
 
-/// Looks at a condition. It adds the condition's members if the query doesn't have too many entries and no list of IN up to here is too long.
+/// Checks the names, kinds and lists of a condition. Appends its members to `conjuncts` if the query doesn't have too many entries and no list of IN
+/// up to here is too long.
 #[tactic(auto, unfolding(query_names::specs::Binding::names_in, query_names::specs::Binding::kinds_in, query_names::specs::Binding::lists_in, query_names::specs::Binding::members_in))]
 pub fn look_at_condition(
     binder: &Binder<'_>,
@@ -36,7 +37,7 @@ pub fn look_at_condition(
     binder.add_members(visible, condition, held, conjuncts)
 }
 
-/// Looks at the conditions of a part's joins: each join brings an entry into scope.
+/// Checks the ON conditions of one item of FROM's list, as `look_at_condition` does. Each join first brings its entry into scope.
 pub fn look_at_joins(
     binder: &Binder<'_>,
     joins: &[JoinedNode],

@@ -22,7 +22,7 @@ fn is_too_large(negative: bool, value: u64) -> bool
     }
 }
 
-/// The token before, if it is a sign.
+/// The token `before`, if it is a sign.
 fn sign_before(before: Option<Lexeme>) -> Option<Lexeme>
     ensures { result ≡ sign_before before }
 {
@@ -34,7 +34,7 @@ fn sign_before(before: Option<Lexeme>) -> Option<Lexeme>
     }
 }
 
-/// The place of a token, if this is a number outside the range. A number with a sign has the sign's place.
+/// The byte offset of a token, if it is a number outside the range. A number with a sign begins at its sign.
 #[tactic(auto, using(crate::proofs::NumberRange::still_too_large))]
 fn number_offence(text: &[u8], sign: Option<Lexeme>, token: Lexeme) -> Option<u32>
     requires { IsLexemeOf text.now token }
@@ -47,7 +47,7 @@ fn number_offence(text: &[u8], sign: Option<Lexeme>, token: Lexeme) -> Option<u3
     }
 }
 
-/// The place of the first number outside the range. A number with a sign has the sign's place.
+/// The byte offset of the first number outside the range. A number with a sign begins at its sign.
 #[tactic(auto, using(crate::proofs::NumberRange::none_here, crate::proofs::NumberRange::offence_here, crate::proofs::NumberRange::none_at_end), unfolding(query_names::specs::Numbers::number_offences))]
 pub fn check_numbers(text: &[u8], tokens: &[Lexeme]) -> Option<u32>
     requires { All (IsLexemeOf text.now) tokens.now }

@@ -14,7 +14,7 @@ use query_grammar::{CondNode, PartNode};
 use query_names::{Binder, HeldOffences, QueryError};
 use query_types::Cond;
 
-/// Looks at the conditions of a part whose first entry has the number `first`. Returns the number of the next part's first entry.
+/// Checks the conditions of a part whose first entry is entry `first`. Returns the number of the next part's first entry.
 fn look_at_part(
     binder: &Binder<'_>,
     first: usize,
@@ -40,7 +40,7 @@ fn look_at_part(
     Ok(visible.scope.end)
 }
 
-/// Looks at the conditions of all parts.
+/// Checks the conditions of all parts.
 #[tactic(auto, using(crate::proofs::PartFacts::conditions_at, crate::proofs::PartFacts::sources_at, query_names::proofs::Walk::or_first_append))]
 pub fn look_at_parts(
     binder: &Binder<'_>,
@@ -64,7 +64,7 @@ pub fn look_at_parts(
     Ok(())
 }
 
-/// Looks at the condition of WHERE.
+/// Checks the condition of WHERE.
 pub fn look_at_filter(
     binder: &Binder<'_>,
     filter: &Option<CondNode>,

@@ -32,7 +32,7 @@ fn read_lexemes(alloc: Global, text: &[u8]) -> Result<Seq<Lexeme>, QueryError>
     }
 }
 
-/// The lesser of two places: `at`, and the place of a number outside the range, if there is one.
+/// The lesser of two byte offsets: `at`, and that of a number outside the range, if there is one.
 fn least_of(at: u32, number: Option<u32>) -> u32
     ensures { result ≡ least_of at number }
 {
@@ -77,8 +77,8 @@ fn answer(
 }
 
 /// Reads a query text over a schema (SQL-92 6.3, 6.4, 7.4 to 7.9 and 8 in this profile): its query, or the first refusal. Tokens are tested first,
-/// then the limit on nesting, the grammar and the range of numbers, names, kinds, and the other limits. A refusal names the first place that offends.
-/// Places are bytes of the text, a byte order mark included. The text has at most 1,048,576 bytes.
+/// then the limit on nesting, the grammar and the range of numbers, names, kinds, and the other limits. A refusal has the byte offset of the
+/// first offence; a byte order mark counts. The text has at most 1,048,576 bytes.
 #[tactic(auto, using(crate::proofs::AnswerOfSchema::answer_of_schema, crate::proofs::Answered::unlexed))]
 pub fn read_query(alloc: Global, schema: &Schema, text: &[u8]) -> Result<Query, QueryError>
     requires valid { IsValid schema.now }

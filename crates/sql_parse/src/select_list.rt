@@ -32,7 +32,7 @@ fn all_outputs(binder: &Binder<'_>) -> Result<Selected, NoMemory>
     Ok(found)
 }
 
-/// Looks at the name of an item of the list, and adds the outputs that the item gives.
+/// Resolves the name of an item of the list, and adds the outputs that the item gives.
 #[tactic(auto, using(crate::proofs::OutFacts::named_small), unfolding(query_names::specs::Binding::out_offences_of, crate::specs::Outputs::outs_by, crate::specs::Outputs::outs_of_entry_by))]
 fn add_out(
     binder: &Binder<'_>,
@@ -70,7 +70,7 @@ fn add_out(
     }
 }
 
-/// Looks at the names of all items of a list, in text order, and gathers the outputs that the items give.
+/// Resolves the names of all items of a list, in text order, and gathers the outputs that the items give.
 fn listed(binder: &Binder<'_>, visible: &Visible, list: &[OutNode]) -> Result<Selected, QueryError>
     requires shows { Shows binder.now visible.now }
     requires all { visible.now.scope ≡ whole_scope (from_of binder.now) }
@@ -89,7 +89,7 @@ fn listed(binder: &Binder<'_>, visible: &Visible, list: &[OutNode]) -> Result<Se
     Ok(found)
 }
 
-/// Looks at the names of the SELECT list, in text order, and gathers the outputs.
+/// Resolves the names of the SELECT list, in text order, and gathers the outputs.
 #[tactic(auto, unfolding(query_names::specs::Binding::outs_offences_of, query_names::specs::Binding::out_offences_of, crate::specs::Outputs::selected_by, crate::specs::Outputs::all_outs_by, crate::specs::Outputs::outs_by))]
 pub fn select(
     binder: &Binder<'_>,

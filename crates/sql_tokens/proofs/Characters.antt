@@ -53,7 +53,7 @@ pair_second b c e = grind (arith, nat_tests)
 pub pair_no_minus : (b c : ℕ) → is_pair b c ≡ true → eqb b 45 ≡ false
 pair_no_minus b c e = grind (arith, nat_tests)
 
--- code that looks for a pair at the end of a text reads 0 there
+-- at the end of a text the code reads 0 as the second character of a pair
 pub pair_zero : (b : ℕ) → is_pair b 0 ≡ false
 pair_zero b = grind (arith, nat_tests)
 

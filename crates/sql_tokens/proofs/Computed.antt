@@ -1,4 +1,4 @@
--- If `Lexing` says that a separator, a token or an offence stands at the front of a text, `piece` computes it.
+-- If a text begins with a separator, a token or an offence, as `Lexing` defines them, `piece` computes it.
 use Rattle.std.proofs.Common.{◌≡◌, ◌≢◌, ℕ, suc, ◌+◌, ◌<◌, ◌≤◌, true, false, ◌&&◌, ◌||◌, eqb, List, [], ◌∷◌, ◌++◌, length, Option, Some, None, refl, sym, ap, ◌∙◌, inl, inr, ⊎_elim, arith, append_assoc, length-append}
 use Rattle.std.proofs.lemmas.Bool.{and_parts, and_left, or_parts, or_cases, eqb-true, ne_eqb, le-ltb, lt-ltb, false≢true}
 use Rattle.std.specs.Prelude.{slice_index}

@@ -1,4 +1,4 @@
--- The token that stands at a place is the longest front that has the form of a token.
+-- The token at the front of a text is the longest prefix that has the form of a token.
 use Rattle.std.proofs.Common.{◌≡◌, ℕ, ◌+◌, ◌≤◌, Bool, true, false, cond, ◌&&◌, eqb, List, [], ◌∷◌, ◌++◌, length, Some, refl, sym, ap, ◌∙◌, subst, arith}
 use Rattle.std.proofs.lemmas.Bool.{and_parts, or_parts, false≢true}
 use Rattle.std.specs.List.{prefix_len, list_all}
@@ -60,7 +60,7 @@ run_longest p token rest longer more same all ends all' =
 tails : (b c : ℕ) (xs ys : List ℕ) → b ∷ xs ≡ c ∷ ys → xs ≡ ys
 tails b c xs ys e = cc
 
--- no further quote stands after the quote that ends `body`, so this quote doesn't stand inside `other`
+-- the quote that ends `body` has no further quote after it. So it isn't half of a doubled quote, and `other` doesn't go past it
 body_longest : (q : ℕ) (body rest other more : List ℕ) → body ++ q ∷ rest ≡ other ++ q ∷ more → are_doubled q body ≡ true → begins_with (λ b. eqb b q) rest ≡ false → are_doubled q other ≡ true → length other ≤ length body
 body_longest q body rest other more same doubled ends doubled' =
     let e : further (length other) (closed q (q ∷ more)) ≡ Some (length body + 1) = sym (closed_front q other (q ∷ more) doubled') ∙ ap (closed q) (sym same) ∙ closes_len q body rest doubled ends in

@@ -56,7 +56,7 @@ told_token at text bytes rest k (Err place) whole form ends told = record {
   here = told.here;
 }
 
--- `walked` is the walk's answer from the place after the first n bytes on, and these bytes are the piece
+-- the first n bytes of `text` are the piece `bytes`, and `walked` is the walk's answer for the bytes after it
 told_on : (at n : ℕ) (text bytes rest : List ℕ) (walked : Walked) → text ≡ bytes ++ rest → n ≡ length bytes → IsTold (at + n) (drop n text) walked → IsTold (at + length bytes) rest walked
 told_on at n text bytes rest walked whole len told =
     let left : drop n text ≡ rest = ap (drop n) whole ∙ drop_at bytes rest n (sym len) in

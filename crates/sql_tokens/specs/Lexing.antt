@@ -10,7 +10,7 @@ use Rattle.sql_tokens.specs.declared.token.LexError.TheVariants as error
 use Rattle.sql_tokens.specs.Words.{slice}
 use Rattle.sql_tokens.specs.Tokens.{is_plain, is_quote, begins_some, begins_with, are_doubled, IsToken, goes_on, IsSeparator}
 
--- separators and the tokens lead from the place `at`, where the rest of the text is `text`, to the place `to`, where the rest of the text is `last`
+-- from byte `at`, where the rest of the text is `text`, separators and the tokens lead to byte `to`, where the rest of the text is `last`
 pub data Leads : ℕ → List ℕ → List Token → ℕ → List ℕ → Type 0 where
   stay : (at : ℕ) (text : List ℕ) → Leads at text [] at text
   over_gap : (at : ℕ) (text bytes rest : List ℕ) (tokens : List Token) (to : ℕ) (last : List ℕ)
@@ -23,7 +23,7 @@ pub data Leads : ℕ → List ℕ → List Token → ℕ → List ℕ → Type 0
 
 -- ---- offences
 
--- after the opening quote stand a body, the closing quote, and then `more`
+-- after the opening quote come a body, the closing quote, and then `more`
 pub record Closes (quote : ℕ) (rest body more : List ℕ) : Type 0 where
   pub whole : rest ≡ body ++ quote ∷ more
   pub doubled : are_doubled quote body ≡ true
@@ -101,7 +101,7 @@ pub record IsBadToken (text : List ℕ) (at : ℕ) : Type 0 where
   pub utf8 : IsUtf8 text
   pub offence : IsOffenceAt (mark_len text) (drop (mark_len text) text) at
 
--- the place where the text goes wrong; bad UTF-8 comes before all else
+-- the byte at which the text goes wrong; bad UTF-8 comes before all else
 abbrev pub IsBad : List ℕ → ℕ → Type 0
 IsBad text at = IsBadUtf8 text at ⊎ IsBadToken text at
 
@@ -110,7 +110,7 @@ abbrev pub IsRefusal : List ℕ → LexError → Type 0
 IsRefusal text (error.Bad at) = IsBad text at
 IsRefusal text error.NoMemory = ⊤
 
--- the tokens stand one after the other between two places, and each token has at least one byte
+-- the tokens follow one another from byte `at` to byte `end`, and each token has at least one byte
 abbrev pub TokensAreInOrder : ℕ → ℕ → List Token → Type 0
 TokensAreInOrder at end [] = at ≤ end
 TokensAreInOrder at end (t ∷ ts) = (at ≤ t.start) × (t.start < t.end) × TokensAreInOrder t.end end ts

@@ -1,4 +1,4 @@
--- The tokens of a text by computation: what stands at the front of a text (a piece), and a walk from piece to piece. The code computes exactly this, and
+-- The tokens of a text by computation: what a text begins with (a piece), and a walk from piece to piece. The code computes exactly this, and
 -- proofs show that the result is what `Lexing` says.
 use Rattle.std.specs.Prelude.{◌≡◌, ℕ, zero, suc, ◌+◌, ◌<◌, ◌≤◌, Bool, ◌&&◌, ◌==◌, nat_lt, if◌then◌else◌, List, [], ◌∷◌, ◌++◌, length, drop, slice_index, Option, Some, None, Result, Ok, Err, ⊤}
 use Rattle.std.specs.List.{prefix_len}
@@ -50,7 +50,7 @@ unfoldable pub symbol : ℕ → List ℕ → Piece
 symbol b rest = if is_pair b (slice_index rest 0) then piece_.Token kind.Symbol 2
     else (if is_sign b then piece_.Token kind.Symbol 1 else piece_.Wrong 0)
 
--- what stands at the front of a text
+-- what a text begins with
 unfoldable pub piece : List ℕ → Piece
 piece [] = piece_.Gap 0
 piece (b ∷ rest) =
@@ -62,7 +62,7 @@ piece (b ∷ rest) =
     else (if (b == 45) && (slice_index rest 0 == 45) then piece_.Gap (prefix_len is_in_line rest + 1)
     else symbol b rest)))))
 
--- a separator or a token has at least one byte, and at most all bytes that there are; an offence stands at one of these bytes
+-- a separator or a token has at least one byte, and at most all bytes that there are; an offence is at one of these bytes
 abbrev pub Fits : Piece → ℕ → Type 0
 Fits (piece_.Gap n) len = (1 ≤ n) × (n ≤ len)
 Fits (piece_.Token k n) len = (1 ≤ n) × (n ≤ len)
@@ -85,7 +85,7 @@ pieces_up_to zero at bytes = Ok []
 pieces_up_to (suc n) at [] = Ok []
 pieces_up_to (suc n) at (b ∷ rest) = step (pieces_up_to n) at (piece (b ∷ rest)) (b ∷ rest)
 
--- the tokens of the bytes, which begin at a place of a text, or the place where they go wrong
+-- the tokens of the bytes, or the byte at which they go wrong. The first of the bytes is byte `at` of the text
 unfoldable pub tokens_at : ℕ → List ℕ → Walked
 tokens_at at bytes = pieces_up_to (length bytes) at bytes
 

@@ -67,7 +67,7 @@ is_symbol (b ∷ []) = is_sign b
 is_symbol (b ∷ c ∷ []) = is_pair b c
 is_symbol (b ∷ c ∷ d ∷ rest) = false
 
--- the quotes among the bytes stand in pairs, one directly after the other
+-- the quotes among the bytes come in pairs, one directly after the other
 abbrev pub are_doubled : ℕ → List ℕ → Bool
 are_doubled quote [] = true
 are_doubled quote (b ∷ []) = not (b == quote)
@@ -103,8 +103,8 @@ abbrev pub sign_goes_on : List ℕ → List ℕ → Bool
 sign_goes_on (b ∷ []) (c ∷ rest) = is_pair b c || ((b == 45) && (c == 45))
 sign_goes_on bytes rest = false
 
--- the token could go on with the bytes after it, so it isn't the whole token: the longest token that fits is taken, and no further quote stands after a
--- closing quote
+-- the token could go on with the bytes after it, so it isn't the whole token: the longest token that fits is taken, and a closing quote has no
+-- further quote directly after it
 abbrev pub goes_on : TokenKind → List ℕ → List ℕ → Bool
 goes_on kind.Word bytes rest = begins_with is_word_byte rest
 goes_on kind.Quoted bytes rest = begins_with (λ b. b == 34) rest

@@ -11,7 +11,7 @@ use Rattle.sql_tokens.specs.declared.token.Token.{Token}
 use Rattle.sql_tokens.specs.declared.token.TokenKind.{TokenKind}
 use Rattle.sql_tokens.specs.declared.token.TokenKind.TheVariants as kind
 
--- the bytes of a text from the place `start` up to the place `end`, without the byte at `end`
+-- the bytes of a text from byte `start` up to byte `end`, without the byte at `end`
 abbrev pub slice : List ℕ → ℕ → ℕ → List ℕ
 slice text start end = slice_range text start end
 
@@ -32,7 +32,7 @@ pub record IsLexemeOf (text : List ℕ) (lexeme : Lexeme) : Type 0 where
 abbrev pub in_upper_case : List ℕ → List ℕ
 in_upper_case bytes = map to_ascii_uppercase bytes
 
--- the words that some rule of the two grammars asks for, each with its terminal
+-- the words that some rule of the two grammars expects, each with its terminal
 abbrev pub grammar_words : List (List ℕ × Terminal)
 grammar_words =
     (codes "AND", terminal.And) ∷ (codes "AS", terminal.As) ∷ (codes "BETWEEN", terminal.Between)
@@ -46,11 +46,11 @@ grammar_words =
     ∷ (codes "SET", terminal.Set) ∷ (codes "SMALLINT", terminal.Smallint) ∷ (codes "TABLE", terminal.Table)
     ∷ (codes "UNIQUE", terminal.Unique) ∷ (codes "UPDATE", terminal.Update) ∷ (codes "VARCHAR", terminal.Varchar)
     ∷ (codes "VARYING", terminal.Varying) ∷ (codes "WHERE", terminal.Where)
-    -- these four are names wherever no rule asks for them
+    -- these four are names wherever no rule expects them
     ∷ (codes "KEY", terminal.Key) ∷ (codes "NO", terminal.No) ∷ (codes "ACTION", terminal.Action)
     ∷ (codes "CASCADE", terminal.Cascade) ∷ []
 
--- further reserved words of SQL-92: no rule asks for them, and they can't be names. Other reserved words, like USER and CURRENT_DATE, are plain names here
+-- further reserved words of SQL-92: no rule expects them, and they can't be names. Other reserved words (USER, CURRENT_DATE, ..) are plain names here
 abbrev pub reserved_words : List (List ℕ)
 reserved_words =
     codes "ALL" ∷ codes "ANY" ∷ codes "ASC" ∷ codes "BY" ∷ codes "CASE" ∷ codes "CAST" ∷ codes "CHECK" ∷ codes "CROSS"
@@ -131,7 +131,7 @@ unquoted quote [] = []
 unquoted quote (b ∷ []) = if b == quote then [] else b ∷ []
 unquoted quote (b ∷ c ∷ rest) = if b == quote then (if c == quote then quote ∷ unquoted quote rest else []) else b ∷ unquoted quote (c ∷ rest)
 
--- the name in a delimited identifier is what stands between its quotes; a word is folded
+-- the name in a delimited identifier is what is between its quotes; a word is folded to upper case
 abbrev pub name_of_bytes : List ℕ → List ℕ
 name_of_bytes [] = []
 name_of_bytes (b ∷ rest) = if b == 34 then unquoted 34 rest else in_upper_case (b ∷ rest)

@@ -10,12 +10,12 @@ pub fn one_reading()
     ensures { (text : List ℕ) (tokens others : List Token) → IsLexed text tokens → IsLexed text others → tokens ≡ others }
 {}
 
-/// A text goes wrong at one place at most.
+/// A text goes wrong at one byte at most.
 pub fn one_offence()
     ensures { (text : List ℕ) (at other : ℕ) → IsBad text at → IsBad text other → at ≡ other }
 {}
 
-/// A text that has tokens goes wrong nowhere.
+/// A text that has tokens goes wrong at no byte.
 pub fn not_both()
     ensures { (text : List ℕ) (tokens : List Token) (at : ℕ) → IsLexed text tokens → IsBad text at → ⊥ }
 {}
@@ -30,12 +30,12 @@ pub fn forms()
     ensures { (text : List ℕ) (tokens : List Token) → IsLexed text tokens → All (HasItsForm text) tokens }
 {}
 
-/// The spans of a text's tokens are in order, and no span is empty.
+/// The spans of a text's tokens follow one another within the text, and no span is empty.
 pub fn spans()
     ensures { (text : List ℕ) (tokens : List Token) → IsLexed text tokens → TokensAreInOrder 0 (length text) tokens }
 {}
 
-/// If a token can't go on with the bytes after it, it is the longest front of the text that has the form of a token.
+/// If a token can't go on with the bytes after it, it is the longest prefix of the text that has the form of a token.
 pub fn longest()
     ensures { (kind other : TokenKind) (token rest longer more : List ℕ) → IsToken kind token → goes_on kind token rest ≡ false
         → token ++ rest ≡ longer ++ more → IsToken other longer → length longer ≤ length token }

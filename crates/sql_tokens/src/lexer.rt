@@ -10,7 +10,7 @@ use crate::{LexError, Token};
 use base_io::Seq;
 use std::alloc::Global;
 
-/// The tokens of the text from `start` on, or the first place where the text goes wrong.
+/// The tokens of the text from byte `start` on, or the first byte at which the text goes wrong.
 #[tactic(auto, using(crate::proofs::Walk::walk_gap, crate::proofs::Walk::walk_token, crate::proofs::Walk::walk_wrong, crate::proofs::Walk::walk_done, crate::proofs::Walk::walk_start))]
 fn tokens_from(alloc: Global, start: u32, text: &[u8]) -> Result<Seq<Token>, LexError>
     requires { start + length text.now ≤ most_text }
@@ -54,7 +54,7 @@ fn mark_len_of(text: &[u8]) -> usize
     }
 }
 
-/// The tokens of a text. A byte order mark at the very start is skipped, and counts for the places.
+/// The tokens of a text. A byte order mark at the very start is skipped, but offsets count its bytes.
 ///
 /// Bytes that aren't UTF-8 are refused before anything else, at the first byte of the first bad
 /// sequence. Otherwise the first offence in text order is refused:

@@ -1,4 +1,4 @@
-//! What stands at the front of a text: a separator, a token or an offence.
+//! What a text begins with: a separator, a token or an offence.
 ghost use Rattle.std.specs.Prelude.{◌≡◌, ◌∷◌, ◌+◌, ◌<◌, ◌≤◌, length, slice_index, IfSome};
 ghost use Rattle.limits.specs.Profile.{most_text};
 ghost use Rattle.sql_tokens.specs.Tokens.{is_blank, is_sign, is_pair};

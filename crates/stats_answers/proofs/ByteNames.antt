@@ -1,4 +1,4 @@
--- The columns of a schema that a text declares have names of bytes, since the text is UTF-8.
+-- In a schema that was read from a text, the names of columns consist of bytes, since the text is UTF-8.
 use Rattle.std.proofs.Common.{◌≡◌, ℕ, zero, suc, ◌-◌, ◌<◌, ◌==◌, if◌then◌else◌, List, [], ◌∷◌, length, map, take, drop, Option, Some, None, Result, Ok, subst, arith}
 use Rattle.std.specs.Prelude.{All}
 use Rattle.std.specs.Char.{to_ascii_uppercase}

@@ -26,7 +26,7 @@ front_ended : (lines more : Lines) → AllEnded (lines ++ more) → AllEnded lin
 front_ended [] more are = tt
 front_ended (x ∷ lines) more (is, are) = (is, front_ended lines more are)
 
--- ---- the line after the lines that were read
+-- ---- the next line, after the lines that were read
 
 with_line : (left line rest : List ℕ) (next : BeginsWithLine left line rest) → left ≡ next.text ++ (10 ∷ rest)
 with_line left line rest next = next.whole ∙ ap (λ (l : List ℕ). l ++ rest) next.ended ∙ append_assoc next.text (10 ∷ []) rest
@@ -39,7 +39,7 @@ one_line left a b rest other x y =
 no_line : (left line rest : List ℕ) → HasNoEnd left → BeginsWithLine left line rest → ⊥
 no_line left line rest none next = not_without 10 next.text rest (subst HasNoEnd (with_line left line rest next) none)
 
--- no statistics file goes on with the next line
+-- the lines begin some statistics file, but with the next line they begin none
 record Stops (schema : Schema) (bytes : List ℕ) (lines : Lines) (left : List ℕ) : Type 0 where
   read : IsReadUpTo schema bytes lines left
   halts : (line rest : List ℕ) → BeginsWithLine left line rest → IsFrontOfFile schema (lines ++ (line ∷ [])) → ⊥
@@ -49,7 +49,7 @@ read_ended schema bytes lines left read =
     let begins = read.begins in
     front_ended lines begins.more (subst AllEnded (sym begins.whole) (lines_ended schema begins.file begins.keeps))
 
--- ---- if a text begins with two lists of lines, one list is the front of the other
+-- ---- if a text begins with two lists of lines, one list is a prefix of the other
 
 record Behind (a b : Lines) (p q : List ℕ) : Type 0 where
   more : Lines

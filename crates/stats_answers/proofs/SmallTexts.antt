@@ -1,4 +1,4 @@
--- The lemmas are about two small texts over the schema of one table.
+-- The lemmas compute the answers of two small texts over a schema with one table.
 use Rattle.std.proofs.Common.{◌≡◌, ◌⊎◌, inl, inr, ℕ, List, [], ◌∷◌, ◌++◌, Result, Ok, Err, refl, sym, arith}
 use Rattle.std.specs.Prelude.{All, codes}
 use Rattle.std.specs.Fmt.{digits}

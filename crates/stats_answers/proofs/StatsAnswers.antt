@@ -1,4 +1,4 @@
--- The contract of `read_stats` allows `stats_answer`, it isn't the answer that memory ran out, and it is the only other answer.
+-- The contract of `read_stats` allows the answer `stats_answer`. It allows one other answer only: that memory ran out.
 use Rattle.std.proofs.Common.{◌≡◌, ◌≢◌, ◌⊎◌, inl, inr, ℕ, List, Result, Ok, Err, refl, sym, subst}
 use Rattle.schema_types.specs.declared.types.Schema.{Schema}
 use Rattle.schema_types.specs.Validity.{IsValid}

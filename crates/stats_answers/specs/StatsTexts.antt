@@ -1,5 +1,5 @@
--- The one answer of the text of a statistics file over a schema. The function goes from line to line. At each line it asks whether a value that may come
--- next is spelled by the words of this line.
+-- The answer of a statistics file's text over a schema, if memory doesn't run out. The function goes from line to line. At each line it asks whether
+-- the words of this line spell a value that may come next.
 use Rattle.std.specs.Prelude.{ℕ, List, Result}
 use Rattle.schema_types.specs.declared.types.Schema.{Schema}
 use Rattle.stats_file.specs.declared.types.StatsError.{StatsError}

@@ -1,4 +1,4 @@
-//! Laws of the answers of texts. These functions do nothing.
+//! Laws of the answers to texts. These functions do nothing.
 ghost use Rattle.std.specs.Prelude.{◌≡◌, ◌≢◌, ◌⊎◌, ℕ, List, Result, Ok, Err};
 ghost use Rattle.schema_types.specs.declared.types.Schema.{Schema};
 ghost use Rattle.schema_types.specs.Texts.{IsSchemaOf};
@@ -13,7 +13,7 @@ ghost use Rattle.stats_reading.specs.Names.{HasByteColumns};
 ghost use Rattle.stats_answers.specs.StatsTexts.{stats_answer};
 
 /// Over a valid schema whose columns have names of bytes, a text has one answer, `stats_answer`, apart from the answer that memory ran out. If the
-/// answer is a statistics file, this file keeps the rules and has this text. If a file keeps the rules, the answer of its text is this file.
+/// answer is a statistics file, this file keeps the rules and has this text. If a file keeps the rules, the answer to its text is this file.
 pub fn stats_texts()
     ensures allowed { (schema : Schema) (text : List ℕ) → IsValid schema → Answers schema text (stats_answer schema text) }
     ensures only { (schema : Schema) (text : List ℕ) (answer : Result StatsFile StatsError)
@@ -26,7 +26,7 @@ pub fn stats_texts()
         → stats_answer schema (file_text schema file) ≡ Ok file }
 {}
 
-/// The columns of a schema that a text declares have names of bytes.
+/// In a schema that was read from a text, the names of columns consist of bytes.
 pub fn schemas_have_byte_columns()
     ensures { (text : List ℕ) (schema : Schema) → IsSchemaOf text (Ok schema) → HasByteColumns schema }
 {}

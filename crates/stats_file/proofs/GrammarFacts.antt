@@ -1,4 +1,4 @@
--- The text of a file that keeps the rules is a text of the grammar.
+-- If a statistics file keeps the rules, its text is a text of the grammar.
 use Rattle.std.proofs.Common.{◌≡◌, ℕ, zero, suc, ◌<◌, ◌≤◌, inl, inr, List, [], ◌∷◌, ◌++◌, length, get_or, map, refl, ap, sym, subst, Some, arith}
 use Rattle.std.specs.Prelude.{All, codes, decimal}
 use Rattle.std.specs.List.{AllByRecursion, flat_map}

@@ -1,4 +1,4 @@
--- The rules say that the columns of a pair, which are given by their places, exist.
+-- A pair gives its columns by their positions in the table. By the rules, the table has these columns.
 use Rattle.std.proofs.Common.{◌≡◌, Some, Option, get_or, subst}
 use Rattle.std.specs.Prelude.{All, slice_get}
 use Rattle.std.proofs.lemmas.Option.{slice_get_within}

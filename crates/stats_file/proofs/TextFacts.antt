@@ -1,4 +1,4 @@
--- The code writes the text of a file part by part.
+-- The code writes the text of a file part by part. The parts, one after another, are the text that `file_text` gives.
 use Rattle.std.proofs.Common.{◌≡◌, ℕ, List, [], ◌∷◌, ◌++◌, map, refl, ap, sym, ◌∙◌, append_assoc, Some}
 use Rattle.std.specs.Prelude.{codes, slice_get}
 use Rattle.std.specs.List.{concat, flat_map}
@@ -23,7 +23,7 @@ concat-each : {X : Type 0} (f : X → List (List ℕ)) (xs : List X) → concat 
 concat-each f [] = refl
 concat-each f (x ∷ xs) = concat-append (f x) (flat_map f xs) ∙ ap (λ rest. concat (f x) ++ rest) (concat-each f xs)
 
--- the text of a pair ends with its cuts and nodes, after the line `rest`
+-- the cuts and nodes of a pair, with which the pair's text ends
 abbrev pub tree_part : Pair → List ℕ
 tree_part pair = flat_map cut_line pair.cuts ++ flat_map histogram_node_line pair.nodes
 

@@ -31,24 +31,24 @@ pub record BeginsWithLine (left line rest : List ℕ) : Type 0 where
   pub ended : line ≡ text ++ (10 ∷ [])
   pub whole : left ≡ line ++ rest
 
--- the bytes are lines with which the text of some file begins, and after them the bytes `left`
+-- the bytes are the lines and, after them, the bytes `left`; the text of some file begins with these lines
 pub record IsReadUpTo (schema : Schema) (bytes : List ℕ) (lines : List (List ℕ)) (left : List ℕ) : Type 0 where
   pub whole : bytes ≡ concat lines ++ left
   pub begins : IsFrontOfFile schema lines
 
--- no text of the grammar has the next line after these lines
+-- no text of the grammar begins with these lines and the next line
 pub record LeavesGrammar (lines : List (List ℕ)) (left : List ℕ) : Type 0 where
   pub line : List ℕ
   pub rest : List ℕ
   pub next : BeginsWithLine left line rest
   pub fails : IsFrontOfText (lines ++ (line ∷ [])) → ⊥
 
--- no further line ends in the bytes `left`, and it isn't so that the lines are a file's whole text and no bytes are left
+-- the bytes `left` have no line end, and the text isn't complete: some bytes are left, or the lines aren't the whole text of a file
 pub record EndsTooEarly (schema : Schema) (lines : List (List ℕ)) (left : List ℕ) : Type 0 where
   pub no_line : HasNoEnd left
   pub fails : (file : StatsFile) → KeepsRules schema file → lines ≡ file_lines schema file → left ≡ [] → ⊥
 
--- the number of the first line after which no text of the grammar goes on. If the text ends too early, it is the number of the line after its last line
+-- the number, from 1, of the first line that no text of the grammar has there. If the text ends too early, that line is missing or has no line end
 pub record IsSyntaxLine (schema : Schema) (bytes : List ℕ) (line : ℕ) : Type 0 where
   pub lines : List (List ℕ)
   pub left : List ℕ
@@ -56,7 +56,7 @@ pub record IsSyntaxLine (schema : Schema) (bytes : List ℕ) (line : ℕ) : Type
   pub here : line ≡ length lines + 1
   pub wrong : LeavesGrammar lines left ⊎ EndsTooEarly schema lines left
 
--- the number of the first line after which no file's text goes on, although a text of the grammar does
+-- the number, from 1, of the first line that no file's text has after the lines before it, although a text of the grammar has it there
 pub record IsRuleLine (schema : Schema) (bytes : List ℕ) (line : ℕ) : Type 0 where
   pub lines : List (List ℕ)
   pub left : List ℕ

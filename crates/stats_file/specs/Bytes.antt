@@ -1,4 +1,4 @@
--- Names and texts consist of bytes. This is so for every schema and file that a program holds.
+-- Names and texts consist of bytes. This is so for every schema and file that a program has in memory.
 use Rattle.std.specs.Prelude.{ℕ, ◌<◌, ⊤, List, All}
 use Rattle.std.specs.List.{AllByRecursion}
 use Rattle.schema_types.specs.declared.types.Column.{Column}

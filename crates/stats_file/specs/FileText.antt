@@ -15,7 +15,7 @@ abbrev pub column_name : Option Column → List ℕ
 column_name None = []
 column_name (Some column) = column.name
 
--- the name of the column at this place of the table
+-- the name of the table's column at this position
 abbrev pub name_at : Table → ℕ → List ℕ
 name_at table place = column_name (slice_get table.columns place)
 

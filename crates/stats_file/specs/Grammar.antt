@@ -5,7 +5,7 @@ use Rattle.std.specs.List.{AllByRecursion, flat_map, list_all}
 
 -- ---- words
 
--- decimal digits, at least one, and no zero in front of other digits
+-- decimal digits, at least one, without leading zeros
 abbrev pub is_numeral : List ℕ → Bool
 is_numeral [] = false
 is_numeral (digit ∷ digits) = is_ascii_digit digit && list_all is_ascii_digit digits && (nat_lt 48 digit || length digits == 0)
@@ -33,7 +33,7 @@ IsHexWord word = (pairs : List ℕ) × (word ≡ 120 ∷ pairs) × (are_hex_pair
 abbrev pub IsValueWord : List ℕ → Type 0
 IsValueWord word = IsSignedNumeral word ⊎ IsHexWord word
 
--- N*N: a value, a star, and how often the value stands
+-- N*N: a value, a star, and how often the value comes in a row
 pub record IsRunWord (word : List ℕ) : Type 0 where
   pub value : List ℕ
   pub count : List ℕ

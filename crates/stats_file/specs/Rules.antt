@@ -33,7 +33,7 @@ IsOfKind kind.Int (datum.Text bytes) = ⊥
 IsOfKind (kind.Text most) (datum.Int number) = ⊥
 IsOfKind (kind.Text most) (datum.Text bytes) = IsUtf8 bytes
 
--- a list of degrees: positive numbers that don't rise, with a sum of at most `rows`
+-- a list of degrees: positive numbers in descending order (equal neighbours are allowed), with a sum of at most `rows`
 pub record IsList (rows : ℕ) (list : List ℕ) : Type 0 where
   pub falls : IsFalling list
   pub positive : All (λ x. 0 < x) list
@@ -46,7 +46,7 @@ pub record AreFrequent (kind : Kind) (rows : ℕ) (frequent : List (Datum × Lis
   pub values : All (λ (f : Datum × List ℕ). IsOfKind kind f.0) frequent
   pub lists : All (λ (f : Datum × List ℕ). IsList rows f.1) frequent
 
--- a histogram with 32 leaves: a value of the column's kind for each leaf, where no value is above the next, and a list for each of the 63 nodes
+-- a histogram with 32 leaves: for each leaf a value of the column's kind, each at most the next one, and a list for each of the 63 nodes
 pub record IsHistogram (kind : Kind) (rows : ℕ) (cuts : List Datum) (nodes : List (List ℕ)) : Type 0 where
   pub leaves : length cuts ≡ 32
   pub values : All (IsOfKind kind) cuts
@@ -75,7 +75,7 @@ pub record IsPair (table : Table) (rows : ℕ) (pair : Pair) : Type 0 where
 abbrev pub StandsBefore : Pair → Pair → Type 0
 StandsBefore a b = (a.filter < b.filter) ⊎ ((a.filter ≡ b.filter) × (a.joined < b.joined))
 
--- two pairs count the same rows of their filter column: frequent values and cuts are the same, and lists at equal places have equal sums
+-- two pairs count the same rows of their filter column: frequent values and cuts are the same, and lists at the same index have the same sum
 pub record HaveSameFilterCounts (a b : Pair) : Type 0 where
   pub values : map (λ (f : Datum × List ℕ). f.0) a.frequent ≡ map (λ (f : Datum × List ℕ). f.0) b.frequent
   pub totals : map (λ (f : Datum × List ℕ). sum f.1) a.frequent ≡ map (λ (f : Datum × List ℕ). sum f.1) b.frequent
@@ -88,7 +88,7 @@ pub record Agree (a b : Pair) : Type 0 where
   pub joined : a.joined ≡ b.joined → a.whole ≡ b.whole
   pub filter : a.filter ≡ b.filter → HaveSameFilterCounts a b
 
--- the section of a table of the schema: its number of rows, and pairs in order, any two of which agree
+-- the section of a table of the schema: its number of rows, and pairs ascending by their columns (`StandsBefore`), any two of which agree
 pub record IsSection (schema : Schema) (section : TableStats) : Type 0 where
   pub table : Table
   pub table_is : slice_get schema.tables section.table ≡ Some table

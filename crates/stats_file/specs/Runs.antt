@@ -10,7 +10,7 @@ abbrev pub in_front : ℕ → List Piece → List Piece
 in_front x [] = run_of x 1 ∷ []
 in_front x (run ∷ runs) = if x == run.value then run_of x (run.count + 1) ∷ runs else run_of x 1 ∷ (run ∷ runs)
 
--- the runs of equal neighbours, each as its value and how often this value stands there
+-- the runs of equal neighbours, each as a value and how often it comes in a row
 unfoldable pub runs_of : List ℕ → List Piece
 runs_of [] = []
 runs_of (x ∷ list) = in_front x (runs_of list)

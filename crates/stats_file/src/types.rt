@@ -10,8 +10,8 @@ pub enum Datum {
 }
 
 /// The conditional statistics of a joined column by the values of a filter column (SafeBound, sections 3.3 and 3.4): the degree list of all rows, the
-/// list of each frequent value, one list for all other values, and the lists of a binary tree over ranges of values. The cuts are the values at which
-/// the tree's leaves begin. Columns are given by their places in the table.
+/// list of each frequent value, one list for all other values, and the lists of a binary tree over ranges of values (a histogram). The cuts are the
+/// values at which the tree's leaves begin. Columns are given by their positions in the table, from 0.
 #[derive(Debug, Drop)]
 pub struct Pair {
     pub filter: u32,
@@ -23,7 +23,7 @@ pub struct Pair {
     pub nodes: Seq<Pieces>,
 }
 
-/// The statistics of a table, which is given by its place in the schema, with its number of rows.
+/// The statistics of a table: its number of rows, and its pairs. `table` is its position in the schema, from 0.
 #[derive(Debug, Drop)]
 pub struct TableStats {
     pub table: u32,

@@ -177,7 +177,7 @@ fn put_names<N: Sink>(
     put_pair_line(filter.name.as_str(), joined.name.as_str(), buffer, sink)
 }
 
-// Writes the lines of the ranges of values: cuts and nodes.
+// Writes the lines of a histogram: its cuts and nodes.
 fn put_tree<N: Sink>(pair: &Pair, buffer: &mut Buffer, sink: &mut N) -> Result<(), Failed>
     ensures { Put (growth N.taken N.faults sink.old sink.new) buffer.old buffer.new
         (flat_map cut_line pair.now.cuts ++ flat_map (λ node. list_line (codes "node") (runs_of node)) pair.now.nodes) result }

@@ -1,4 +1,5 @@
--- For each entry the code makes the statistics that the file gives. If the file lacks something, the code finds the first entry for which it does.
+-- For each entry the code makes the statistics that the file gives. If the file lacks something, the code finds the first entry that
+-- needs it.
 use Rattle.std.proofs.Common.{◌≡◌, ℕ, ◌<◌, true, false, List, map, length, get_or, Option, None, Some, refl, ap, sym, ◌∙◌, subst, arith}
 use Rattle.std.specs.Prelude.{unwrap_or, IfSome}
 use Rattle.std.specs.Bool.{IsTrue}

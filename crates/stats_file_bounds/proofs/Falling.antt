@@ -1,4 +1,4 @@
--- The lists of a file fall: no element is above the element before it.
+-- The lists of a file are in descending order: no element is above the element before it.
 use Rattle.std.proofs.Common.{◌≡◌, ℕ, zero, suc, ◌<◌, ◌≤◌, Bool, eqb, List, [], ◌∷◌, length, get_or, refl, subst, inl, inr, arith}
 use Rattle.std.specs.Prelude.{find, unwrap_or}
 use Rattle.std.proofs.Common.{Option, option_map}

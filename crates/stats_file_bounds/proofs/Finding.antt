@@ -1,4 +1,4 @@
--- `find` looks for an element of a list. A property of all elements is one of the element that it finds.
+-- `find` looks for an element of a list. If all elements have a property, the element that it finds has it.
 use Rattle.std.proofs.Common.{◌≡◌, ℕ, zero, suc, ◌+◌, ◌<◌, ◌≤◌, Bool, false, List, [], ◌∷◌, None, Some, ap, sym, ◌∙◌, subst, inl, inr, arith}
 use Rattle.std.specs.Prelude.{find, unwrap_or}
 use Rattle.std.specs.List.{All, AllByRecursion, range_with_len}

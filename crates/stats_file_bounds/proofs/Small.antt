@@ -1,4 +1,4 @@
--- No list of a file has more rows than a table may have.
+-- No list of a file counts more rows than a table may have.
 use Rattle.std.proofs.Common.{ℕ, zero, suc, ◌≤◌, ◌^◌, eqb, leb, List, [], ◌∷◌, length, get_or, sum, option_map, refl, ap, inl, inr, arith}
 use Rattle.std.specs.Prelude.{find, unwrap_or}
 use Rattle.std.specs.Bool.{IsTrue}

@@ -24,7 +24,7 @@ use Rattle.stats_file_bounds.specs.Entries.{IsFromStatsFile}
 use Rattle.stats_file_bounds.specs.FileStatistics.{stats_file_counts, stats_file_lists, of_one_key, joined_column_for, whole_by, whole_list}
 use Rattle.stats_file_bounds.specs.Found.{are_columns, has_pair, no_pair, pair_for, pair_in}
 
--- ---- the place of the element that `find` finds
+-- ---- the position of the element that `find` finds
 
 pub found_at : {X : Type 0} (p : X → Bool) (xs : List X) (x : X) → find p xs ≡ Some x → (i : ℕ) × (i < length xs) × ((d : X) → get_or xs i d ≡ x) × (p x ≡ true)
 found_at p [] x e = absurd (cc)
@@ -34,7 +34,7 @@ found_at p (y ∷ xs) x e = elim (cases_Bool (p y)) [
       let at = found_at p xs x rest in (suc at.0, omega (arith, at.1), at.2, at.3))
 ]
 
--- ---- pairs that count as many rows as each other
+-- ---- pairs whose lists have equal sums
 
 pub record HaveSums (a b : Pair) : Type 0 where
   pub value : (value : Value) → sum (list_of_value a value) ≡ sum (list_of_value b value)
@@ -119,7 +119,7 @@ module _ (section : TableStats) (from_stats_file : IsFromStatsFile section) wher
 
 -- ---- needed pairs
 
--- a column in the list of joined columns is joined; `IsJoined` also allows any column if the entry joins no column
+-- the column is in the list of joined columns, or the entry joins no column
 unfoldable pub IsJoined : Needs → ℕ → Type 0
 IsJoined needs joined = (needs.joined ≡ []) ⊎ Contains needs.joined joined
 

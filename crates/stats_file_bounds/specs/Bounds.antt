@@ -9,6 +9,6 @@ use Rattle.stats_file.specs.declared.types.StatsFile.{StatsFile}
 abbrev pub scan_bounds_of_file : Query → StatsFile → List ℕ
 scan_bounds_of_file query file = scan_bounds query (stats_file_statistics query file)
 
--- the bound of each set of entries, at the number whose bits are the set
+-- the bound of each set of entries, at the index whose bits are the set
 abbrev pub set_bounds_of_file : Query → StatsFile → List ℕ
 set_bounds_of_file query file = set_bounds query (stats_file_statistics query file)

@@ -30,7 +30,7 @@ pub record IsFromStatsFile (section : TableStats) : Type 0 where
   pub schema : Schema
   pub is : IsSection schema section
 
--- the column that a step compares with literals is a filter column
+-- the column that a step compares with literals, if it does, is a filter column. A step is an operation over a stack of answers (predicate_bounds)
 abbrev pub AsksAmong : Needs → Step → Type 0
 AsksAmong needs step = IfSome (column_asked step) (λ column. IsTrue (is_filter needs column))
 
@@ -38,7 +38,7 @@ AsksAmong needs step = IfSome (column_asked step) (λ column. IsTrue (is_filter 
 abbrev pub AreStepsFromStatsFile : TableStats → Needs → List Step → ColumnSteps → Type 0
 AreStepsFromStatsFile section needs steps gathered = gathered.steps ≡ map (listed (stats_file_lists section needs gathered.column)) steps
 
--- an entry has the steps of its own conjuncts for each column that is asked for
+-- an entry has the steps of its own conjuncts for each of its `asked_columns`
 pub record EntryIsTold (query : Query) (file : StatsFile) (entry : ℕ) (stats : EntryStats) : Type 0 where
   pub columns : map (λ gathered. gathered.column) stats.columns ≡ asked_columns entry (equalities_of query)
   pub steps : All (AreStepsFromStatsFile (section_for query file entry) (needs_of query entry) (steps_of entry query.conjuncts)) stats.columns

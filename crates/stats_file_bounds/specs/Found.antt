@@ -1,4 +1,4 @@
--- Which of the sections and pairs that a query needs a file of statistics has.
+-- Whether a file of statistics has the sections and pairs that a query needs.
 use Rattle.std.specs.Prelude.{ℕ, ◌==◌, ◌&&◌, not, Bool, false, List, [], Option, None, Some, find, is_some, length, unwrap_or}
 use Rattle.std.specs.List.{list_all, range_with_len}
 use Rattle.query_types.specs.declared.types.Query.{Query}

@@ -16,16 +16,16 @@ ghost use Rattle.stats_file_bounds.specs.Entries.{IsFile};
 ghost use Rattle.stats_file_bounds.specs.FileStatistics.{stats_file_statistics};
 ghost use Rattle.stats_file_bounds.specs.Found.{first_missing};
 
-/// Never under: let a file stand for tables and have all that a query needs. Then the statistics that the file gives for the query stand for these
-/// tables, with any keys that tell the values of each column. So no bound that is made from these statistics is too low for these tables.
+/// Let a file stand for tables and have all that a query needs. Then the statistics that the file gives for the query stand for these tables, with
+/// any keys that are equal exactly if the values are (`TellsValues`). So no bound that is made from these statistics is too low for these tables.
 pub fn files_are_never_under()
     ensures { (query : Query) (file : StatsFile) (tables : Tables) (key : Keys) → NamesItsEntries query → IsFile file → StandsFor query file tables
         → first_missing query file ≡ None → ((entry column : ℕ) → TellsValues tables entry column (key entry column))
         → StandFor query (stats_file_statistics query file) tables key }
 {}
 
-/// Never under: for all tables for which a file stands, no scan of the query has more rows than its bound, and no level over the entries of a
-/// set has more rows than the bound of the set. Each scan's bound is at most the number of rows of its table, and no table has more than
+/// For all tables for which a file stands, no scan of the query has more rows than its bound, and no level over the entries of a set has more
+/// rows than the bound of the set. Each scan's bound is at most the number of rows of its table, and no table has more than
 /// 4,000,000 rows. So the bounds of a plan from the file hold for these tables, whatever the plan's shape.
 pub fn bounds_from_files_are_never_under()
     ensures sets { (query : Query) (file : StatsFile) (tables : Tables) → NamesItsEntries query → IsFile file → first_missing query file ≡ None

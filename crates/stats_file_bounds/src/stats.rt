@@ -20,7 +20,7 @@ use stats_file::StatsFile;
 use stats_file_of_query::needs_of;
 use std::alloc::Global;
 
-// The place in the schema of an entry's table.
+// The position of an entry's table in the schema.
 fn table_of(query: &Query, entry: u8) -> u32
     requires { entry < length query.now.from }
     ensures { result ≡ table_of query.now entry }
@@ -59,7 +59,7 @@ fn entry_stats(
     Ok(stats)
 }
 
-/// The statistics that the bounds of a query ask for, from a file that keeps the rules (SafeBound, SIGMOD 2023). `parts` has the parts that `split`
+/// The statistics that the bounds of a query need, from a file that keeps the rules (SafeBound, SIGMOD 2023). `parts` has the parts that `split`
 /// makes of the query. No table is read, and the time grows with the length of the file and the length of the query.
 ///
 /// `Missing` comes exactly if an entry needs a section or a pair that the file doesn't have, and names the first such entry. `NoMemory` comes if

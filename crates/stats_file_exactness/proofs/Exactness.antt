@@ -56,9 +56,9 @@ use Rattle.stats_file_exactness.proofs.Members.{any_passes}
 use Rattle.stats_file_exactness.proofs.Sections as sections
 use Rattle.stats_file_exactness.proofs.Sections.{IsSectionOf, all_there, found_is, section_there}
 
--- ---- a file that knows the tables
+-- ---- a file that has what the tables' statistics have
 
--- a pair is the statistics of a filter column for a joined column. If the file has a pair of two columns, it is the pair that the table has
+-- a pair has the statistics of a filter column for a joined column. Each pair of the file is the pair that is made from the table's rows
 pub record KnowsTables (query : Query) (file : StatsFile) (tables : Tables) (accuracy : ℕ) : Type 0 where
   pub is_file : IsFile file
   pub names : NamesItsEntries query

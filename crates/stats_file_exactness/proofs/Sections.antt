@@ -86,7 +86,7 @@ module _ (schema : Schema) (query : Query) (db : Database) (over : IsOverSchema 
 
   -- ---- the section
 
-  -- entries that have a table together share its section, which is made from the first of them
+  -- entries of the same table share its section, which is made from the first of them
   pub record IsSectionOf (entry : ℕ) (section : TableStats) : Type 0 where
     pub first : ℕ
     pub low : first < length query.from

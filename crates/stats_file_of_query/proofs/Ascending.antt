@@ -1,4 +1,4 @@
--- The cells of a column are put in order, and so are the values at which leaves begin.
+-- The cells of a column are sorted, and the values at which leaves begin ascend.
 use Rattle.std.proofs.Common.{◌≡◌, ◌≢◌, ◌⊎◌, ℕ, zero, suc, ◌+◌, ◌*◌, ◌/◌, ◌<◌, ◌≤◌, Bool, true, false, eqb, List, [], ◌∷◌, length, map, get_or, refl, ap, sym, ◌∙◌, subst, inl, inr, arith}
 use Rattle.std.specs.List.{All, AllByRecursion, AllPairs, range_with_len}
 use Rattle.std.specs.Ordering.{is_eq, is_ge, is_le, ordering_reverse}
@@ -41,7 +41,7 @@ eq_le Greater h = absurd (false≢true h)
 pub le_itself : (a : Value) → value_le a a ≡ true
 le_itself a = eq_le (value_cmp a a) (equal_itself a)
 
--- ---- a list in order
+-- ---- a sorted list
 
 module _ (value : ℕ → Value) where
   abbrev at_most : ℕ → ℕ → Bool

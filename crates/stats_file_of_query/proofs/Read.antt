@@ -1,4 +1,4 @@
--- The texts in the pool of a database are UTF-8 and different. So from a database that was read for a query, a file can be made (`IsOverSchema`).
+-- The texts in the pool of a database are UTF-8 and different. So a file can be made from a database that was read for a query (`IsOverSchema`).
 use Rattle.std.specs.Prelude.{All}
 use Rattle.std.specs.Str.{IsUtf8}
 use Rattle.csv_tables.specs.Pools.{TextsAreDifferent}

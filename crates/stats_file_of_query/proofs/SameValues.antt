@@ -60,7 +60,7 @@ module _ (texts : List (List ℕ)) (differ : HaveDifferentCharacters texts) (kin
   abbrev keys : List Value
   keys = cell_values texts differ other joined are_joined
 
-  -- the first row that has the value of a cell stands for this value
+  -- the number of a cell's value: the first row that has this value
   abbrev row_of : ℕ → ℕ
   row_of = number_of texts differ kind filter are_filter
 
@@ -102,7 +102,7 @@ module _ (texts : List (List ℕ)) (differ : HaveDifferentCharacters texts) (kin
   second_of_cells : joined_keys cells ≡ joined
   second_of_cells = (columns_are filter joined high).1
 
-  -- ---- the value of a cell is the value of its first row
+  -- ---- the value of a cell is the value in the first row that has it
 
   abbrev of_cell : ℕ → Value
   of_cell cell = value_of_cell texts kind cell

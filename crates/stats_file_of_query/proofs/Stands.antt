@@ -48,7 +48,7 @@ pub back : (v : Value) → value_of (datum_of v) ≡ v
 back (values.Int number) = refl
 back (values.Text text) = refl
 
--- ---- the last place that passes a test, where one test is on places and the other on the elements there
+-- ---- the last position that passes a test: `q` tests positions, and `p` the elements at them
 
 later : (q p : ℕ → Bool) (x : ℕ) (xs : List ℕ) (first : ℕ) → ((i : ℕ) → i < length (x ∷ xs) → q (first + i) ≡ p (get_or (x ∷ xs) i 0))
     → (i : ℕ) → i < length xs → q ((first + 1) + i) ≡ p (get_or xs i 0)
@@ -207,7 +207,7 @@ module _ (tables : Tables) (accuracy entry filter_column joined : ℕ) where
       ∙ ap (λ (numbers : List ℕ). map (number_at tables entry joined) (filter (λ row. passes numbers (number_at tables entry filter_column row)) rows)) firsts)
       (compressed_dominates accuracy (keys_where (passes (filter_values pairs)) pairs))
 
-  -- ---- any keys that tell the values of the joined column
+  -- ---- any keys that are equal exactly if the values of the joined column are
 
   module _ (key : ℕ → ℕ) (tells : TellsValues tables entry joined key) where
     same_key : (row other : ℕ) → row < row_counts tables entry → other < row_counts tables entry

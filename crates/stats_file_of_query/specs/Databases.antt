@@ -22,7 +22,7 @@ pub record IsReadOver (schema : Schema) (query : Query) (db : Database) : Type 0
   pub database : IsDatabaseOf query db
   pub cells : (entry : ℕ) → entry < length query.from → AreCellsOf (table_at schema (table_of query entry)) db.pool (cells_of db entry)
 
--- also the texts are UTF-8, and no two texts have the same characters. This is so for every pool
+-- moreover, the pool's texts are UTF-8, and no two texts have the same characters. Every pool has these two properties
 pub record IsOverSchema (schema : Schema) (query : Query) (db : Database) : Type 0 where
   pub of : IsReadOver schema query db
   pub texts : All IsUtf8 db.pool

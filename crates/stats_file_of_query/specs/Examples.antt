@@ -24,7 +24,7 @@ schema_of_pair = record { tables = numbers_of (codes "R") ∷ numbers_of (codes 
 abbrev pub schema_of_one : Schema
 schema_of_one = record { tables = numbers_of (codes "K") ∷ [] }
 
--- every entry has these numbers as rows
+-- every entry has these rows, each of one number
 abbrev pub rows_of : List ℕ → Tables
 rows_of column entry = map (λ n. Int (pos n) ∷ []) column
 

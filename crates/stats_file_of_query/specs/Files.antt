@@ -22,7 +22,7 @@ joined_with needed count column = filter (λ joined. list_any (is_pair column jo
 abbrev pub for_each_pair : {A : Type 0} → (ℕ → ℕ → A) → List ColumnPair → ℕ → List A
 for_each_pair make needed count = flat_map (λ column. map (make column) (joined_with needed count column)) (range_with_len 0 count)
 
--- how many columns a table of the schema has
+-- the default where the schema lacks a table: it has no columns
 abbrev pub no_table : Table
 no_table = record { name = []; columns = []; keys = []; references = [] }
 

@@ -25,7 +25,7 @@ pairs_of needs = pairs_between needs.filters needs.joined
 abbrev pub needed : Query → ℕ → List ColumnPair
 needed query entry = pairs_of (needs_of query entry)
 
--- the place in the schema of an entry's table
+-- the position of an entry's table in the schema, from 0
 abbrev pub table_of : Query → ℕ → ℕ
 table_of query entry = slice_index (map (λ source. source.table) query.from) entry
 

@@ -17,12 +17,12 @@ use Rattle.stats_file.specs.declared.types.Pair.{Pair}
 use Rattle.table_stats.specs.Columns.{column_values, paired, row_le, value_of_row}
 use Rattle.stats_file_of_query.specs.Data.{datum_of}
 
--- a frequent value, by the number that stands for it, and its list
+-- a frequent value and its list. Values are coded by numbers, and `value_of` decodes them
 abbrev pub frequent_in : (ℕ → Datum) → FrequentList → Datum × List ℕ
 frequent_in value_of frequent = (value_of frequent.cell, frequent.list)
 
--- the statistics of rows, each with a filter value and a joined key, at an accuracy. Filter values are given by numbers; `at_most` is the order of these
--- numbers, and `value_of` gives the value of a number. `filter` and `joined` are the places of the two columns in their table
+-- the statistics of rows, each with a filter value and a joined key, at an accuracy. Filter values are coded by numbers; `at_most` is the order of
+-- these numbers, and `value_of` gives the value of a number. `filter` and `joined` are the positions of the two columns in their table
 abbrev pub pair_of : (ℕ → ℕ → Bool) → (ℕ → Datum) → ℕ → List (ℕ × ℕ) → ℕ → ℕ → Pair
 pair_of at_most value_of accuracy rows filter joined = record {
   filter = filter;

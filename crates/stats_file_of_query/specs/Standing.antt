@@ -67,8 +67,8 @@ pub record PairStandsFor (pair : Pair) (tables : Tables) (entry : ℕ) (key : �
   pub node : (size leaf : ℕ) → IsNodeSize size → leaf < 32
       → DominatesKeys (list_of_node pair size leaf) (map key (rows_where tables entry (is_in_node pair tables entry size leaf)))
 
--- the section has the number of rows of an entry's table, and each pair of the section stands for these rows, with any keys that tell the values of the
--- pair's joined column
+-- the section has the number of rows of an entry's table, and each pair of the section stands for these rows, with any keys that are equal exactly if
+-- the values of the pair's joined column are
 pub record SectionStandsFor (section : TableStats) (tables : Tables) (entry : ℕ) : Type 0 where
   pub rows : section.rows ≡ row_counts tables entry
   pub pairs : All (λ (pair : Pair). (key : ℕ → ℕ) → TellsValues tables entry pair.joined key → PairStandsFor pair tables entry key) section.pairs

@@ -2,7 +2,7 @@
 ghost use Rattle.std.specs.Prelude.{◌≡◌};
 ghost use Rattle.stats_file_of_query.specs.ColumnPairs.{is_pair};
 
-/// A filter column and a joined column of a table, by their places in the table.
+/// A filter column and a joined column of a table, by their positions in the table.
 #[derive(Clone, Copy, Debug, PartialEq, Eq)]
 pub struct ColumnPair {
     pub filter: u32,

@@ -24,7 +24,7 @@ pub fn small_needs()
 {}
 
 /// The pair of X with itself, where X has the values 1, 1, 1, 2, 2, 3: the lists of all rows, of the frequent values and of the rest; the leaf of 2;
-/// and the lists for a value, for a value that is nowhere, and for a range.
+/// and the lists for a value, for a value that no row has, and for a range.
 pub fn small_files()
     ensures whole { (pair_in_table (rows_of (1 ∷ 1 ∷ 1 ∷ 2 ∷ 2 ∷ 3 ∷ [])) 1 0 0 0).whole ≡ 3 ∷ 3 ∷ [] }
     ensures frequent { (pair_in_table (rows_of (1 ∷ 1 ∷ 1 ∷ 2 ∷ 2 ∷ 3 ∷ [])) 1 0 0 0).frequent

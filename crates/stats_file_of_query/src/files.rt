@@ -54,7 +54,7 @@ fn sections_of(
     Ok(sections)
 }
 
-/// The statistics that the bounds of a query need, of all its tables, at an accuracy of compression (SafeBound, SIGMOD 2023). Each table that the
+/// The statistics of a query's tables that its bounds need, compressed at an accuracy (SafeBound, SIGMOD 2023). Each table that the
 /// query names has a section, in the schema's order. The section has the number of rows, and all lists of each pair of columns that an entry of this
 /// table needs. If memory runs out, nothing is kept.
 pub fn stats_of(
@@ -66,7 +66,7 @@ pub fn stats_of(
 ) -> Result<StatsFile, NoMemory>
     requires over { IsReadOver schema.now query.now db.now }
     ensures file { IfOk result (λ file. file ≡ file_of_query schema.now query.now (tables_of db.now) accuracy) }
-    // the file may be written
+    // the file keeps the rules, so `write_stats` takes it
     ensures rules { IfOk result (KeepsRules schema.now) }
     // no bound that is made from the file is too low
     ensures stands { IfOk result (λ file. StandsFor query.now file (tables_of db.now)) }

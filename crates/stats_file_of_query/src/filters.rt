@@ -30,7 +30,7 @@ fn add(columns: &mut Seq<u32>, column: Option<u32>) -> Result<(), NoMemory>
     columns.push(column)
 }
 
-/// The columns that steps compare with literals, each once, in the order in which they come first.
+/// The columns that steps compare with literals, each once, in the order of the first steps that name them.
 pub(crate) fn filters_of(alloc: Global, steps: &[Step]) -> Result<Seq<u32>, NoMemory>
     ensures { IfOk result (λ columns. columns ≡ different (filter_map column_asked steps.now)) }
 {

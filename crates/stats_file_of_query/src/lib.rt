@@ -1,5 +1,5 @@
-//! Of which pairs of a filter column and a joined column a query needs statistics, and the file of these statistics. For each table of the query the
-//! file has the number of rows, and for each needed pair all lists.
+//! Says for which pairs of a filter column and a joined column a query needs statistics, and makes the file of these statistics. For each table of
+//! the query the file has the number of rows, and for each needed pair all lists.
 //!
 //! In: a query over its schema, and its database. Out: a `StatsFile`, whose text `write_stats` of stats_file writes. A filter column is sorted once
 //! for all joined columns with which it makes needed pairs.

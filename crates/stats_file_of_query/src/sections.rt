@@ -20,7 +20,7 @@ use query_types::Query;
 use stats_file::{Pair, TableStats};
 use std::alloc::Global;
 
-// Appends the pairs of a filter column and a joined column that an entry needs: its bounds need their statistics.
+// Appends the pairs of a filter column and a joined column whose statistics the bounds of an entry need.
 fn add_needed(
     alloc: Global,
     query: &Query,
@@ -38,7 +38,7 @@ fn add_needed(
     needs.add_pairs(pairs)
 }
 
-/// The place of an entry's table in the schema.
+/// The position of an entry's table in the schema.
 pub(crate) fn table_of(query: &Query, entry: u8) -> u32
     requires { entry < length query.now.from }
     ensures { result ≡ table_of query.now entry }
@@ -46,7 +46,7 @@ pub(crate) fn table_of(query: &Query, entry: u8) -> u32
     query.from.get(usize::from(entry)).table
 }
 
-// The pairs that the FROM entries of a table need: the pairs of the first entry, then the pairs of the next entry. A pair may stand in the list twice.
+// The pairs that the FROM entries of a table need: the pairs of the first entry, then the pairs of the next entry. A pair may be in the list twice.
 fn needed_of_table(
     alloc: Global,
     query: &Query,
@@ -87,7 +87,7 @@ fn pairs_of(
 }
 
 /// The section of a table: its number of rows, and the statistics of each pair of columns that an entry of this table needs. The statistics are made
-/// from the cells of `entry`, which is an entry of the table. `table` is the table's place in the schema.
+/// from the cells of `entry`, which is an entry of the table. `table` is the table's position in the schema.
 pub(crate) fn section_of(
     alloc: Global,
     query: &Query,

@@ -90,7 +90,7 @@ for_all {X = X} {P = P} one (x ∷ xs) = by (one x) (for_all {P = P} one xs)
     by (inl p) (inr fails) = inr (λ h. fails (λ k d lt. h (suc k) d (omega arith)))
     by (inr fails) ps = inr (λ h. fails (h 0 x (omega arith)))
 
--- where there is no element, the answer is yes
+-- if the list has no element at this index, the answer is yes
 pub where_found : {X : Type 0} {P : X → Type 0} → ((x : X) → Decided (P x)) → (xs : List X) (place : ℕ) → Decided ((x : X) → slice_get xs place ≡ Some x → P x)
 where_found {X = X} {P = P} one xs place = by (slice_get xs place) refl
   where

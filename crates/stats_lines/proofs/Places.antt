@@ -1,4 +1,4 @@
--- The functions decide which table or columns a word names, and at which place an earlier pair of columns stands.
+-- The functions decide which table or columns a word names. They find the index of the first earlier pair with the same filter or joined column.
 use Rattle.std.proofs.Common.{◌≡◌, ◌≢◌, inl, inr, ℕ, zero, suc, ◌<◌, ◌≤◌, List, [], ◌∷◌, length, refl, ap, subst, ◌∙◌, arith, Option, Some, None}
 use Rattle.std.specs.Prelude.{All, slice_get, decimal}
 use Rattle.std.proofs.lemmas.Option.{slice_get_within}

@@ -79,7 +79,7 @@ at_line schema s line left text others split st further = by st.result refl
 no_bytes : Without 10 []
 no_bytes k d lt = absurd (omega arith)
 
--- the line was searched for its end as far as `text` goes; `rest` are the bytes after this part
+-- `text` is the part of the next line that was searched so far and has no line end; `rest` are the bytes after it
 told_from : (schema : Schema) (s : Draft) (line : ℕ) (text rest : List ℕ) → Without 10 text → Left schema s line (text ++ rest)
 told_from schema s line text [] free = subst (Left schema s line) (sym (append-nil text)) (at_end schema s line text free)
 told_from schema s line text (c ∷ rest) free =

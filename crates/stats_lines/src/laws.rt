@@ -7,7 +7,7 @@ ghost use Rattle.stats_file.specs.declared.types.StatsError.TheVariants as error
 ghost use Rattle.stats_file.specs.declared.types.StatsFile.{StatsFile};
 ghost use Rattle.stats_file.specs.Answers.{Answers};
 
-/// Over a valid schema every text has an answer other than that memory is lacking.
+/// Over a valid schema every text has an answer other than that memory ran out.
 pub fn texts_are_answered()
     ensures { (schema : Schema) (text : List ℕ) → IsValid schema
         → (answer : Result StatsFile StatsError) × Answers schema text answer × (answer ≢ Err error.NoMemory) }

@@ -93,7 +93,7 @@ files_at stage.Nodes kind.End schema s t a b l r good valid is h =
     (not_tag kind.End a b l 112 is (λ e. absurd (omega (arith, e))))) is h
 files_at _ _ schema s t a b l r good valid is h = tt
 
--- ---- texts of the grammar that may follow
+-- ---- lines that may follow in texts of the grammar
 
 abbrev last : List (List ℕ)
 last = codes "end\n" ∷ []
@@ -238,7 +238,7 @@ answered schema s t k next a b l r good valid is to h =
     by_result schema s t k next a b l r is to
     (subst (λ (o : Option Stage). FilesGoAt o s.stage schema s t (ended l) r) to (files_at s.stage k schema s t a b l r good valid is h))
 
--- an answer that refuses a line says nothing of the new draft
+-- if a line is refused, the answer says nothing of the new draft
 pub any_draft : (schema : Schema) (s t u : Draft) (line : List ℕ) (e : Fault) → LineAnswers schema s t line (Err e) → LineAnswers schema s u line (Err e)
 any_draft schema s t u line fault.Syntax h = h
 any_draft schema s t u line fault.Rule h = h

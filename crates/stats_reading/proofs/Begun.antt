@@ -98,7 +98,7 @@ list_of_none rows = record { falls = λ r. omega arith; positive = λ k d lt. ab
 abbrev no_list : List ℕ
 no_list = []
 
--- one join value has all rows
+-- the list of all rows if they all have the same joined value
 abbrev all_rows : ℕ → List ℕ
 all_rows zero = []
 all_rows (suc n) = suc n ∷ []
@@ -114,7 +114,7 @@ all_rows_is (suc n) = (record { falls = falls; positive = positive; within = ome
     positive zero d lt = omega arith
     positive (suc k) d lt = absurd (omega arith)
 
--- any value of the kind would do
+-- a value of this kind; any would do
 abbrev some_value : Kind → Datum
 some_value kinds.Int = datum.Int (pos 0)
 some_value (kinds.Text most) = datum.Text []

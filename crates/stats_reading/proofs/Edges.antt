@@ -1,4 +1,4 @@
--- A pair or a table of a file begins or ends at a line. The lemmas say which lines of the file remain then.
+-- Some lines begin or end a pair or a table. The lemmas say which lines of the file remain after such a line.
 use Rattle.std.proofs.Common.{◌≡◌, ◌≢◌, ℕ, zero, suc, ◌<◌, List, [], ◌∷◌, ◌++◌, length, refl, ap, sym, subst, ◌∙◌, arith, append-nil, append_assoc, Some}
 use Rattle.std.specs.Prelude.{slice_get}
 use Rattle.std.proofs.lemmas.Option.{slice_get_within}

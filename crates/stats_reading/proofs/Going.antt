@@ -1,4 +1,5 @@
--- A step reads a line and makes the next draft. The line with further lines may follow a draft exactly if the further lines may follow the next draft.
+-- A step reads a line and makes the next draft. A line and the lines after it may follow a draft exactly if the lines after it may
+-- follow the next draft.
 use Rattle.std.proofs.Common.{◌≡◌, ◌↔◌, inl, inr, ℕ, List, ◌∷◌, refl, sym, subst, ◌∙◌}
 use Rattle.std.specs.Prelude.{⊤, Result, Ok, Err}
 use Rattle.stats_file.specs.declared.types.StatsFile.{StatsFile}
@@ -18,15 +19,15 @@ Words = List ℕ × List ℕ
 abbrev pub two : List ℕ → List ℕ → Words
 two a b = (a, b)
 
--- to read `line` is to take a value: a file goes on with the line exactly if it is the line of a value that may come next. The words of a line determine the
--- value
+-- reading `line` takes a value: a file goes on with this line exactly if it is the line of a value that may come next. The words of a line determine
+-- the value
 pub record IsStep {X : Type 0} (line_of : X → List ℕ) (text : X → Words) (MayBe Then : X → Type 0) (Before Next : StatsFile → Lines → Type 0) (line : List ℕ) (words : Words) : Type 0 where
   pub opens : (file : StatsFile) (more : Lines) → Before file (line ∷ more) → Opened line_of MayBe (λ v. Then v → Next file more) line
   pub closes : (v : X) (file : StatsFile) (more : Lines) → Then v → MayBe v → Next file more → Before file (line_of v ∷ more)
   pub same : (a b : X) → MayBe a → MayBe b → text a ≡ text b → a ≡ b
   pub spells : (v : X) → MayBe v → (line_of v ≡ line) ↔ (text v ≡ words)
 
--- an answer to a line says this of the files that may follow before the line and after it
+-- what the answer to a line says of the files that are possible before the line and after it
 abbrev pub FilesGo : (StatsFile → Lines → Type 0) → (StatsFile → Lines → Type 0) → Type 0 → List ℕ → Result (Unit {0}) Fault → Type 0
 FilesGo Before After Valid line (Ok done) = ((file : StatsFile) (more : Lines) → Before file (line ∷ more) ↔ After file more) × Valid
 FilesGo Before After Valid line (Err fault.Syntax) = ⊥

@@ -152,7 +152,7 @@ next_of s p f old kind same are is may counts = by_like (slice_get s.section.pai
     by_like None none = next_alone s p f old kind same are is may none
     by_like (Some q) same_filter_at = next_like s p q f old kind are is may same_filter_at (counts q same_filter_at)
 
--- another pair p with other frequent values and another list of the other values still keeps the rules, if these do
+-- a pair p that keeps the rules still keeps them if its frequent values and its list of the other values are exchanged for ones that keep them
 other_values : (table : Table) (s : Draft) (p : Pair) (frequent : List (Datum × List ℕ)) (rest : List ℕ) → IsKnown table s → PairRules table s.section.rows s.section.pairs p
     → p.filter ≡ s.pair.filter → AreFrequent s.kind s.section.rows frequent → IsList s.section.rows rest
     → ((q : Pair) → IsLike s q → HaveSameFilterCounts p (record p { frequent = frequent; rest = rest }))

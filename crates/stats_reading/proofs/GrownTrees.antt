@@ -82,7 +82,7 @@ pub tree_back : (kind : Kind) (rows : ℕ) (cuts : List Datum) (nodes : List (Li
 tree_back kind zero cuts nodes some is = absurd (omega arith)
 tree_back kind (suc n) cuts nodes some is = is
 
--- pair p with other cuts and nodes still keeps the rules, if these do
+-- a pair p that keeps the rules still keeps them if its cuts and nodes are exchanged for ones that keep them
 other_tree : (table : Table) (s : Draft) (p : Pair) (cuts : List Datum) (nodes : List (List ℕ)) → IsKnown table s → (rules : PairRules table s.section.rows s.section.pairs p)
     → p.filter ≡ s.pair.filter → 0 < s.section.rows → IsHistogram rules.is.filter.kind s.section.rows cuts nodes
     → ((q : Pair) → IsLike s q → HaveSameFilterCounts p (record p { cuts = cuts; nodes = nodes }))

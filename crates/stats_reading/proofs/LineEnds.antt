@@ -1,4 +1,4 @@
--- Each line of a file has one line end, at its end, so the lines can be told from their text in one way.
+-- Each line of a file has one line end, at its end. So a text splits into lines in only one way.
 use Rattle.std.proofs.Common.{◌≡◌, ℕ, suc, ◌^◌, ◌<◌, ◌≤◌, ◌==◌, Bool, true, false, if◌then◌else◌, List, [], ◌∷◌, ◌++◌, length, get_or, map, refl, ap, sym, subst, ◌∙◌, arith, append_assoc}
 use Rattle.std.specs.Prelude.{codes, decimal, sum}
 use Rattle.std.specs.List.{concat, flat_map, AllByRecursion}

@@ -76,7 +76,7 @@ may_rest table s p known rules same is = (
   },
 )
 
--- only a table that has rows has a histogram
+-- the table has rows, and a histogram with 32 leaves
 pub record SomeTree (kind : Kind) (rows : ℕ) (cuts : List Datum) (nodes : List (List ℕ)) : Type 0 where
   pub some : 0 < rows
   pub is : IsHistogram kind rows cuts nodes

@@ -50,7 +50,7 @@ two_same front a b c d free_a free_c e =
 
 -- ---- equal lists of lines
 
--- each list begins with all its lines of one kind
+-- each list of lines begins with all its lines of one kind
 same_mapped : {X : Type 0} (f : X → List ℕ) (Good : X → Type 0) → ((a b : X) → Good a → Good b → f a ≡ f b → a ≡ b) → (n : ℕ) → ((x : X) → tag (f x) ≡ n)
     → (xs ys : List X) (m o : Lines) → All Good xs → All Good ys → ((line : List ℕ) (more : Lines) → line ∷ more ≡ m → tag line ≢ n) → ((line : List ℕ) (more : Lines) → line ∷ more ≡ o → tag line ≢ n)
     → map f xs ++ m ≡ map f ys ++ o → (xs ≡ ys) × (m ≡ o)

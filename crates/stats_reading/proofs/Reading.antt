@@ -44,7 +44,7 @@ concat_append (x ∷ a) b = ap (λ (rest : List ℕ). x ++ rest) (concat_append 
 abbrev ended : List ℕ → List ℕ
 ended text = text ++ codes "\n"
 
--- a line is counted to the lines before it, or to the lines after it
+-- a line is the last of the lines before, or the first of the lines after
 one_more : (lines : Lines) (line : List ℕ) (more : Lines) → (lines ++ line ∷ []) ++ more ≡ lines ++ (line ∷ more)
 one_more lines line more = append_assoc lines (line ∷ []) more
 

@@ -1,4 +1,4 @@
--- A file keeps rules, and so does its last pair. The lemmas carry the rules from the file to this pair and back.
+-- If a file keeps the rules, its last pair keeps those for pairs. The lemmas go from the file to this pair, and back.
 use Rattle.std.proofs.Common.{◌≡◌, ℕ, ◌<◌, List, [], ◌∷◌, ◌++◌, get_or, refl, sym, subst, append-nil, append_assoc, Some}
 use Rattle.std.specs.Prelude.{All, AllPairs, slice_get}
 use Rattle.std.proofs.lemmas.List.Quantifiers.{all_pairs_push}

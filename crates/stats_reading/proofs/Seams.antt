@@ -1,4 +1,4 @@
--- An appended list has two parts. The lemmas carry properties of the whole list to its parts, and back.
+-- If a list is two lists appended, the lemmas carry properties of the whole list to the two lists, and back.
 use Rattle.std.proofs.Common.{◌≡◌, ◌⊎◌, inl, inr, ℕ, zero, suc, ◌<◌, List, [], ◌∷◌, ◌++◌, length, length-append, get_or, map, refl, ap, sym, subst, ◌∙◌, arith, Option, Some}
 use Rattle.std.specs.Prelude.{All, AllPairs, slice_get}
 use Rattle.std.proofs.lemmas.List.{get_or_append_left}

@@ -85,7 +85,7 @@ after_pairs schema tables line more e = at (tables_tag schema tables line more e
     at (inl is) = λ f. absurd (omega arith)
     at (inr is) = λ f. absurd (omega arith)
 
--- ---- the lines of a tree
+-- ---- the lines of a histogram
 
 pub record TreeParts (cuts : List Datum) (nodes : List (List ℕ)) (line : List ℕ) (more after : List (List ℕ)) : Type 0 where
   pub cut : tag line ≡ 99 → FromMap cut_line cuts line more (map histogram_node_line nodes ++ after)

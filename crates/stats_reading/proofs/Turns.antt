@@ -34,7 +34,7 @@ use Rattle.stats_reading.proofs.Stepping.{ended, line_tag, spells_one, spells_tw
 use Rattle.stats_reading.proofs.Tags.{tag}
 use Rattle.stats_reading.proofs.WordFacts.{hex_without, hex_word_blank}
 
--- ---- each name is that of one table or column
+-- ---- no two tables, and no two columns of a table, have the same name
 
 pub one_place : {X : Type 0} (name : X → List ℕ) (xs : List X) (i j : ℕ) (x y : X) → Differ (map name xs) → slice_get xs i ≡ Some x → slice_get xs j ≡ Some y → hex_text (name x) ≡ hex_text (name y) → i ≡ j
 one_place {X} name xs i j x y differ at_x at_y e = by (tri i j)

@@ -152,7 +152,7 @@ one_word front word first l whole = (to, from)
     from : word ≡ first → front ++ (word ++ codes "\n") ≡ l ++ codes "\n"
     from e = sym (append_assoc front word (codes "\n")) ∙ ap (λ (x : List ℕ). (front ++ x) ++ codes "\n") e ∙ ap (λ (x : List ℕ). x ++ codes "\n") (sym whole)
 
--- a blank stands between the two words, and the first word has no blank
+-- a blank is between the two words, and the first word has no blank
 pub two_words : (front a b first second l : List ℕ) → Without 32 a → Without 32 first → l ≡ front ++ (first ++ (codes " " ++ second))
     → (front ++ (a ++ (codes " " ++ (b ++ codes "\n"))) ≡ l ++ codes "\n") ↔ ((a ≡ first) × (b ≡ second))
 two_words front a b first second l free_a free_first whole =

@@ -38,7 +38,7 @@ empty_draft = record {
   same_joined_at = 0;
 }
 
--- drafts whose current pair has more lists than before
+-- the draft with one more list or value in its current pair
 abbrev pub with_whole : Draft → List ℕ → Draft
 with_whole s list = record s { pair = record s.pair { whole = list } }
 
@@ -66,12 +66,12 @@ table_ended s = record s { tables = s.tables ++ s.section ∷ []; section = empt
 abbrev pub HasAllNodes : Draft → Type 0
 HasAllNodes s = 0 < s.section.rows → (length s.pair.cuts ≡ 32) × (length s.pair.nodes ≡ 63)
 
--- `place` is that of a pair whose column is `wanted`, or is beyond the end of `pairs` if no pair has this column
+-- `place` is the index of a pair whose column is `wanted`, or is beyond the end of `pairs` if no pair has this column
 pub record IsPlaceOf (column : Pair → ℕ) (wanted : ℕ) (pairs : List Pair) (place : ℕ) : Type 0 where
   pub found : (q : Pair) → slice_get pairs place ≡ Some q → column q ≡ wanted
   pub none : slice_get pairs place ≡ None → All (λ q. column q ≢ wanted) pairs
 
--- draft `new` is `old` with a pair of these columns begun
+-- draft `new` is `old`, with a new pair of these columns as its current pair
 pub record BeginsPair (table : Table) (old new : Draft) (filter joined : ℕ) : Type 0 where
   pub column : Column
   pub column_is : slice_get table.columns filter ≡ Some column
@@ -79,7 +79,7 @@ pub record BeginsPair (table : Table) (old new : Draft) (filter joined : ℕ) : 
   pub same_joined_at : IsPlaceOf (λ q. q.joined) joined old.section.pairs new.same_joined_at
   pub whole : new ≡ record old { pair = empty_pair filter joined; kind = column.kind; same_filter_at = new.same_filter_at; same_joined_at = new.same_joined_at }
 
--- the complete tables ascend by their places in the schema, and the complete pairs of the current table ascend by their columns
+-- the complete tables ascend by their positions in the schema, and the complete pairs of the current table ascend by their columns
 abbrev pub TablesAscend : Draft → Type 0
 TablesAscend s = AllPairs (λ (a b : TableStats). a.table < b.table) s.tables
 
@@ -98,7 +98,7 @@ IsTwin s q = slice_get s.section.pairs s.same_joined_at ≡ Some q
 abbrev pub MayBeAccuracy : ℕ → Type 0
 MayBeAccuracy k = (least_accuracy ≤ k) × (k ≤ most_accuracy)
 
--- a table of the schema with its place there, and its number of rows
+-- a table of the schema, its position in the schema, and its number of rows
 pub record Place : Type 0 where
   pub table : Table
   pub place : ℕ
@@ -119,7 +119,7 @@ pub record WholeFollows (s : Draft) (list : List ℕ) : Type 0 where
   pub all : sum list ≡ s.section.rows
   pub alike : (q : Pair) → IsTwin s q → q.whole ≡ list
 
--- at this place pair q has the same frequent value, with a list of the same sum
+-- at this index pair q has the same frequent value, with a list of the same sum
 pub record IsSameValue (place : ℕ) (f : Datum × List ℕ) (q : Pair) : Type 0 where
   pub other : Datum × List ℕ
   pub there : slice_get q.frequent place ≡ Some other
@@ -147,7 +147,7 @@ pub record CutFollows (s : Draft) (cut : Datum) : Type 0 where
   pub order : (last : Datum) → slice_get s.pair.cuts (length s.pair.cuts - 1) ≡ Some last → datum_cmp last cut ≢ Greater
   pub alike : (q : Pair) → IsLike s q → slice_get q.cuts (length s.pair.cuts) ≡ Some cut
 
--- at this place pair q has a node with the same sum
+-- at this index pair q has a node whose list has the same sum
 pub record IsSameTotal (place : ℕ) (node : List ℕ) (q : Pair) : Type 0 where
   pub other : List ℕ
   pub there : slice_get q.nodes place ≡ Some other
@@ -177,7 +177,7 @@ MayBeNode s node = IsList s.section.rows node × NodeFollows s node
 
 -- ---- a step: the words of a line are read
 
--- a value that may come next has these words, and was taken; or no value that may come next has them
+-- a value that may come next has these words, and was taken. `Takes` also allows a fault: no value that may come next has these words
 pub record WasTaken {X : Type 0} (text : X → List ℕ × List ℕ) (MayBe After : X → Type 0) (words : List ℕ × List ℕ) : Type 0 where
   pub value : X
   pub may : MayBe value
@@ -209,12 +209,12 @@ pair_words table columns = (hex_text (name_at table columns.0), hex_text (name_a
 abbrev pub table_words : Place → List ℕ × List ℕ
 table_words v = (hex_text v.table.name, decimal v.rows)
 
--- the place of an element with the name that `word` spells, or `None` if no element has it
+-- the index of an element with the name that `word` spells, or `None` if no element has it
 abbrev pub IsNamed : {X : Type 0} → (X → List ℕ) → List X → List ℕ → Option ℕ → Type 0
 IsNamed {X} name xs word None = All (λ x. word ≢ hex_text (name x)) xs
 IsNamed {X} name xs word (Some place) = (x : X) × (slice_get xs place ≡ Some x) × (word ≡ hex_text (name x))
 
--- lists whose sums fit into a `u64`
+-- the sums of the pair's lists fit into a `u64`
 pub record AreSmall (q : Pair) : Type 0 where
   pub rest : sum q.rest < 2 ^ 64
   pub frequent : All (λ (f : Datum × List ℕ). sum f.1 < 2 ^ 64) q.frequent

@@ -54,7 +54,7 @@ pub record IsLineOf (kind : LineKind) (first second line : List ℕ) : Type 0 wh
 abbrev pub IsAlone : LineKind → List ℕ → Type 0
 IsAlone kind second = has_two kind ≡ false → second ≡ []
 
--- a line has this first part and these words; if the line is one of the grammar, the grammar allows these words
+-- a line has this kind's first part and these words; if the line is one of the grammar, the grammar allows these words
 pub record MayBeLineOf (kind : LineKind) (first second line : List ℕ) : Type 0 where
   pub whole : line ≡ front kind ++ words_text kind first second
   pub alone : IsAlone kind second
@@ -74,7 +74,7 @@ pub record MayStandBehind (kind : LineKind) (words first second : List ℕ) : Ty
 abbrev pub HasNoLineWords : LineKind → List ℕ → Type 0
 HasNoLineWords kind words = (first second : List ℕ) → AreLineParts kind first second → words ≡ words_text kind first second → ⊥
 
--- whether words of this kind are tested against the grammar before they are read; for the other kinds, words that are read are in the grammar
+-- whether words of this kind are tested against the grammar before they are read. For the other kinds, words that are read without a fault are in it
 abbrev pub is_tested : LineKind → Bool
 is_tested kind.First = true
 is_tested kind.Table = true
@@ -94,7 +94,7 @@ IsFaultOf kind first second fault.Rule fault.NoMemory = ⊥
 IsFaultOf kind first second fault.Syntax new = new ≡ fault.Syntax
 IsFaultOf kind first second fault.NoMemory new = new ≡ fault.NoMemory
 
--- `None` if the line has the fixed first part of no kind; otherwise the only kind whose first part the line may have
+-- `None` if the line begins with no kind's fixed first part; otherwise the only kind whose first part it may begin with
 abbrev pub CanBe : List ℕ → Option LineKind → Type 0
 CanBe line None = (kind : LineKind) (rest : List ℕ) → line ≡ front kind ++ rest → ⊥
 CanBe line (Some only) = (kind : LineKind) (rest : List ℕ) → line ≡ front kind ++ rest → kind ≡ only

@@ -1,4 +1,4 @@
--- Lines that are still to be read: a file extends the draft, and these lines of the file's text remain.
+-- The lines that are still to be read: a file extends the draft, and these are the remaining lines of its text.
 use Rattle.std.specs.Prelude.{ℕ, ◌≡◌, List, [], ◌∷◌, ◌++◌, map, Some, slice_get, codes}
 use Rattle.std.specs.List.{flat_map}
 use Rattle.schema_types.specs.declared.types.Schema.{Schema}

@@ -11,7 +11,7 @@ use Rattle.stats_reading.specs.declared.stages.Stage.TheVariants as stage
 use Rattle.stats_reading.specs.Drafts.{empty_draft, IsPlaceOf}
 use Rattle.stats_reading.specs.Left.{file_of_draft, section_of, CutsLeft, FrequentLeft, NodesLeft, WholeLeft}
 
--- the draft's `kind` and its two places are right for the current pair
+-- the draft's `kind` and its two indexes of earlier pairs are right for the current pair
 pub record IsKnown (table : Table) (s : Draft) : Type 0 where
   pub column : Column
   pub column_is : slice_get table.columns s.pair.filter ≡ Some column

@@ -70,8 +70,8 @@ fn is_later_table(tables: &[TableStats], place: u32) -> bool
     tables[tables.len() - 1].table < place
 }
 
-// The place of a pair with this filter column, or the length of `pairs` if there is none. As no pair has a later filter column, the last pair is the
-// only one to look at.
+// The index of a pair with this filter column, or the length of `pairs` if there is none. No pair has a later filter column, so only the last pair is
+// looked at.
 fn place_of_filter(pairs: &[Pair], filter: u32) -> usize
     requires ascend { AllPairs StandsBefore pairs.now }
     requires none_later { All (λ q. q.filter ≤ filter) pairs.now }

@@ -10,8 +10,9 @@ use stats_file::{Pair, TableStats};
 use std::alloc::Global;
 
 /// The part of a file that is read so far: the complete tables, the table that is being read (without the pair that is being read), and this pair.
-/// Besides, `kind` is the kind of the values in the pair's filter column. `same_filter_at` and `same_joined_at` are the places of earlier pairs of the
-/// table that have the pair's filter column and its joined column. If there is no such pair, the place is the number of earlier pairs.
+/// Besides, `kind` is the kind of the values in the pair's filter column. `same_filter_at` is the index of an earlier pair
+/// of the table with the same filter column, and `same_joined_at` of one with the same joined column. Without such a pair it is the number of earlier
+/// pairs.
 #[derive(Debug, Drop)]
 pub struct Draft {
     pub stage: Stage,

@@ -12,7 +12,7 @@ use piece_math::Pieces;
 use stats_file::{Datum, Pair};
 use std::cmp::Ordering;
 
-// The table's pair at this place, if there is one.
+// The table's pair at this index, if there is one.
 fn pair_at(draft: &Draft, place: usize) -> Option<&Pair>
     ensures { MatchOption result (slice_get draft.now.section.pairs place ≡ None)
         (λ q. slice_get draft.now.section.pairs place ≡ Some q.now) }
@@ -61,7 +61,7 @@ fn is_same_value(earlier: &(Datum, Pieces), value: &Datum, list: &Pieces) -> boo
     same_value(&earlier.0, value) && same_total(&earlier.1, list)
 }
 
-// Whether `pair`, an earlier pair, has this frequent value at this place, with a list of the same sum.
+// Whether `pair`, an earlier pair, has this frequent value at this index, with a list of the same sum.
 fn has_value(pair: &Pair, place: usize, value: &Datum, list: &Pieces) -> bool
     requires left { AreSmall pair.now }
     requires right { sum list.now < 2 ^ 64 }

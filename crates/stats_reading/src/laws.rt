@@ -16,8 +16,8 @@ pub fn a_text_spells_one_file()
         → file_text schema a ≡ file_text schema b → a ≡ b }
 {}
 
-/// If the text of a file is read, the answer is this file, or that memory is lacking; the text is never refused. The law asks that the schema's column
-/// names consist of bytes. By the rules, the other names and the values consist of bytes too.
+/// If the text of a file is read, the answer is this file, or that memory ran out; the text is never refused. The law requires that the schema's
+/// column names consist of bytes. By the rules, the other names and the values consist of bytes too.
 pub fn a_written_file_is_read()
     ensures { (schema : Schema) (file : StatsFile) (answer : Result StatsFile StatsError)
         → IsValid schema → HasByteColumns schema → KeepsRules schema file

@@ -27,7 +27,7 @@ pub struct Line<'a> {
     pub second: &'a [u8],
 }
 
-/// The only kind that this line may be of, by its first byte.
+/// The only kind that this line may have, by its first byte.
 pub fn kind_of(line: &[u8]) -> Option<LineKind>
     ensures { CanBe line.now result }
 {

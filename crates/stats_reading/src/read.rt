@@ -29,7 +29,7 @@ fn refusal(fault: Fault, line: u32) -> StatsError
     }
 }
 
-// Takes a line without its line end. The words of lists and values are gone through once: only if they are refused, they are tested against the
+// Takes a line without its line end. The words of lists and values are read in one pass: only if they are refused, they are tested against the
 // grammar. Kind and words are found by two calls, since an `Option` of both is slow to copy.
 fn take_line(alloc: Global, schema: &Schema, draft: &mut Draft, text: &[u8]) -> Result<(), Fault>
     requires schema { IsValid schema.now }

@@ -19,7 +19,7 @@ use Rattle.stats_words.specs.Words.{Spells}
 use Rattle.stats_words.proofs.RunTexts.{at_least_both, ended, expanded_runs, no_blank_in, runs_fall, small_runs, stripped, Stripped, sum_of_runs, texts_joined}
 use Rattle.stats_words.proofs.SplitFacts.{not_without, split_same}
 
--- b is the value before the first run
+-- the value of the last run, or b if there are no runs
 abbrev pub lowest : ℕ → List Piece → ℕ
 lowest b [] = b
 lowest b (r ∷ rs) = lowest r.value rs

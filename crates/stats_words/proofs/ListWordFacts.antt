@@ -1,4 +1,4 @@
--- A word may be one run (a value, a star and a count), or runs with blanks between them. The lemmas say when it is.
+-- The lemmas say when a word is one run (a value, a star and a count), and when it is runs with blanks between them.
 use Rattle.std.proofs.Common.{[], ◌≡◌, ℕ, zero, suc, ◌<◌, ◌↔◌, List, ◌∷◌, ◌++◌, ap, sym, subst, ◌∙◌, arith, append-nil}
 use Rattle.std.specs.Prelude.{codes}
 use Rattle.std.specs.List.{AllByRecursion, flat_map}

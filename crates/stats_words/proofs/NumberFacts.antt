@@ -32,7 +32,7 @@ next_value ds i v lt is =
     let e : v * 10 + digit_value (get_or ds i 0) ≡ 10 * v + (get_or ds i 0 - 48) = omega (arith, digit_is (get_or ds i 0) is) in
     at_drop_more (digits_value_after 10 v) ds i 0 lt ∙ ap (λ n. digits_value_after 10 n (drop (i + 1) ds)) e
 
--- this is the state of the loop: v is the value of the digits before place i, and all of these are digits
+-- this is the state of the loop: the first i bytes are digits, and v is their value
 pub record Reads (ds : List ℕ) (i v : ℕ) : Type 0 where
   pub value : digits_value_after 10 v (drop i ds) ≡ digits_value 10 ds
   pub digits : list_all is_ascii_digit (drop i ds) ≡ list_all is_ascii_digit ds

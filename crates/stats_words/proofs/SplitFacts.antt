@@ -1,4 +1,4 @@
--- A text can be split at the first place of a byte in only one way.
+-- A text can be split at the first occurrence of a byte in only one way.
 use Rattle.std.proofs.Common.{[], ◌≡◌, ◌≢◌, ℕ, zero, suc, true, List, ◌∷◌, ◌++◌, refl, subst, arith}
 use Rattle.std.specs.Char.{is_ascii_digit}
 use Rattle.std.specs.Int.{IsInRange}

@@ -4,7 +4,7 @@ use Rattle.piece_math.specs.declared.pieces.Piece.{Piece}
 use Rattle.stats_file.specs.Lines.{runs_text}
 use Rattle.stats_file.specs.Runs.{runs_of}
 
--- a run that may follow in a falling list of positive numbers: its value is below `below`, that of the run before it, and its sum is at most `left`
+-- a run that may come next in a descending list of positive numbers: its value is below `below`, that of the run before it; its sum is at most `left`
 pub record RunMayFollow (below left : ℕ) (run : Piece) : Type 0 where
   pub value : 0 < run.value
   pub count : 0 < run.count

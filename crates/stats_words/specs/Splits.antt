@@ -1,4 +1,4 @@
--- A text that is split at the first place of a byte.
+-- A text that is split at the first occurrence of a byte.
 use Rattle.std.specs.Prelude.{ℕ, ◌≡◌, ◌≢◌, List, ◌∷◌, ◌++◌, All}
 
 abbrev pub Without : ℕ → List ℕ → Type 0

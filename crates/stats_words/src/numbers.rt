@@ -22,7 +22,7 @@ fn begins_numeral(first: u8, others: &[u8]) -> bool
     first.is_ascii_digit() && are_digits(others) && (first > b'0' || others.is_empty())
 }
 
-/// Whether a word is a numeral: decimal digits, and zero comes first only if it is the only digit.
+/// Whether a word is a numeral: decimal digits without a leading zero, or 0 alone.
 pub fn is_numeral(word: &[u8]) -> bool
     ensures { result ≡ numeral_test word.now }
 {
@@ -32,7 +32,7 @@ pub fn is_numeral(word: &[u8]) -> bool
     }
 }
 
-// Whether a word that consists of digits is a numeral: it has at least one digit, and zero comes first only if it is the only digit.
+// Whether a word that consists of digits is a numeral: it has at least one digit, and no leading zero unless it is 0 alone.
 fn may_lead(word: &[u8]) -> bool
     ensures { numeral_test word.now ≡ (list_all digit_test word.now && result) }
 {

@@ -1,4 +1,4 @@
-//! Splits a text at the first place of a byte.
+//! Splits a text at the first occurrence of a byte.
 ghost use Rattle.std.specs.Prelude.{MatchOption};
 ghost use Rattle.stats_words.specs.Splits.{IsSplitAt, Without};
 

@@ -32,7 +32,7 @@ use Rattle.table_files.proofs.FewRows.{HasFewRows, tables_are_few}
 use Rattle.table_files.proofs.EntryRows.{db, each_long, each_sound, has_cells, place_low, slot_is}
 use Rattle.table_files.proofs.PlaceFacts.{different_all, different_short}
 
--- ---- if a property of each comparison implies another one, so it is for each condition
+-- ---- if property Q of a comparison implies property R, it does so for whole conditions
 
 module _ (Q R : Cond-F Cond → Type 0) (and : (all : List Cond) → R (layer.And all)) (or : (any : List Cond) → R (layer.Or any)) (not' : (inner : Cond) → R (layer.Not inner))
     (one : (op : Op) (left right : Operand) → Q (layer.Compare op left right) → R (layer.Compare op left right)) where
@@ -104,7 +104,7 @@ module _ (schema : Schema) (query : Query) (d : Database) (has : HasCells schema
   pub output_of : (ref' : ColumnRef) (column : Column) → valid.FindsColumn schema query.from ref' column → asked.IsColumnOf d ref'
   output_of = column_of
 
--- ---- the database can be asked the query
+-- ---- the query can be evaluated on the database
 
 module _ (schema : Schema) (query : Query) (texts : List (List ℕ)) (cells : List Cells) (is_of : valid.IsOf schema query)
     (are : AreCellsOfEach schema texts (tables_of_query query.from) cells) (few : All HasFewRows cells) where

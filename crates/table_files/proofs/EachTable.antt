@@ -53,9 +53,9 @@ parted schema (m ∷ before) n after files =
     first_part (table_rows schema m files) (rows_of_each schema before files) (rows_of_each schema (before ++ (n ∷ after)) files) (table_rows schema n files) (rows_of_each schema after files)
     (parted schema before n after files)
 
--- ---- what the store was asked for
+-- ---- reading one more table, number n: its refusal ends the reading, its rows are appended
 
--- every file satisfies this condition; it serves for readings that succeed
+-- `Reads` asks at which file a reading may have ended. For a reading that succeeds any condition will do, so this one holds of every file
 abbrev pub Anywhere : Files → FileId → Type 0
 Anywhere files id = ⊤
 
@@ -124,7 +124,7 @@ files-push schema (m ∷ ms) (s ∷ rows) n r h k = (h.0, files-push schema ms r
 
 -- ---- the loop over the tables
 
--- this is the state of the loop: the tables before place i are read
+-- this is the state of the loop: the first i tables are read
 pub record SoFar (schema : Schema) (numbers : List ℕ) (store : Reading) (i : ℕ) (texts : List (List ℕ)) (found : List Cells) : Type 0 where
   pub cells : AreCellsOfEach schema texts (take i numbers) found
   pub reads : Reads store (rows_of_each schema (take i numbers)) Anywhere (Ok (rows_of_tables texts found))

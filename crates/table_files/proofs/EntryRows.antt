@@ -1,4 +1,4 @@
--- The FROM entries of a database find their tables by place.
+-- The FROM entries of a database refer to their tables by index.
 use Rattle.std.proofs.Common.{◌≡◌, ℕ, zero, suc, ◌+◌, ◌<◌, List, [], ◌∷◌, length, get_or, map, refl, ap, sym, ◌∙◌, subst, arith}
 use Rattle.std.specs.List.{AllByRecursion, range_with_len}
 use Rattle.std.proofs.lemmas.List as list
@@ -28,7 +28,7 @@ each_place g xs = same_lists (map (λ i. g (get_or xs i 0)) (range_with_len 0 (l
     (λ k d low. let within : k < length xs = omega (arith, length-map-range_with_len (λ i. g (get_or xs i 0)) 0 (length xs)) in
     get_or-map-range_with_len (λ i. g (get_or xs i 0)) 0 (length xs) k k d within (omega arith) ∙ sym (list.get_or-map g xs k 0 d within))
 
--- ---- the cells of tables by place
+-- ---- the cells of tables by index
 
 pub each_long : (schema : Schema) (texts : List (List ℕ)) (numbers : List ℕ) (cells : List Cells) → AreCellsOfEach schema texts numbers cells → length cells ≡ length numbers
 each_long schema texts [] [] h = refl

@@ -1,4 +1,4 @@
--- `different` keeps each number of a list once. The lemmas are about this list, and about the places of numbers in it.
+-- `different` keeps each number of a list once. The lemmas are about this list, and about the indexes of numbers in it.
 use Rattle.std.proofs.Common.{◌≡◌, ℕ, zero, suc, ◌+◌, ◌<◌, ◌≤◌, ◌||◌, Bool, true, false, cond, not, eqb, inl, inr, List, [], ◌∷◌, ◌++◌, length, get_or, take, refl, sym, ap, ◌∙◌, arith, append-nil}
 use Rattle.std.proofs.lemmas.Bool.{cases_Bool, eq-eqb, eqb-false, eqb-true, false≢true}
 use Rattle.std.proofs.lemmas.List.{map-append, take_more}
@@ -14,7 +14,7 @@ has numbers n = list_any (eqb n) numbers
 abbrev without : ℕ → List ℕ → List ℕ
 without m numbers = filter (λ other. not (eqb other m)) numbers
 
--- ---- places
+-- ---- indexes
 
 pub has_place : (xs : List ℕ) (n : ℕ) → has xs n ≡ true → place_of xs n < length xs
 has_place [] n h = absurd (false≢true h)
@@ -108,7 +108,7 @@ different_old ns n lt = elim (cases_Bool (has (different ns) n)) [
   | inr fresh ↦ absurd (omega (arith, no_place (different ns) n fresh))
 ]
 
--- ---- `different` isn't longer than the list, and a property of all numbers of the list is one of its numbers
+-- ---- `different` gives a list that isn't longer, and a property of all numbers of the list stays
 
 kept_short : (m : ℕ) (xs : List ℕ) → length (without m xs) ≤ length xs
 kept_short m [] = omega arith

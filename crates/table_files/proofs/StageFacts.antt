@@ -1,4 +1,4 @@
--- One stage of a run reads a query's tables. Its result follows from the reading of each table.
+-- The result of reading a query's tables follows from the reading of each table.
 use Rattle.std.proofs.Common.{◌≡◌, ℕ, List, map, Result, Ok, Err, ap, sym, ◌∙◌, subst}
 use Rattle.std.specs.Prelude.{All}
 use Rattle.base_io.specs.Files.{Files}

@@ -1,4 +1,4 @@
--- The rows for which the cells of tables stand, and whether rows can come from files.
+-- The rows that the cells of tables stand for, and whether rows can come from files.
 use Rattle.std.specs.Prelude.{ℕ, ◌≡◌, ◌<◌, List, [], ◌∷◌, length, map, slice_index, slice_index_or, Ok, ⊤}
 use Rattle.std.specs.List.{range_with_len}
 use Rattle.schema_types.specs.declared.types.Schema.{Schema}
@@ -17,7 +17,7 @@ use Rattle.table_files.specs.declared.rows.TableRows.{TableRows}
 abbrev pub entry_rows : Database → List (List Row)
 entry_rows db = map (tables_of db) (range_with_len 0 (length db.slots))
 
--- the rows of each entry as `Tables`; past the last entry, where no query asks, they are the first entry's rows, or no rows
+-- the rows of each entry as `Tables`. Numbers past the last entry have the first entry's rows, or no rows; a query doesn't use these
 abbrev pub tables_in : List (List Row) → Tables
 tables_in rows entry = slice_index_or rows entry (slice_index_or rows 0 [])
 
@@ -26,7 +26,7 @@ abbrev pub HasCells : Schema → List Source → Database → Type 0
 HasCells schema from db = (entry : ℕ) → entry < length from
     → AreCellsOf (table_at schema (slice_index (numbers_of from) entry)) db.pool (cells_of db entry)
 
--- both lists are equally long, and each `Cells` is that of the table whose number stands at the same place
+-- both lists are equally long, and each `Cells` is that of the table whose number is at the same index
 abbrev pub AreCellsOfEach : Schema → List (List ℕ) → List ℕ → List Cells → Type 0
 AreCellsOfEach schema texts [] [] = ⊤
 AreCellsOfEach schema texts [] (cells ∷ others) = ⊥
@@ -52,7 +52,7 @@ AreOfAFile table rows = (bytes : List ℕ) × (rows_of_file table bytes ≡ Ok r
 abbrev pub AreOfFiles : Schema → List Source → Tables → Type 0
 AreOfFiles schema from tables = (entry : ℕ) → entry < length from → AreOfAFile (table_at schema (slice_index (numbers_of from) entry)) (tables entry)
 
--- both lists are equally long, and each item is the rows of some file of the table whose number stands at the same place
+-- both lists are equally long, and each item has the rows of some file of the table whose number is at the same index
 abbrev pub AreOfFilesEach : Schema → List ℕ → List (List Row) → Type 0
 AreOfFilesEach schema [] [] = ⊤
 AreOfFilesEach schema [] (rows ∷ others) = ⊥

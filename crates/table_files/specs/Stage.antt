@@ -12,12 +12,12 @@ use Rattle.outcomes.specs.declared.names.FileId.TheVariants as file
 use Rattle.outcomes.specs.declared.refusal.Refusal.{Refusal}
 use Rattle.table_files.specs.TableFile.{file_rows}
 
--- each number is kept once, at its first place
+-- each number once, in the order of first occurrences
 abbrev pub different : List ℕ → List ℕ
 different [] = []
 different (number ∷ numbers) = number ∷ filter (λ other. not (other == number)) (different numbers)
 
--- the place of a number in a list, or the list's length
+-- the index of a number in a list, or the list's length if the number isn't in it
 abbrev pub place_of : List ℕ → ℕ → ℕ
 place_of numbers number = position_or_len (nat_eq number) numbers
 
@@ -29,7 +29,7 @@ numbers_of from = map (λ source. source.table) from
 abbrev pub tables_of_query : List Source → List ℕ
 tables_of_query from = different (numbers_of from)
 
--- `numbers` of a query of the schema are below the schema's number of tables, so `no_table` is never used
+-- the default of `table_at`. A query of the schema refers only to tables that the schema has, so `no_table` is never used
 abbrev pub no_table : Table
 no_table = record { name = []; columns = []; keys = []; references = [] }
 

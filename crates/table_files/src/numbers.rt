@@ -1,4 +1,4 @@
-//! The tables that FROM names, and the place of each entry's table among them.
+//! The tables that FROM names, and the index of each entry's table among them.
 ghost use Rattle.std.specs.Prelude.{◌≡◌, ◌<◌, ◌^◌, ◌==◌, [], ◌∷◌, ◌++◌, if◌then◌else◌, length, map, IfOk, OnOk};
 ghost use Rattle.table_files.specs.Stage.{numbers_of, place_of as place_in, tables_of_query};
 
@@ -6,7 +6,7 @@ use base_io::{NoMemory, Seq};
 use query_types::Source;
 use std::alloc::Global;
 
-// The place of a number, or the list's length if the number isn't there. The list has one number for each table of a query, so at most twelve.
+// The index of a number, or the list's length if the number isn't there. The list has one number for each table of a query, so at most twelve.
 fn place_of(numbers: &[u32], number: u32) -> usize
     ensures { result ≡ place_in numbers.now number }
 {
@@ -40,7 +40,7 @@ pub(crate) fn table_numbers(alloc: Global, from: &[Source]) -> Result<Seq<u32>, 
     Ok(numbers)
 }
 
-/// For each FROM entry the place of its table among the tables of the query.
+/// For each FROM entry the index of its table among the tables of the query.
 pub(crate) fn slots(alloc: Global, from: &[Source], numbers: &[u32]) -> Result<Seq<u32>, NoMemory>
     requires { length numbers.now < 2 ^ 32 }
     ensures { IfOk result (λ slots. slots ≡ map (place_in numbers.now) (numbers_of from.now)) }

@@ -42,7 +42,7 @@ pub fn read_rows<S: Store>(
     ensures texts { IfOk result (λ read. All IsUtf8 read.pool) }
     ensures different { IfOk result (λ read. TextsAreDifferent read.pool) }
 
-    // The rows are those of the file, or the ending has the cause.
+    // Over a store that tells its files, the rows are those that `rows_in` gives. If the reading ended, the `Ending` says why.
     ensures reads { Reads (reading S.files S.faults S.misses store.old store.new) (rows_in number (table_at schema.now number) name.now)
         (AtFile (FileId.Table number)) (seen rows_of_read result) }
 {

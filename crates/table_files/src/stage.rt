@@ -20,7 +20,7 @@ use schema_types::Schema;
 use std::alloc::Global;
 
 /// Reads the tables of a query of the schema, each once, in the order in which FROM first names them. Entries
-/// of one table share one place in `cells`.
+/// of one table share one element of `cells`.
 ///
 /// The first refusal of a file ends the reading: the file is absent, has more than 67,108,864 bytes, or its rows are refused. A failed read ends it
 /// too, and is counted as a fault. A lack of memory may end it anywhere.
@@ -33,11 +33,11 @@ pub fn read_tables<S: Store>(
     requires schema { IsValid schema.now }
     requires query { IsOf schema.now query.now }
 
-    // The database can be asked the query, and has the cells of each entry's table.
+    // The query can be evaluated on the database, which has the cells of each entry's table.
     ensures database { IfOk result (IsDatabaseOf query.now) }
     ensures cells { IfOk result (HasCells schema.now query.now.from) }
 
-    // Each table of the query has one place.
+    // `cells` has one element for each table of the query.
     ensures once { IfOk result (λ db. length db.cells ≡ length (tables_of_query query.now.from)) }
 
     // The texts of the pool are UTF-8, and no two are equal.
@@ -50,7 +50,7 @@ pub fn read_tables<S: Store>(
     // The tables made of the entries' rows are those of the database.
     ensures tables { IfOk result (λ db. tables_in (entry_rows db) ≡ tables_of db) }
 
-    // The entries' rows are those of the stage, or the ending has the cause.
+    // Over a store that tells its files, the entries' rows are those that `tables_stage` gives. If the reading ended, the `Ending` says why.
     ensures reads { Reads (reading S.files S.faults S.misses store.old store.new) (tables_stage schema.now query.now.from)
         (IsReached schema.now (tables_of_query query.now.from)) (seen entry_rows result) }
 {

@@ -32,7 +32,7 @@ module _ (texts : List (List ℕ)) (differ : HaveDifferentCharacters texts) (kin
   abbrev pub cell_values : List Value
   cell_values = map of_cell cells
 
-  -- the first row that has a cell's value stands for the cell
+  -- the number of a cell: the first row that has the cell's value
   abbrev pub number_of : ℕ → ℕ
   number_of cell = first_row cell_values (of_cell cell)
 

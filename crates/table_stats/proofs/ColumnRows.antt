@@ -17,7 +17,7 @@ use Rattle.table_stats.proofs.FirstRows.{first_has, first_there, same_first}
 -- ---- a list of values, one for each row
 
 module _ (values : List Value) where
-  -- the first row that has a value stands for the value
+  -- the number of a row's value: the first row that has this value
   abbrev pub listed_number : ℕ → ℕ
   listed_number row = first_row values (value_of_row values row)
 
@@ -45,7 +45,7 @@ module _ (tables : Tables) (entry : ℕ) where
     abbrev pub values : List Value
     values = column_values tables entry column
 
-    -- the first row that has a value stands for the value
+    -- the number of a row's value: the first row that has this value
     abbrev pub number_at : ℕ → ℕ
     number_at row = first_row values (value_at row)
 
@@ -72,7 +72,7 @@ module _ (tables : Tables) (entry : ℕ) where
     pub same_number : (row other : ℕ) → is_equal (value_at row) (value_at other) ≡ true → number_at row ≡ number_at other
     same_number row other h = same_first values (value_at row) (value_at other) h
 
-  -- ---- the table has the list `joined` beside it, with one value for each row
+  -- ---- a list `joined` with one value for each row of the table; it needn't be a column of the table
   module _ (joined : List Value) (long : length joined ≡ row_count) where
     pub listed_numbers_are : numbered joined ≡ map (listed_number joined) rows
     listed_numbers_are = listed_numbers joined ∙ ap (λ (n : ℕ). map (listed_number joined) (range_with_len 0 n)) long

@@ -73,7 +73,7 @@ module _ (filter : List Value) where
 -- ---- an entry's table with a list of joined values, one for each row of the table
 
 module _ (tables : Tables) (accuracy entry : ℕ) (joined : List Value) (long : length joined ≡ row_count tables entry) where
-  -- the lists speak of these rows
+  -- the joined values, as numbers, of the rows that pass a test
   abbrev pub joined_rows : (ℕ → Bool) → List ℕ
   joined_rows test = map (listed_number joined) (filter test (rows tables entry))
 
@@ -116,7 +116,7 @@ module _ (tables : Tables) (accuracy entry : ℕ) (joined : List Value) (long : 
       (filter_numbers tables entry joined long column))
       (compressed_dominates accuracy (keys_where (passes (filter_values pairs)) pairs))
 
-  -- ---- any keys that are equal exactly where the joined column's numbers are
+  -- ---- any keys of rows that are equal exactly if the numbers of the joined values are
 
   module _ (key : ℕ → ℕ) (alike : (row other : ℕ) → row < row_count tables entry → other < row_count tables entry
       → (listed_number joined row ≡ listed_number joined other) ↔ (key row ≡ key other)) where

@@ -1,4 +1,4 @@
--- The lists of statistics fall, and each sums to its number of rows.
+-- Each list of the statistics is in descending order and sums to the number of rows that it counts.
 use Rattle.std.proofs.Common.{◌≡◌, ℕ, ◌≤◌, Bool, cond, eqb, List, map, length, sum, Some, ap, sym, ◌∙◌, subst, arith}
 use Rattle.std.specs.List.{count_by, list_any}
 use Rattle.std.proofs.lemmas.Bool.{cond_both}
@@ -24,7 +24,7 @@ use Rattle.table_stats.specs.Statistics.{column_lists, count_with, entry_counts,
 use Rattle.table_stats.proofs.ColumnRows.{filter_numbers, height, listed_number, values}
 use Rattle.table_stats.proofs.Dominating.{equal_for_keys, first_leaf, last_leaf, range_for_keys}
 
--- ---- lists fall
+-- ---- lists are in descending order
 
 compressed-falls : (accuracy : ℕ) (keys : List ℕ) → IsFalling (compressed_degrees accuracy keys)
 compressed-falls accuracy keys = IsFalling-compressed accuracy (degree_list keys) (IsFalling-degree_list keys)

@@ -21,13 +21,13 @@ pub fn statistics_stand_for_tables()
     ensures lists { (tables : Tables) (accuracy entry column : ℕ) (key : ℕ → ℕ) → TellsValues tables entry column key
         → ListsStandFor (column_lists tables accuracy entry column) tables entry key }
     ensures counts { (tables : Tables) (entry : ℕ) → CountsStandFor (entry_counts tables entry) tables entry }
-    // the joined values may also be ones that aren't of the table, but stand beside its rows
+    // the joined values needn't be a column of the table: any list with one value for each of its rows will do
     ensures beside { (tables : Tables) (accuracy entry : ℕ) (joined : List Value) (key : ℕ → ℕ)
         → length joined ≡ row_counts tables entry → TellsListed joined key
         → ListsStandFor (lists_over accuracy (column_values tables entry) joined) tables entry key }
 {}
 
-/// Each list falls, and sums to the number of rows for the same condition. So all joined columns have the same sums.
+/// Each list is in descending order, and sums to the number of rows for the same condition. So all joined columns have the same sums.
 pub fn lists_sum_to_counts()
     ensures sums { (tables : Tables) (accuracy entry column : ℕ)
         → SumTo (column_lists tables accuracy entry column) (entry_counts tables entry) }

@@ -35,7 +35,7 @@ use Rattle.query_names.specs.Values.{Meaning}
 use Rattle.sql_parse.proofs.KindFacts.{means_test}
 use Rattle.query_names.proofs.TestFacts.{tests_test}
 
--- this is the tree of SELECT X FROM R WHERE and a test
+-- this is the syntax tree of SELECT X FROM R WHERE .., with this test
 abbrev x_where : TestNode → QueryNode
 x_where t = record {
   outs = outs.Listed (out.Column (record { table = None; column = token terminal.Name 7 8 }) None ∷ []);

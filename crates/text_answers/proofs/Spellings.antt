@@ -1,5 +1,5 @@
 -- If a parser reads a language, its result for a whole token list is right: the list spells the value that is
--- returned, or the text goes wrong at the place that is returned.
+-- returned, or the text goes wrong at the byte offset that is returned.
 use Rattle.std.proofs.Common.{◌≡◌, ℕ, List, [], ◌∷◌, Option, Some, None, Result, Ok, Err, refl}
 use Rattle.ll_grammars.specs.declared.lexeme.Lexeme.{Lexeme}
 use Rattle.ll_grammars.specs.Language.{Language}

@@ -23,8 +23,8 @@ unfoldable pub syntax_tree_of : ℕ → List Lexeme → Result QueryNode ℕ
 syntax_tree_of text_len tokens = parsed (read_query read_condition) text_len tokens
 
 module _ (schema : Schema) (text : List ℕ) where
-  -- the answer to tokens that spell a tree or go wrong at a place. A number outside the range is an offence against syntax too; the first offence is
-  -- refused
+  -- the answer to tokens that spell a tree or go wrong at some byte. A number outside the range is an offence against syntax too; the first offence
+  -- is refused
   abbrev pub spelled_answer : List Lexeme → Result QueryNode ℕ → Result Query QueryError
   spelled_answer tokens (Ok tree) = unless_number (number_offences text tokens) (query_or_refusal schema text tree)
   spelled_answer tokens (Err at) = Err (error.Syntax (least at (number_offences text tokens)))

@@ -1,5 +1,5 @@
--- The stages that schema texts and query texts share: the tokens of a text, and what a token list spells. Each stage gives a value, or the place at
--- which the text goes wrong.
+-- The stages that schema texts and query texts share: the tokens of a text, and what a token list spells. Each stage gives a value, or the byte
+-- offset at which the text goes wrong.
 use Rattle.std.specs.Prelude.{ℕ, if◌then◌else◌, List, [], ◌∷◌, drop, Option, Some, None, Result, Ok, Err}
 use Rattle.std.specs.Str.{is_utf8}
 use Rattle.std.specs.Str.Lossy.{utf8_valid_len}
@@ -10,7 +10,7 @@ use Rattle.sql_tokens.specs.declared.token.Token.{Token}
 use Rattle.sql_tokens.specs.Lexing.{mark_len}
 use Rattle.sql_tokens.specs.Pieces.{tokens_at}
 
--- if a stage gives a value, the rest goes on with it; if it gives a place, the text is refused there
+-- if a stage gives a value, the rest goes on with it; if it gives a byte offset, the text is refused there
 abbrev pub after : {A B E : Type 0} → (ℕ → E) → Result A ℕ → (A → Result B E) → Result B E
 after wrong (Ok value) rest = rest value
 after wrong (Err at) rest = Err (wrong at)

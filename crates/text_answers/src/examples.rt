@@ -20,7 +20,7 @@ pub fn small_schemas()
 {}
 
 /// The answers to small query texts over a schema with one column. If a number is outside the range and an offence against the grammar comes after it,
-/// the number is refused. FROM is tested before the outputs. A column without an alias must be that of exactly one entry.
+/// the number is refused. FROM is tested before the outputs. A column name without a table must be that of exactly one entry.
 pub fn small_queries()
     ensures whole { query_answer one_column (codes "SELECT X FROM R WHERE X = 1") ≡ Ok ones }
     ensures other_kind { query_answer one_column (codes "SELECT X FROM R WHERE X = 'a'") ≡ Err (query_error.Kind 26) }

@@ -1,4 +1,4 @@
--- The tree that is computed is the best one.
+-- `best_tree` computes the best tree.
 use Rattle.std.proofs.Common.{◌≡◌, ℕ, ◌<◌, ◌≤◌, Bool, true, false, eqb, ltb, List, [], ◌∷◌, Some, refl, ap, sym, subst, arith, inl, inr}
 use Rattle.std.specs.Prelude.{◌⊎◌, ◌&&◌, ◌||◌, not, find, unwrap_or}
 use Rattle.std.specs.List.{AllByRecursion as Each, list_all}

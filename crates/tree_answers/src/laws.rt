@@ -17,8 +17,8 @@ pub fn best_trees()
     ensures only { (bounds : List ℕ) (n : ℕ) (tree : PlanTree) → 1 ≤ n → IsBest bounds n tree → tree ≡ best_tree bounds n }
 {}
 
-/// The contract of `choose_bushy` allows exactly one answer, `tree_answer`, apart from a lack of memory. This is said for each exit too: if the exit
-/// has a best plan within the budget, this is the plan of the answer; if it has a refusal with a cause, this is the refusal of the answer.
+/// The contract of `choose_bushy` allows exactly one answer, `tree_answer`, apart from a lack of memory. Two clauses say it for the exits: a best
+/// plan within the budget is the plan of the answer, and a refusal that has its cause is the refusal of the answer.
 pub fn tree_choices()
     ensures allowed { (bounds scans : List ℕ) (budget : ℕ) → 1 ≤ length scans → length scans ≤ most_entries
         → IsPromised bounds scans budget (tree_answer bounds scans budget) }

@@ -1,5 +1,5 @@
--- A choice that satisfies all equalities of a set agrees in each tree of the kept equalities. A property of each column that the equalities name is
--- one of each column of these trees.
+-- A choice that satisfies all equalities of a set agrees in each tree of the kept equalities. If each column that the equalities
+-- name has a property, so has each column of these trees.
 use Rattle.std.proofs.Common.{◌≡◌, ℕ, zero, suc, ◌<◌, ◌≤◌, eqb, List, [], ◌∷◌, ◌++◌, length, take, drop, refl, sym, subst, inl, inr}
 use Rattle.std.specs.List.{AllByRecursion, Contains}
 use Rattle.std.proofs.lemmas.Bool.{cases_Bool}
@@ -21,7 +21,7 @@ use Rattle.tree_bounds.specs.SetBounds.{SetHasLists}
 use Rattle.tree_bounds.specs.Tables.{KeyedTables, key_of, AgreesBelow, AgreesWithin, Agrees, Satisfies, ChoicesAreDifferent, RowsFit, Dominates, TreeDominates, SetDominates}
 use Rattle.tree_bounds.proofs.Injected.{for_each, choices_within_all}
 
--- ---- a property of each equality of a set is one of each kept equality
+-- ---- if each equality of a set has a property, so has each kept equality
 
 module _ (P : Edge → Type 0) where
   of_later : (n : ℕ) (es : List Edge) → AllByRecursion P es → AllByRecursion P (drop n es)
@@ -46,7 +46,7 @@ module _ (P : Edge → Type 0) where
       let of_set : List Edge = equalities_within subset es in
       of_kept (λ x. x) (order_of_turn subset turn es) (append_all P (drop turn of_set) (take turn of_set) (of_later turn of_set h) (of_earlier turn of_set h))
 
--- ---- a property of each column that equalities name is one of each column of a tree
+-- ---- if each column that equalities name has a property, so has each column of a tree
 
 module _ (Q : ℕ → ℕ → Type 0) where
   abbrev AtBoth : Edge → Type 0

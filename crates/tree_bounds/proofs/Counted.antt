@@ -16,7 +16,7 @@ use Rattle.tree_bounds.specs.TreeBounds.{EntryBounds, IsListOf, HasList, TreeHas
 use Rattle.tree_bounds.specs.Tables.{KeyedTables, Dominates, TreeDominates}
 use Rattle.tree_bounds.specs.Counting.{child_keys, choices_for, number_of_choices}
 
--- ---- the lists of classes and entries fall
+-- ---- the lists of classes and entries are in descending order
 
 member_falls : (rows : ℕ) (g : List ℕ) (children : List ChildLists) → IsListOf rows g → AllByRecursion (IsChildOf rows) children → IsFalling (composed g children)
 member_falls rows g children is all = IsFalling-composed g children is.falls (rw is.total all)
@@ -32,7 +32,7 @@ mutual
       IsFalling-rank_product (composed (b.list entry column) (child_lists b entry below)) (class_list b rest)
       (member_falls (b.rows entry) (b.list entry column) (child_lists b entry below) h.0 (children_fall b entry below h.1)) (class_falls b rest h.2)
 
--- ---- the lists of classes and entries dominate
+-- ---- the lists of classes and entries dominate keys
 
 member_dominates : (rows : ℕ) (g keys : List ℕ) (lists : List ChildLists) (children : List ChildKeys) → DominatesKeys g keys → length keys ≡ rows
     → AllZip (DominatesChild rows) lists children → DominatesWeights (composed g lists) (weight_of_key keys children)

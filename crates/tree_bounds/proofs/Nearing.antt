@@ -101,7 +101,7 @@ module _ (accuracy : ℕ) (b exact : EntryBounds) where
 
   -- ---- the bound of a tree
 
-  -- a single block with all of the root's rows has this weight
+  -- the total of the root is the first element of a composed list: the one for n rows that all have one key
   root_is : (children : List ChildLists) (n : ℕ) → root_total children n ≡ running_sum (composed (n ∷ []) children) 1
   root_is children n =
       let whole : sum (n ∷ []) ≡ n = omega arith in

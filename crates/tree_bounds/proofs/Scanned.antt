@@ -1,4 +1,4 @@
--- A choice of scanned rows is a choice of places in the lists of scanned rows.
+-- A choice of scanned rows is a choice of indexes in the lists of scanned rows.
 use Rattle.std.proofs.Common.{◌≡◌, ℕ, zero, suc, ◌<◌, ◌≤◌, true, false, cond, eqb, List, [], ◌∷◌, length, get_or, map, refl, ap, sym, ◌∙◌, arith, inl, inr}
 use Rattle.std.specs.List.{AllByRecursion, Contains}
 use Rattle.std.proofs.lemmas.Bool.{cases_Bool, eqb-true, eq-eqb, and_parts}
@@ -28,7 +28,7 @@ equalities_inside subset (e ∷ es) = elim (cases_Bool (joins_within subset e)) 
   | inr n ↦ rw n (equalities_inside subset es)
 ]
 
--- ---- the place of a row in the list of scanned rows
+-- ---- the index of a row in the list of scanned rows
 
 abbrev place_in : List ℕ → ℕ → ℕ
 place_in [] row = 0
@@ -86,7 +86,7 @@ module _ (scans : ℕ → List ℕ) (key : ℕ → ℕ → ℕ → ℕ) (set : L
     all_satisfy es inside cs h.1,
   )
 
-  -- ---- different choices of rows give different choices of places
+  -- ---- different choices of rows give different choices of indexes
 
   same_place_at : (x y : ℕ → ℕ) (set' : List ℕ) → map (places x) set' ≡ map (places y) set' → (entry : ℕ) → Contains set' entry → places x entry ≡ places y entry
   same_place_at x y [] same entry k = absurd (in_none entry k)

@@ -56,7 +56,7 @@ module _ (es : List Edge) (subset turn : ℕ) where
   pub trees_are : (ts : List BergeTree) → AreAllTreesOf (kept_of subset turn es) (entries_of_set subset) ts → ts ≡ trees_of (kept_of subset turn es) subset
   trees_are ts all = one_forest (kept_of subset turn es) closes (entries_of_set subset) ts (trees_of (kept_of subset turn es) subset) all trees_there
 
--- ---- the bound that is defined is the one that is computed
+-- ---- the function computes the bound that the relation defines
 
 module _ (b : EntryBounds) (es : List Edge) (subset : ℕ) where
   pub turn_there : (turn : ℕ) → IsBoundOfTurn b es subset turn (bound_of_turn b es subset turn)

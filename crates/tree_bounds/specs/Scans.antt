@@ -4,7 +4,7 @@ use Rattle.std.specs.List.{AllByRecursion, Contains}
 use Rattle.berge_tree.specs.declared.edges.Edge.{Edge}
 use Rattle.tree_bounds.specs.Tables.{KeyedTables}
 
--- the tables of the scanned rows, in order; `key entry column row` is the key of a row in a column
+-- for each entry the table of its scanned rows, in the order of its list; `key entry column row` is the key of a row in a column
 abbrev pub scanned : (ℕ → List ℕ) → (ℕ → ℕ → ℕ → ℕ) → KeyedTables
 scanned scans key = record { rows = λ entry. length (scans entry); keys = λ entry column. map (key entry column) (scans entry) }
 

@@ -1,4 +1,4 @@
--- The bound of a set of entries: in each turn the product of the bounds of the trees of the kept equalities, and of all turns the least.
+-- The bound of a set of entries: in each turn the product of the bounds of its trees, and then the least over all turns.
 use Rattle.std.specs.Prelude.{◌≡◌, ℕ, zero, suc, ◌-◌, ◌<◌, ◌≤◌, min, List, []}
 use Rattle.berge_tree.specs.declared.edges.Edge.{Edge}
 use Rattle.berge_tree.specs.Rooted.{AreAllTreesOf}
@@ -13,13 +13,13 @@ use Rattle.tree_bounds.specs.TreeBounds.{EntryBounds, HasList, bound_of_trees}
 abbrev pub SetHasLists : EntryBounds → List Edge → ℕ → Type 0
 SetHasLists b es subset = EachNamedColumn (HasList b) (equalities_within subset es)
 
--- n is the bound in a turn: the product of the bounds of all trees of the equalities that are kept in the turn
+-- n is the bound in a turn: the product of the bounds of the trees that the turn's kept equalities make
 pub record IsBoundOfTurn (b : EntryBounds) (es : List Edge) (subset turn n : ℕ) : Type 0 where
   pub trees : List BergeTree
   pub are_all : AreAllTreesOf (kept_of subset turn es) (entries_of_set subset) trees
   pub product : n ≡ bound_of_trees b trees
 
--- n is the least bound of all turns
+-- n is the least of the bounds in all turns
 pub record IsBoundOfSet (b : EntryBounds) (es : List Edge) (subset n : ℕ) : Type 0 where
   pub some_turn : (turn : ℕ) × (turn < turn_count subset es) × IsBoundOfTurn b es subset turn n
   pub least : (turn m : ℕ) → turn < turn_count subset es → IsBoundOfTurn b es subset turn m → n ≤ m

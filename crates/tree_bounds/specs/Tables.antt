@@ -59,12 +59,12 @@ pub record Dominates (b : EntryBounds) (tables : KeyedTables) (entry column : �
   pub keys : DominatesKeys (b.list entry column) (tables.keys entry column)
   pub key_per_row : length (tables.keys entry column) ≡ tables.rows entry
 
--- the table of the root has at most as many rows as its row bound, and at each column of the tree the list dominates the keys
+-- the table of the root has at most as many rows as its row bound, and for each column of the tree the list dominates the keys
 pub record TreeDominates (b : EntryBounds) (tables : KeyedTables) (t : BergeTree) : Type 0 where
   pub root : RowsFit b tables t.root
   pub columns : EachColumn (Dominates b tables) t
 
--- each entry of the set has at most as many rows as its row bound, and at each column that an equality of the set names the list dominates the keys
+-- each entry of the set has at most as many rows as its row bound, and for each column that an equality of the set names the list dominates the keys
 pub record SetDominates (b : EntryBounds) (tables : KeyedTables) (es : List Edge) (subset : ℕ) : Type 0 where
   pub rows : AllByRecursion (RowsFit b tables) (entries_of_set subset)
   pub columns : EachNamedColumn (Dominates b tables) (equalities_within subset es)

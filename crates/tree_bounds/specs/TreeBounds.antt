@@ -1,4 +1,4 @@
--- The bound of a join tree: a number that is computed from the leaves up, from falling lists of the columns.
+-- The bound of a join tree: a number that is computed from the leaves up, from the columns' lists, which are in descending order.
 use Rattle.std.specs.Prelude.{◌≡◌, ℕ, ◌*◌, List, [], ◌∷◌}
 use Rattle.std.specs.List.{sum}
 use Rattle.degree_sequences.specs.ByRank.{rank_product}
@@ -12,7 +12,7 @@ pub record EntryBounds : Type 0 where
   pub rows : ℕ → ℕ
   pub list : ℕ → ℕ → List ℕ
 
--- a list of a column: it falls, and its sum is the row bound of the entry
+-- a list of a column: it is in descending order, and its sum is the row bound of the entry
 pub record IsListOf (rows : ℕ) (list : List ℕ) : Type 0 where
   pub falls : IsFalling list
   pub total : sum list ≡ rows

@@ -1,6 +1,6 @@
 //! The bound of a join tree and of a set of entries, as mathematics: what the number is, and that no join has more rows.
 //!
-//! In: for each entry a row bound and falling lists of its joined columns, and the trees of the equalities that a set of entries keeps. Out:
+//! In: for each entry a row bound and descending lists of its joined columns, and the trees of the equalities that a set of entries keeps. Out:
 //! definitions and laws; the crate bound_fold computes what is defined here. A tree's bound is computed from the leaves up. A class multiplies the
 //! lists of the entries below it, rank by rank. An entry composes its own list with the lists of the classes below it, and the root sums the weights
 //! of its rows. In each turn, the bound of a set of entries is the product over its trees; the least of all turns is its bound.

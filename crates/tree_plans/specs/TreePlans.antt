@@ -6,7 +6,7 @@ use Rattle.limits.specs.Profile.{most_entries}
 use Rattle.tree_plans.specs.declared.bushy.BushyPlan.{BushyPlan}
 use Rattle.tree_plans.specs.declared.bushy.Join.{Join}
 
--- the nodes that joins name, each as often as it is named
+-- the nodes that joins have as their sides, each as often as it is one
 abbrev pub joined_nodes : List Join → List ℕ
 joined_nodes [] = []
 joined_nodes (join ∷ joins) = join.left ∷ join.right ∷ joined_nodes joins
@@ -16,8 +16,8 @@ abbrev pub AreBehindTheirs : ℕ → List Join → Type 0
 AreBehindTheirs own [] = ⊤
 AreBehindTheirs own (join ∷ joins) = (join.left < own) × (join.right < own) × AreBehindTheirs (own + 1) joins
 
--- a plan for n entries: it has a bound for each entry's scan, and joins that make one tree, in which each node but the last is joined once. Nothing is
--- asked of `cost`
+-- a plan for n entries: it has a bound for each entry's scan, and joins that make one tree, in which each node but the last is joined once. `cost`
+-- may be any number
 pub record IsTreePlan (n : ℕ) (plan : BushyPlan) : Type 0 where
   pub few : n ≤ most_entries
   pub scans : length plan.scans ≡ n

@@ -1,19 +1,19 @@
 -- The proofs about the rows of a tree plan are in these modules:
 --
--- - `NodeFacts`: nodes are made from lists and from inner nodes, and a row of an inner node is a row of each of its two children.
+-- - `NodeFacts`: nodes are made from lists and from inner nodes, and a row of an inner node consists of one row of each of its two children.
 -- - `Once`: each entry is at most once among the leaves below a node.
 -- - `AllEntries`: the root has all entries, since a join's node has as many as its two children together, and each node is joined once.
 -- - `RoomFacts`: the bounds of nodes are small.
 -- - `FewLeaves`: no node has more than 12 entries.
--- - `Bytes`: the bytes of a tree are the sum of the bytes of its buffers.
+-- - `Bytes`: empty buffers with exactly a plan's rooms take as many bytes as the plan says (`tree_rooms_bytes`).
 --
--- Three ideas carry them:
+-- The proofs rest on three ideas:
 --
 -- - Nodes are made by one fold over the list of inner nodes (`with_inners`). An inner node reads only nodes before it, so later nodes change
 --   nothing (`with_front`), and no definition recurses over a tree. The entries of a plan's nodes are made by the same fold (`with_joins`).
 -- - Each node is joined once (`AreApart`): any two nodes that are still to be joined have no entry in common. A step takes two nodes out and
 --   puts their union in; counts are sums, so `omega` does the rest.
--- - The recursion of `read_row` is the only one in the code; its measure is the node's number. A row is `put` at the places of its entries,
+-- - The recursion of `read_row` is the only one in the code; its measure is the node's number. A row is `put` at the indexes of its entries,
 --   so reading a pair is `put_append`.
 
 pub mod AllEntries

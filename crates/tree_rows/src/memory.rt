@@ -42,8 +42,8 @@ fn chains_total(scans: &[u64], joins: &[Join]) -> u128
     total
 }
 
-/// The bytes of the entries' lists and of the buffers for the joins. `row_buffers` takes the first ones, for lists of these sizes, one for each entry;
-/// `reserve_bushy` takes the second ones. The nodes that the joins name have to exist.
+/// The bytes of the entries' lists and of the buffers for the joins. `row_buffers` takes the bytes of the lists, one list
+/// for each entry, of these sizes. `reserve_bushy` takes the bytes of the buffers. The nodes that the joins name have to exist.
 pub fn joins_memory(scans: &[u64], joins: &[Join]) -> u128
     requires few { (length scans.now ≤ most_entries) × (length joins.now ≤ most_entries) }
     requires nodes { AllByRecursion (λ join. join.right < length scans.now + length joins.now) joins.now }

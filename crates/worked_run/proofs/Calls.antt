@@ -52,7 +52,7 @@ module _ (files : Files) (call : Call) (head : Headline call) (told : call.store
         })
     by (inr memory) = inr memory
 
--- if the verdict on the words and files is accepted with these texts, each call with these words ends in Done with them
+-- if the verdict on the words and files is an outcome with these texts, each call with these words ends in Done with these texts
 pub answers_done : (files : Files) (words : List (List ℕ)) (outcome : RunOutcome) (notes out : Option (List ℕ)) → verdict words files ≡ Ok outcome
     → notes_text outcome ≡ notes → out_text outcome ≡ out → EachCallEnds files words status.Done notes out
 answers_done files words outcome notes out is left right call head same told sound =

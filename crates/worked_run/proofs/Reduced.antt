@@ -52,7 +52,7 @@ use Rattle.worked_run.proofs.Verdicts.{of_words}
 abbrev pub task : ListSource → PlanWork
 task source = record { terms = record { budget = 1000000; shape = shapes.Order; memory = None }; accuracy = 1; source = source; out = out_text.Rows }
 
--- ---- the rows that semi-joins leave
+-- ---- the rows that remain after semi-joins
 
 pub joins : equalities_of pair ≡ edge_of 0 0 1 0 ∷ []
 joins = rw (equality_two 0 0 1 0 (λ e. absurd (omega (arith, e)))) refl
@@ -83,7 +83,7 @@ chosen = refl
 abbrev along : Result Plan PlanError → Result AnyPlan PlanError
 along answer = seen (λ plan. shaped.OrderPlan plan) answer
 
--- the plan from these bounds of the sets, over the rows that semi-joins leave
+-- the plan from these bounds of the sets, over the rows that remain after semi-joins
 pub plan_over : (found : List ℕ) → found ≡ 1 ∷ 3 ∷ 2 ∷ 6 ∷ [] → answer_of shapes.Order found (list_sizes pair reduced_lists) 1000000 ≡ Ok (shaped.OrderPlan plan)
 plan_over found are = ap (λ (bounds : List ℕ). answer_of shapes.Order bounds (3 ∷ 2 ∷ []) 1000000) are ∙ ap along chosen
 

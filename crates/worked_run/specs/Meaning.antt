@@ -57,12 +57,12 @@ two_tables_tree out memory = record {
   out = out;
 }
 
--- the rows that semi-joins leave: those with value 1
+-- the rows that remain after semi-joins: those with value 1
 abbrev pub reduced_lists : List (List ℕ)
 reduced_lists = (0 ∷ 1 ∷ 2 ∷ []) ∷ (0 ∷ 1 ∷ []) ∷ []
 
--- the accepted query over the rows that semi-joins leave, in the order S, R; the scans have bounds 3 and 2, the levels 2 and 6. Degree lists and
--- counting give the same bounds
+-- the accepted query over the rows that remain after semi-joins, in the order S, R; the scans have bounds 3 and 2, the levels 2 and 6. Degree lists
+-- and counting give the same bounds
 abbrev pub two_tables_reduced : ListSource → AcceptedQuery
 two_tables_reduced source = record {
   query = pair;

@@ -94,7 +94,7 @@ small_memory_words = codes "run" ∷ codes "schema.sql" ∷ codes "query.sql" �
 abbrev pub small_budget_words : List (List ℕ)
 small_budget_words = codes "run" ∷ codes "schema.sql" ∷ codes "query.sql" ∷ codes "--budget" ∷ codes "11" ∷ []
 
--- `run` over the rows that semi-joins leave, and by counting over these rows
+-- `run` over the rows that remain after semi-joins, and by counting over these rows
 abbrev pub reduced_words : List (List ℕ)
 reduced_words = codes "run" ∷ codes "schema.sql" ∷ codes "query.sql" ∷ codes "--reduce" ∷ []
 

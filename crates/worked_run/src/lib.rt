@@ -1,7 +1,7 @@
 //! Twelve calls over small tables, as theorems that are proved by computation: they lead from the words and the bytes of the files to the bytes of
-//! both streams. `examples` has the calls of `run` and `audit`. They plan along an order, by a join tree, over reduced scans, and by counting over
-//! these; they have a budget that is one too small, and limits of memory that are just enough and a byte too small. `statistics` has `stats`,
-//! `plan --stats` and `append`, and `keys` has `plan --keys`.
+//! both streams. `examples` has the calls of `run` and `audit`. Some plan an order or a join tree, over reduced scans or by
+//! counting over these. Others have a budget that is one too small, or a limit of memory that is just enough or a byte too small. `statistics` has
+//! `stats`, `plan --stats` and `append`, and `keys` has `plan --keys`.
 //!
 //! The files of all these calls but `plan --keys` are
 //!

@@ -37,9 +37,9 @@ pub fn appended()
     ensures call { EachCallEnds small_files append_words status.Done None (Some grown_text) }
 {}
 
-/// The bytes alone connect two calls. A call of `stats` over the small tables is done, and its `out` took the bytes of the statistics file. A call of
-/// `plan --stats` is done over any files in which the schema is the same and the statistics file has these bytes. Then the plan of whatever query this
-/// call reads holds over the small tables.
+/// The bytes alone connect two calls. Suppose that a call of `stats` over the small tables ends in Done, and its `out` took the bytes of the
+/// statistics file. Suppose that a call of `plan --stats` ends in Done, over any files in which the schema is the same and the statistics file
+/// has these bytes. Then the plan of whatever query this call reads holds over the small tables.
 pub fn plans_from_these_bytes_hold()
     ensures { (made planned : Call) (files : Files) → Headline made → made.words ≡ stats_words → made.status ≡ status.Done
         → made.store.files ≡ Some small_files → Took made.out stats_text
